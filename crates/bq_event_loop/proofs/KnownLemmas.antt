@@ -221,7 +221,8 @@ on_none : (xs : List ℕ) (t : ℕ) → times t xs ≡ 0 → is_on xs t ≡ true
 on_none xs t none on = omega (arith, none, on_some xs t on)
 
 -- The numbers that turns go by were changed, the seats and their mail were not.
-known_as : {L : Type 0} (gives takes : L → Bool) (many later_many : ℕ) (listed looks later later_looks : ℕ → Bool) (seats : List (Attendant L))
+known_as : {L : Type 0} (gives takes : L → Bool) (many later_many : ℕ) (listed looks later later_looks : ℕ
+    → Bool) (seats : List (Attendant L))
     (mails : List (List Answer))
     → later_many ≡ many → AreApart later later_looks
     → ((t : ℕ) → later_looks t ≡ true → (looks t ≡ true) ⊎ ((a : Attendant L) → (slice_index_or seats t a).place ≡ places.Between))
@@ -262,7 +263,8 @@ module _ {L : Type 0} (gives takes : L → Bool) (seats : List (Attendant L)) (m
   pub known_taken : (l later : Listing) (i : ℕ) → later.seats ≡ l.seats → l.queue ≡ i ∷ later.queue → later.free ≡ l.free
       → AreKnownTo gives takes l None seats mails → AreKnownTo gives takes later (Some i) seats mails
   known_taken l later i same_seats first free k =
-      known_as gives takes l.seats later.seats (is_listed l None) (is_looking l) (is_listed later (Some i)) (is_looking later) seats mails same_seats
+      known_as gives takes l.seats later.seats (is_listed l None) (is_looking l) (is_listed later (Some i)) (is_looking later) seats
+      mails same_seats
       (λ t looks on. k.apart t (subst (λ f. is_on f t ≡ true) free looks)
       (or_left (is_on l.queue t) false (subst (λ q. is_on q t ≡ true) (sym first) (on_cons_back i later.queue t on))))
       (λ t looks. inl (subst (λ f. is_on f t ≡ true) free looks))
@@ -279,10 +281,12 @@ module _ {L : Type 0} (gives takes : L → Bool) (seats : List (Attendant L)) (m
       → later.free ≡ l.free
       → AreKnownTo gives takes l None seats mails → AreKnownTo gives takes later (Some i) seats mails
   known_at l later i same_seats there queue free k =
-      known_as gives takes l.seats later.seats (is_listed l None) (is_looking l) (is_listed later (Some i)) (is_looking later) seats mails same_seats
+      known_as gives takes l.seats later.seats (is_listed l None) (is_looking l) (is_listed later (Some i)) (is_looking later) seats
+      mails same_seats
       (λ t looks on. k.apart t (subst (λ f. is_on f t ≡ true) free looks) (or_left (is_on l.queue t) false (at t (either _ _ on))))
       (λ t looks. inl (subst (λ f. is_on f t ≡ true) free looks))
-      (λ t below on. inl (or_left (is_on later.queue t) (i == t) (subst (λ q. is_on q t ≡ true) (sym queue) (left_only (is_on l.queue t) on))))
+      (λ t below on. inl (or_left (is_on later.queue t) (i == t) (subst (λ q. is_on q t ≡ true) (sym queue) (left_only (is_on l.queue
+      t) on))))
       (λ t below looks. inr (subst (λ f. is_on f t ≡ true) (sym free) looks))
       k
     where
@@ -299,10 +303,12 @@ module _ {L : Type 0} (gives takes : L → Bool) (seats : List (Attendant L)) (m
       → times i later.free ≡ 0 → later.queue ≡ l.queue
       → AreKnownTo gives takes l None seats mails → AreKnownTo gives takes later (Some i) seats mails
   known_checks l later i same_seats last gone queue k =
-      known_as gives takes l.seats later.seats (is_listed l None) (is_looking l) (is_listed later (Some i)) (is_looking later) seats mails same_seats
+      known_as gives takes l.seats later.seats (is_listed l None) (is_looking l) (is_listed later (Some i)) (is_looking later) seats
+      mails same_seats
       (λ t looks on. apart t looks (either _ _ on))
       (λ t looks. inl (more t looks))
-      (λ t below on. inl (or_left (is_on later.queue t) (i == t) (subst (λ q. is_on q t ≡ true) (sym queue) (left_only (is_on l.queue t) on))))
+      (λ t below on. inl (or_left (is_on later.queue t) (i == t) (subst (λ q. is_on q t ≡ true) (sym queue) (left_only (is_on l.queue
+      t) on))))
       (λ t below looks. less t looks (eqb_tells i t))
       k
     where
@@ -311,7 +317,12 @@ module _ {L : Type 0} (gives takes : L → Bool) (seats : List (Attendant L)) (m
       left_only false e = absurd cc
 
       more : (t : ℕ) → is_on later.free t ≡ true → is_on l.free t ≡ true
-      more t on = some_on l.free t (subst (λ f. 0 < times t f) (sym last) (omega (arith, times_push t later.free i, on_some later.free t on)))
+      more t on = some_on l.free t (subst (λ f. 0 < times t f) (sym last) (omega (
+        arith,
+        times_push t later.free i,
+        on_some later.free
+            t on,
+      )))
 
       apart : (t : ℕ) → is_on later.free t ≡ true → (is_on later.queue t ≡ true) ⊎ ((i == t) ≡ true) → ⊥
       apart t looks (inl on) = k.apart t (more t looks) (or_left (is_on l.queue t) false (subst (λ q. is_on q t ≡ true) queue on))
@@ -390,7 +401,8 @@ module _ {L : Type 0} (gives takes : L → Bool) (seats : List (Attendant L)) (m
       after t below (inr same) =
           let is : i ≡ t = same_is i t same in
           subst (λ n. is_on later.queue n ≡ true) is
-          (enqueued_lists i l (omega (arith, below, k.all, is)) (λ looks. k.apart i looks (or_right (is_on l.queue i) (i == i) (is_same i i refl))))
+          (enqueued_lists i l (omega (arith, below, k.all, is)) (λ looks. k.apart i looks (or_right (is_on l.queue i) (i == i) (is_same
+          i i refl))))
 
   -- The visited seat found no client, and is between two lines.
   pub known_freed : (l : Listing) (i : ℕ) → ((a : Attendant L) → (slice_index_or seats i a).place ≡ places.Between)
@@ -432,7 +444,8 @@ module _ {L : Type 0} (gives takes : L → Bool) (seats : List (Attendant L)) (m
           → (is_listed later None t ≡ true) ⊎ (is_looking later t ≡ true)
           ⊎ ((a : Attendant L) → IsStill gives takes (slice_index_or seats t a) (slice_index_or mails t []))
       there t is (inl on) =
-          inl (or_left (is_on later.queue t) false (subst (λ q. is_on q t ≡ true) (sym same_queue) (subst (λ n. is_on l.queue n ≡ true) is on)))
+          inl (or_left (is_on later.queue t) false (subst (λ q. is_on q t ≡ true) (sym same_queue) (subst (λ n. is_on l.queue n ≡ true)
+          is on)))
       there t is (inr on) = inr (inl (subst (λ n. is_on later.free n ≡ true) is on))
 
       after : (t : ℕ) → t < length seats → (is_on l.queue t ≡ true) ⊎ ((i == t) ≡ true)
@@ -463,7 +476,8 @@ module _ {L : Type 0} (gives takes : L → Bool) (seats : List (Attendant L)) (m
           ⊎ ((a : Attendant L) → IsStill gives takes (slice_index_or seats t a) (slice_index_or mails t []))
       after t (inl on) = inl (or_left (is_on l.queue t) false on)
       after t (inr same) =
-          inr (inr (λ a. subst (λ n. IsStill gives takes (slice_index_or seats n a) (slice_index_or mails n [])) (same_is i t same) (still a)))
+          inr (inr (λ a. subst (λ n. IsStill gives takes (slice_index_or seats n a) (slice_index_or mails n [])) (same_is i t same)
+          (still a)))
 
   -- Nothing moves at any seat if no seat is on the queue, and no seat checks for a client that may
   -- have come.
@@ -478,7 +492,8 @@ module _ {L : Type 0} (gives takes : L → Bool) (seats : List (Attendant L)) (m
     left_only false e = absurd cc
 
     at : (l.free ≡ []) ⊎ (may_come ≡ false)
-        → IsKnown (is_listed l None t) (is_looking l t) (times t []) (IsStill gives takes (slice_index_or seats t a) (slice_index_or mails t []))
+        → IsKnown (is_listed l None t) (is_looking l t) (times t []) (IsStill gives takes (slice_index_or seats t a) (slice_index_or
+        mails t []))
         → IsStill gives takes (slice_index_or seats t a) (slice_index_or mails t [])
         ⊎ (((slice_index_or seats t a).place ≡ places.Between) × (may_come ≡ false))
     at any (inl on) = absurd (empty l.queue none (left_only _ on))
@@ -519,7 +534,8 @@ module _ {L : Type 0} (gives takes : L → Bool) where
     all = omega (arith, only.many, k.all, enqueued_seats i l);
     apart = λ t looks on. k.apart t (subst (λ f. is_on f t ≡ true) (enqueued_free i l) looks)
         (or_left (is_on l.queue t) false (before t looks (enqueued_only i l t (left_only _ on))));
-    looking = λ t below is a. place t (omega (arith, only.many, below)) (subst (λ f. is_on f t ≡ true) (enqueued_free i l) is) a (eqb_tells t i);
+    looking = λ t below is a. place t (omega (arith, only.many, below)) (subst (λ f. is_on f t ≡ true) (enqueued_free i l) is) a
+        (eqb_tells t i);
     known = λ t below a. known t (omega (arith, only.many, below)) a (eqb_tells t i);
   }
     where
@@ -544,7 +560,8 @@ module _ {L : Type 0} (gives takes : L → Bool) where
           → IsKnown (is_listed (enqueued i l) None t) (is_looking (enqueued i l) t) (times t [])
           (IsStill gives takes (slice_index_or later t a) (slice_index_or mails t []))
       mine t below a same (inl looks) =
-          inr (inl (subst (λ n. is_on (enqueued i l).free n ≡ true) (sym same) (subst (λ f. is_on f i ≡ true) (sym (enqueued_free i l)) looks)))
+          inr (inl (subst (λ n. is_on (enqueued i l).free n ≡ true) (sym same) (subst (λ f. is_on f i ≡ true) (sym (enqueued_free i l))
+          looks)))
       mine t below a same (inr nor) =
           inl (or_left (is_on (enqueued i l).queue t) false
           (subst (λ n. is_on (enqueued i l).queue n ≡ true) (sym same)
@@ -558,7 +575,8 @@ module _ {L : Type 0} (gives takes : L → Bool) where
           subst (λ z. IsKnown (is_listed (enqueued i l) None t) (is_looking (enqueued i l) t) (times t [])
           (IsStill gives takes z (slice_index_or mails t []))) (sym (only.others t differs a)) (other (k.known t below a))
         where
-          other : IsKnown (is_listed l None t) (is_looking l t) (times t []) (IsStill gives takes (slice_index_or seats t a) (slice_index_or mails t []))
+          other : IsKnown (is_listed l None t) (is_looking l t) (times t []) (IsStill gives takes (slice_index_or seats t a)
+              (slice_index_or mails t []))
               → IsKnown (is_listed (enqueued i l) None t) (is_looking (enqueued i l) t) (times t [])
               (IsStill gives takes (slice_index_or seats t a) (slice_index_or mails t []))
           other (inl on) = inl (or_left (is_on (enqueued i l).queue t) false (enqueued_keeps i l t (left_only _ on)))
@@ -580,7 +598,12 @@ got_on (x ∷ xs) (suc n) i is =
 
 pub next_in_round_is : (l later : Listing) (result : Option ℕ) → result ≡ (if nat_lt l.at l.round then slice_get l.queue l.at else None)
     → later ≡ record l { at = l.at + length (option_to_list result) } → IsNextOf result l later
-next_in_round_is l later None is same = record { seats = ap (λ z. z.seats) same; queue = ap (λ z. z.queue) same; free = ap (λ z. z.free) same }
+next_in_round_is l later None is same = record {
+  seats = ap (λ z. z.seats) same;
+  queue = ap (λ z. z.queue) same;
+  free = ap (λ z.
+      z.free) same;
+}
 next_in_round_is l later (Some i) is same = record {
   seats = ap (λ z. z.seats) same;
   free = ap (λ z. z.free) same;
@@ -741,11 +764,16 @@ module _ {L : Type 0} (gives takes : L → Bool) (many : ℕ) (listed looks : �
   known_turned : (turn : Turn) (woken : List ℕ) (seats later : List (Attendant L)) (mails : List (List Answer))
       → IsListedIn listed turn → ChangesOnlyIn turn seats later
       → AreKnown gives takes many listed looks woken seats mails → AreKnown gives takes many listed looks woken later mails
-  known_turned (turns.Seat i) woken seats later mails acts only k = known_changed gives takes many listed looks woken i seats later mails acts only k
-  known_turned (turns.Command i) woken seats later mails acts only k = known_changed gives takes many listed looks woken i seats later mails acts only k
-  known_turned turns.Nothing woken seats later mails acts only k = subst (λ z. AreKnown gives takes many listed looks woken z mails) (sym only) k
-  known_turned (turns.Control reads) woken seats later mails acts only k = subst (λ z. AreKnown gives takes many listed looks woken z mails) (sym only) k
-  known_turned turns.Time woken seats later mails acts only k = subst (λ z. AreKnown gives takes many listed looks woken z mails) (sym only) k
+  known_turned (turns.Seat i) woken seats later mails acts only k = known_changed gives takes many listed looks woken i seats later
+      mails acts only k
+  known_turned (turns.Command i) woken seats later mails acts only k = known_changed gives takes many listed looks woken i seats later
+      mails acts only k
+  known_turned turns.Nothing woken seats later mails acts only k = subst (λ z. AreKnown gives takes many listed looks woken z mails)
+      (sym only) k
+  known_turned (turns.Control reads) woken seats later mails acts only k = subst (λ z. AreKnown gives takes many listed looks woken z
+      mails) (sym only) k
+  known_turned turns.Time woken seats later mails acts only k = subst (λ z. AreKnown gives takes many listed looks woken z mails) (sym
+      only) k
 
   pub known_after : (turn : Turn) (seats later : List (Attendant L)) (mails after : List (List Answer)) (old new : WakeList)
       → old ≡ none_waits (length mails) → length later ≤ length mails → Wakes mails after old new

@@ -24,9 +24,11 @@ pub record AreKnown {L : Type 0} (gives takes : L → Bool) (many : ℕ) (listed
     (seats : List (Attendant L)) (mails : List (List Answer)) : Type 0 where
   pub all : length seats ≤ many
   pub apart : AreApart listed looks
-  pub looking : (seat : ℕ) → seat < length seats → looks seat ≡ true → (a : Attendant L) → (slice_index_or seats seat a).place ≡ places.Between
+  pub looking : (seat : ℕ) → seat < length seats → looks seat ≡ true → (a : Attendant L)
+      → (slice_index_or seats seat a).place ≡ places.Between
   pub known : (seat : ℕ) → seat < length seats → (a : Attendant L)
-      → IsKnown (listed seat) (looks seat) (times seat woken) (IsStill gives takes (slice_index_or seats seat a) (slice_index_or mails seat []))
+      → IsKnown (listed seat) (looks seat) (times seat woken) (IsStill gives takes (slice_index_or seats seat a) (slice_index_or mails
+      seat []))
 
 -- Nothing moves at any seat: its next action would move nothing, or it checks for a client, and none
 -- can have come.

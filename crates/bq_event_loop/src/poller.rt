@@ -183,7 +183,8 @@ impl<'r, R: rt::Clock> Poller<'r, R> {
         requires tended { AreTended L.seen (door_seen D.is_out D.is_at_end D.lines_over) row.old }
         requires known { AreKnownTo L.may_give L.may_take self.old.queue None row.old.seats.items mails.now.items }
         ensures keeps { KeepsRow L.seen (door_seen D.is_out D.is_at_end D.lines_over) D.same row.old row.new }
-        ensures known { AreKnownTo L.may_give L.may_take self.new.queue (visited_by self.new.stage self.new.visit) row.new.seats.items mails.now.items }
+        ensures known { AreKnownTo L.may_give L.may_take self.new.queue (visited_by self.new.stage self.new.visit) row.new.seats.items
+            mails.now.items }
         ensures acts { IsListedIn (is_listed self.new.queue (visited_by self.new.stage self.new.visit)) result }
         ensures seats { self.new.queue.seats ≡ self.old.queue.seats }
     {
@@ -206,7 +207,8 @@ impl<'r, R: rt::Clock> Poller<'r, R> {
         requires tended { AreTended L.seen (door_seen D.is_out D.is_at_end D.lines_over) row.old }
         requires known { AreKnownTo L.may_give L.may_take self.old.queue None row.old.seats.items mails.now.items }
         ensures keeps { KeepsRow L.seen (door_seen D.is_out D.is_at_end D.lines_over) D.same row.old row.new }
-        ensures known { AreKnownTo L.may_give L.may_take self.new.queue (visited_by self.new.stage self.new.visit) row.new.seats.items mails.now.items }
+        ensures known { AreKnownTo L.may_give L.may_take self.new.queue (visited_by self.new.stage self.new.visit) row.new.seats.items
+            mails.now.items }
         ensures acts { IsListedIn (is_listed self.new.queue (visited_by self.new.stage self.new.visit)) result }
         ensures seats { self.new.queue.seats ≡ self.old.queue.seats }
     {
@@ -303,7 +305,8 @@ impl<'r, R: rt::Clock> Poller<'r, R> {
         requires tended { AreTended L.seen (door_seen D.is_out D.is_at_end D.lines_over) row.old }
         requires known { AreKnownTo L.may_give L.may_take self.old.queue None row.old.seats.items mails.now.items }
         ensures keeps { KeepsRow L.seen (door_seen D.is_out D.is_at_end D.lines_over) D.same row.old row.new }
-        ensures known { AreKnownTo L.may_give L.may_take self.new.queue (visited_by self.new.stage self.new.visit) row.new.seats.items mails.now.items }
+        ensures known { AreKnownTo L.may_give L.may_take self.new.queue (visited_by self.new.stage self.new.visit) row.new.seats.items
+            mails.now.items }
         ensures acts { IsListedIn (is_listed self.new.queue (visited_by self.new.stage self.new.visit)) result }
         ensures seats { self.new.queue.seats ≡ self.old.queue.seats }
     {
@@ -329,7 +332,8 @@ impl<'r, R: rt::Clock> Poller<'r, R> {
         requires tended { AreTended L.seen (door_seen D.is_out D.is_at_end D.lines_over) row.old }
         requires known { AreKnownTo L.may_give L.may_take self.old.queue (Some self.old.visit.seat) row.old.seats.items mails.now.items }
         ensures keeps { KeepsRow L.seen (door_seen D.is_out D.is_at_end D.lines_over) D.same row.old row.new }
-        ensures known { AreKnownTo L.may_give L.may_take self.new.queue (visited_by self.new.stage self.new.visit) row.new.seats.items mails.now.items }
+        ensures known { AreKnownTo L.may_give L.may_take self.new.queue (visited_by self.new.stage self.new.visit) row.new.seats.items
+            mails.now.items }
         ensures acts { IsListedIn (is_listed self.new.queue (visited_by self.new.stage self.new.visit)) result }
         ensures seats { self.new.queue.seats ≡ self.old.queue.seats }
     {
@@ -353,7 +357,8 @@ impl<'r, R: rt::Clock> Poller<'r, R> {
         requires tended { AreTended L.seen (door_seen D.is_out D.is_at_end D.lines_over) row.old }
         requires known { AreKnownTo L.may_give L.may_take self.old.queue None row.old.seats.items mails.now.items }
         ensures keeps { KeepsRow L.seen (door_seen D.is_out D.is_at_end D.lines_over) D.same row.old row.new }
-        ensures known { AreKnownTo L.may_give L.may_take self.new.queue (visited_by self.new.stage self.new.visit) row.new.seats.items mails.now.items }
+        ensures known { AreKnownTo L.may_give L.may_take self.new.queue (visited_by self.new.stage self.new.visit) row.new.seats.items
+            mails.now.items }
         ensures acts { IsListedIn (is_listed self.new.queue (visited_by self.new.stage self.new.visit)) result }
         ensures seats { self.new.queue.seats ≡ self.old.queue.seats }
     {
@@ -434,7 +439,8 @@ impl<'r, R: rt::Clock> Poller<'r, R> {
         requires tended { AreTended L.seen (door_seen D.is_out D.is_at_end D.lines_over) row.old }
         requires known { AreKnownTo L.may_give L.may_take self.old.queue (Some self.old.visit.seat) row.old.seats.items mails.now.items }
         ensures keeps { KeepsRow L.seen (door_seen D.is_out D.is_at_end D.lines_over) D.same row.old row.new }
-        ensures known { AreKnownTo L.may_give L.may_take self.new.queue (if result then Some self.old.visit.seat else None) row.new.seats.items mails.now.items }
+        ensures known { AreKnownTo L.may_give L.may_take self.new.queue (if result then Some self.old.visit.seat else None)
+            row.new.seats.items mails.now.items }
         ensures visited { visited_by self.new.stage self.new.visit ≡ (if result then Some self.old.visit.seat else None) }
         ensures seat { self.new.visit.seat ≡ self.old.visit.seat }
         ensures seats { self.new.queue.seats ≡ self.old.queue.seats }

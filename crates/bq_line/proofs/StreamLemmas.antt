@@ -33,7 +33,8 @@ by_either false none A first second either = second either
 -- A line that read these bytes is over the stream that returned them.
 read_bytes : (first old new : StreamSeen) (line : LineSeen) (n : ℕ) (buf : List ℕ) → 0 < length buf
     → Consumes old.left new.left (take n buf) × (n ≡ 0 → 0 < length buf → IsAtEnd new.left) → Keeps old.held new.held
-    → new.may_fail ≡ old.may_fail → LiesOver first line old → LiesOver first (record line { read = line.read ++ take n buf; ended = line.ended || n == 0 }) new
+    → new.may_fail ≡ old.may_fail → LiesOver first line old
+    → LiesOver first (record line { read = line.read ++ take n buf; ended = line.ended || n == 0 }) new
 read_bytes first old new line n buf room gave apart same over =
     let whole : Consumes first.left new.left (line.read ++ take n buf) =
     Consumes-trans first.left old.left new.left line.read (take n buf) over.read gave.0 in
@@ -51,7 +52,8 @@ read_bytes first old new line n buf room gave apart same over =
 
 -- A call that moved no bytes.
 nothing_moved : (first old new : StreamSeen) (line later : LineSeen) → Keeps old.left new.left → Keeps old.held new.held
-    → new.may_fail ≡ old.may_fail → (old.may_fail ≡ false → later.fault ≡ line.fault) → later.read ≡ line.read → later.written ≡ line.written → later.ended ≡ line.ended → LiesOver first line old → LiesOver first later new
+    → new.may_fail ≡ old.may_fail → (old.may_fail ≡ false → later.fault ≡ line.fault) → later.read ≡ line.read
+    → later.written ≡ line.written → later.ended ≡ line.ended → LiesOver first line old → LiesOver first later new
 nothing_moved first old new line later left held same cause read written ended over =
     record {
       read = subst (Consumes first.left new.left) (sym read) (Consumes-kept first.left old.left new.left line.read over.read left);
@@ -76,7 +78,8 @@ failed_on first old new line errors.NotYet kept apart same cause over =
 failed_on first old new line errors.Interrupted kept apart same cause over =
     nothing_moved first old new line line kept apart same (λ sure. refl) refl refl refl over
 failed_on first old new line errors.Fault kept apart same cause over =
-    nothing_moved first old new line (with_line_fault faults.Read line) kept apart same (λ sure. neither old.may_fail cause sure) refl refl refl
+    nothing_moved first old new line (with_line_fault faults.Read line) kept apart same (λ sure. neither old.may_fail cause sure) refl
+    refl refl
     over
 
 read_on : (first old new : StreamSeen) (line : LineSeen) (result : Result ℕ StreamError) (buf : List ℕ) → 0 < length buf
@@ -107,7 +110,8 @@ noted_so first gave new noted later is stays over =
 -- The line recorded the result of a read of its stream.
 pub read_noted : (first old gave new : StreamSeen) (line later : LineSeen) (result : Result ℕ StreamError) (buf : List ℕ) (room : ℕ)
     → length buf ≡ room → 0 < room → ReadConsumes old.left gave.left result buf → Keeps old.held gave.held
-    → gave.may_fail ≡ old.may_fail → FailsIf old.may_fail result → later ≡ after_read result buf line → new ≡ gave → LiesOver first line old → LiesOver first later new
+    → gave.may_fail ≡ old.may_fail → FailsIf old.may_fail result → later ≡ after_read result buf line → new ≡ gave
+    → LiesOver first line old → LiesOver first later new
 read_noted first old gave new line later result buf room length_is some took apart same cause noted stays over =
     noted_so first gave new (after_read result buf line) later noted stays
     (read_on first old gave line result buf (subst (λ n. 0 < n) (sym length_is) some) took apart same cause over)

@@ -30,7 +30,8 @@ written_on old mid new bytes rest done n m rest_is h =
     rw (take-add done n bytes, ← whole, ← rest_is) (written_joined old mid new (take done bytes) (take n rest) m h)
 
 -- A write that was offered a first part of a text writes a first part of the text.
-pub offered_first : (result : Result ℕ StreamError) (part whole : List ℕ) (old : LineSeen) → WritesAtMost result part → IsBeginning part whole
+pub offered_first : (result : Result ℕ StreamError) (part whole : List ℕ) (old : LineSeen) → WritesAtMost result part
+    → IsBeginning part whole
     → after_write result part old ≡ after_write result whole old
 offered_first (Err e) part whole old bound begins = refl
 offered_first (Ok n) part whole old bound begins =

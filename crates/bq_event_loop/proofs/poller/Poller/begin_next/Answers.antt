@@ -10,7 +10,8 @@ returns-in_default-clause-known g c =
     let ended = c.end_part.new.self.queue in
     subst (λ v. AreKnownTo g.L.Line.may_give g.L.Line.may_take ended v seats mails) (sym c.end_part.ensures.idle)
     (known_same g.L.Line.may_give g.L.Line.may_take seats mails c.next_seat.new.self.queue ended None c.end_part.ensures.lists
-    (known_same g.L.Line.may_give g.L.Line.may_take seats mails c.args.self.now.queue c.next_seat.new.self.queue None c.in_default.ensures c.requires.known))
+    (known_same g.L.Line.may_give g.L.Line.may_take seats mails c.args.self.now.queue c.next_seat.new.self.queue None
+    c.in_default.ensures c.requires.known))
 
 pub goes_on-requires-clause-known : goal.goes_on-requires-clause-known
 goes_on-requires-clause-known g c =

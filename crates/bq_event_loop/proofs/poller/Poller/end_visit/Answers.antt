@@ -33,7 +33,8 @@ returns-in-PartDone-clause-known g c =
     let swapped = c.exchange.new.self.seats.items in
     subst (λ z. AreKnownTo g.L.Line.may_give g.L.Line.may_take z None swapped mails) (sym c.enqueue.ensures)
     (known_enqueued g.L.Line.may_give g.L.Line.may_take swapped mails l c.args.seat
-    (known_acted g.L.Line.may_give g.L.Line.may_take l c.args.seat c.args.row.now.seats.items swapped mails c.exchange.ensures.only c.requires.known))
+    (known_acted g.L.Line.may_give g.L.Line.may_take l c.args.seat c.args.row.now.seats.items swapped mails c.exchange.ensures.only
+    c.requires.known))
 
 pub returns-in-GoesOn-clause-known : goal.returns-in-GoesOn-clause-known
 returns-in-GoesOn-clause-known g c =
@@ -44,4 +45,5 @@ returns-in-GoesOn-clause-known g c =
     subst (λ z. AreKnownTo g.L.Line.may_give g.L.Line.may_take z None sent mails) (sym c.enqueue-in-GoesOn.ensures)
     (known_enqueued g.L.Line.may_give g.L.Line.may_take sent mails l c.args.seat
     (known_acted g.L.Line.may_give g.L.Line.may_take l c.args.seat swapped sent mails c.hand_on.ensures.only
-    (known_acted g.L.Line.may_give g.L.Line.may_take l c.args.seat c.args.row.now.seats.items swapped mails c.exchange.ensures.only c.requires.known)))
+    (known_acted g.L.Line.may_give g.L.Line.may_take l c.args.seat c.args.row.now.seats.items swapped mails c.exchange.ensures.only
+    c.requires.known)))

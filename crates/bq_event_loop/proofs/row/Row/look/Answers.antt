@@ -33,6 +33,7 @@ returns g c =
             c.look_at.ensures.same rests,
       );
       only = changed_one row.seats.items c.args.seat c.look_at.new.seat;
-      none = λ h a. changed_place row.seats.items c.args.seat c.look_at.new.seat a places.Between (let e = c.len.ensures in let b = c.if-seat-len.false in
+      none = λ h a. changed_place row.seats.items c.args.seat c.look_at.new.seat a places.Between (let e = c.len.ensures in let b =
+          c.if-seat-len.false in
           omega arith) (c.look_at.ensures.none h);
     }

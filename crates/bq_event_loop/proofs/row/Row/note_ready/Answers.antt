@@ -23,9 +23,11 @@ returns-then-seat-len g c =
             omega arith) c.requires.tended.doored c.index_mut.ensures.value c.note_ready.ensures.went rests,
       );
       only = changed_one row.seats.items c.args.seat c.note_ready.new.self;
-      between = λ a is. changed_place row.seats.items c.args.seat c.note_ready.new.self a places.Between (let e = c.len.ensures in let b = c.if-seat-len.true in
+      between = λ a is. changed_place row.seats.items c.args.seat c.note_ready.new.self a places.Between (let e = c.len.ensures in let
+          b = c.if-seat-len.true in
           omega arith)
           (c.note_ready.ensures.between
-          (ap (λ (z : Attendant g.row.L.Denot). z.place) (c.index_mut.ensures.value ∙ get_or_default row.seats.items c.args.seat c.index_mut.result.now a (let e = c.len.ensures in let b = c.if-seat-len.true in
+          (ap (λ (z : Attendant g.row.L.Denot). z.place) (c.index_mut.ensures.value ∙ get_or_default row.seats.items c.args.seat
+          c.index_mut.result.now a (let e = c.len.ensures in let b = c.if-seat-len.true in
           omega arith)) ∙ is));
     }
