@@ -173,13 +173,12 @@ def run_last_seat_fails_behind_a_client(bqd):
     with Server(bqd, "--seats", "2", "--sessions", "2", env=faults(accepts=code, after=3, times=1)) as server:
         last = server.client()
         last.asks(ASK, ANSWER)
-        threads = server.threads()
         for _ in range(2):
             client = server.client()
             client.asks(ASK + b"quit\r\n", ANSWER)
             client.hears_end()
         # The other seat's thread has ended.
-        awaits(lambda: server.threads() < threads)
+        awaits(lambda: server.threads() == threads_with(bqd, 1))
         last.asks(ASK, ANSWER)
         last.close()
         same(server.ended(), Ended(1, b"", TAKEN + told_of(code) + AT_THE_END))
@@ -198,6 +197,18 @@ def run_each_thread_refused(bqd):
             same(server.end(), Ended(1, b"", b"bqd: a thread was refused\n"))
     with Server(bqd, "--seats", str(seats), env=faults(thread=threads + 1)) as server:
         server.client().asks(ASK, ANSWER)
+
+
+@of_loop
+def run_one_thread_alone(bqd):
+    """An event loop has no other thread beside it, whatever it reports."""
+    with Server(bqd, "--seats", "2") as server:
+        for _ in range(2):
+            server.client().asks(ASK, ANSWER)
+        same(server.told_next(), TAKEN)
+        server.control(b"drain\n")
+        server.tells(b"bqd: draining\n")
+        same(server.threads(), 1)
 
 
 def passing_errors(bqd):

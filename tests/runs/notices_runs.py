@@ -124,8 +124,8 @@ def run_last_notices_are_written(bqd):
 def run_notices_without_room(bqd):
     """Notices for which there is no room are counted, and their number is reported once standard error is read."""
     code, dropped = errno.EPROTO, 5
-    # The thread that writes has one more.
-    written = 1 + ROOM
+    # A thread that writes has one more.
+    written = ROOM + (not bqd.is_loop)
     # Every other accept fails, after which the seat sleeps for a tenth of a second; the clock runs a hundred times as
     # fast. Accepts that find no connection count too, so that there are more failures than connections.
     failing = faults(accepts=code, times=10 * (written + dropped), each=2, clock=100)

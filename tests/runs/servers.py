@@ -21,13 +21,10 @@ AT_THE_LIMIT = b"bqd: the limit of --max-jobs is reached: puts are answered OUT_
 # that writes notices.
 OTHERS = 4
 
-# The same for an event loop, in which the core has no thread of its own.
-OTHERS_BY_LOOP = 3
-
 
 def threads_with(bqd, seats):
-    """Returns how many threads a server has with this many open seats."""
-    return OTHERS_BY_LOOP if bqd.is_loop else seats + OTHERS
+    """Returns how many threads a server has with this many open seats. An event loop has one in all."""
+    return 1 if bqd.is_loop else seats + OTHERS
 
 
 def free_port():

@@ -6,6 +6,9 @@ use std::os::fd::RawFd;
 /// The number of standard descriptors: 0, 1 and 2.
 const STANDARD: RawFd = 3;
 
+/// The descriptor of a program's standard input.
+pub(crate) const STANDARD_INPUT: RawFd = 0;
+
 const NULL_DEVICE: &[u8] = b"/dev/null";
 
 /// Opens `/dev/null` at each of the descriptors 0 to 2 that is closed. Otherwise sockets would get
@@ -21,6 +24,14 @@ pub fn open_standard_descriptors() {
             let _same = os::open_update(NULL_DEVICE);
         }
     }
+}
+
+/// Puts `/dev/null` in the place of the standard input, so that each further read of it meets the
+/// end. If `/dev/null` cannot be opened, each further read fails.
+pub(crate) fn end_standard_input() {
+    let _closed = libc::close(STANDARD_INPUT);
+    // The system returns the lowest free number, which is this one.
+    let _same = os::open_update(NULL_DEVICE);
 }
 
 fn is_closed(fd: RawFd) -> bool {

@@ -15,6 +15,8 @@ pub struct Ending {
     is_over: AtomicU64,
     // 1 if a thread has begun to report how the server ended.
     is_reported: AtomicU64,
+    // 1 if reports wait because standard error does not take them.
+    has_reports: AtomicU64,
     form: LogForm,
 }
 
@@ -27,6 +29,7 @@ impl Ending {
             doors: OpenDoors::new(u32::from(doors)),
             is_over: AtomicU64::new(0),
             is_reported: AtomicU64::new(0),
+            has_reports: AtomicU64::new(0),
             form,
         }
     }
@@ -36,6 +39,16 @@ impl Ending {
         ensures { result ≡ self.now.form }
     {
         self.form
+    }
+
+    /// Notes whether reports wait because standard error does not take them.
+    pub fn note_reports(&self, wait: bool) {
+        self.has_reports.store(u64::from(wait), Ordering::Relaxed);
+    }
+
+    /// Returns true if reports wait. An empty text that is written to standard error lets the log try again.
+    pub fn has_reports(&self) -> bool {
+        self.has_reports.load(Ordering::Relaxed) == 1
     }
 
     /// Returns the doors that are still open.

@@ -22,6 +22,7 @@ mod journal;
 mod listening;
 mod log;
 mod logging;
+mod lone_turns;
 mod program;
 mod server;
 mod shared;

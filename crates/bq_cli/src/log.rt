@@ -1,8 +1,12 @@
-//! Lines for standard error. A thread of its own writes them, so that no other thread waits for their reader.
+//! Lines for standard error. A thread of its own writes them, so that no other thread waits for their reader. A program
+//! with an event loop has no such thread: a process with one thread takes fewer locks. It writes them while standard error
+//! takes them at once.
 
 use arrayvec::ArrayString;
 use bq_program::{LogForm, Severity};
 use crossbeam_queue::ArrayQueue;
+use libc::net;
+use libc::types::pollfd;
 use std::alloc::{AllocError, Global};
 use std::fmt::{Display, Write};
 use std::io::Eprint;
@@ -25,6 +29,15 @@ const LAST_WAIT: u64 = 100;
 
 type Line = ArrayString<LINE_LENGTH>;
 
+/// Who writes the lines of a log.
+#[derive(Clone, Copy, PartialEq, Eq)]
+pub enum Writer {
+    /// A thread that does nothing else.
+    Thread,
+    /// The thread that adds them, while standard error takes them at once.
+    Itself,
+}
+
 /// Lines that one thread writes to standard error in their order, while any thread adds more. Adding a line does not
 /// block: if there is no room the line is dropped, and the number of dropped lines is reported later.
 #[derive(Drop)]
@@ -40,11 +53,12 @@ pub struct Log {
     writer: Parker,
     closer: Parker,
     form: LogForm,
+    by: Writer,
 }
 
 impl Log {
     /// Makes an empty log, and allocates all memory that it needs. What the log itself reports has this form.
-    pub fn new(alloc: Global, form: LogForm) -> Result<Log, AllocError> {
+    pub fn new(alloc: Global, form: LogForm, by: Writer) -> Result<Log, AllocError> {
         Ok(Log {
             lines: ArrayQueue::new(alloc, ROOM)?,
             dropped: AtomicU64::new(0),
@@ -53,15 +67,41 @@ impl Log {
             writer: Parker::new(),
             closer: Parker::new(),
             form,
+            by,
         })
     }
 
-    /// Adds a line, or drops it if there is no room. It does not allocate.
-    pub fn add<R: Wait, D: Display + Drop>(&self, rt: &R, line: D) {
-        if self.lines.push(rt, line_of(line)).is_err() {
+    /// Adds a line, or drops it if there is no room. An empty text is no line. It does not allocate.
+    pub fn add<R: Wait, D: Display + Drop>(&self, rt: &R, text: D) {
+        let line = line_of(text);
+        if line.is_empty() {
+            return;
+        }
+        if self.lines.push(rt, line).is_err() {
             self.dropped.fetch_add(1, Ordering::SeqCst);
         }
         self.writer.unpark();
+    }
+
+    /// Returns who writes the lines.
+    pub fn by(&self) -> Writer {
+        self.by
+    }
+
+    /// Writes the lines that wait while standard error takes them at once. Returns true if none is left.
+    pub fn write_at_once<R: Wait + Eprint>(&self, rt: &R) -> bool {
+        for _ in 0..=ROOM {
+            if !takes_a_line() {
+                return false;
+            }
+            let Some(line) = self.lines.pop(rt) else {
+                self.tell_dropped(rt);
+                return true;
+            };
+            // If standard error is closed, there is no reader.
+            let _told = eprintln!(rt; "{}", line.as_str());
+        }
+        false
     }
 
     /// Writes lines as they come, until the log is closed and all of them are written.
@@ -88,6 +128,11 @@ impl Log {
             // If standard error is closed, there is no reader.
             let _told = eprintln!(rt; "{}", line.as_str());
         }
+        self.tell_dropped(rt);
+    }
+
+    // Reports how many lines were dropped, if any were.
+    fn tell_dropped<R: Eprint>(&self, rt: &R) {
         let dropped = self.dropped.swap(0, Ordering::SeqCst);
         if dropped > 0 {
             let first = self.form.prefix(Severity::Warning);
@@ -98,17 +143,36 @@ impl Log {
     }
 
     /// Closes the log and waits until its lines are written, up to a second.
-    pub fn close<R: Wait>(&self, rt: &R) {
+    pub fn close<R: Wait + Eprint>(&self, rt: &R) {
         self.is_closed.store(1, Ordering::SeqCst);
         self.writer.unpark();
         for _ in 0..LAST_WAITS {
-            if self.is_written.load(Ordering::SeqCst) == 1 {
+            if self.is_done(rt) {
                 return;
             }
             self.closer
                 .park_timeout(rt, Duration::from_millis(LAST_WAIT));
         }
     }
+
+    // Returns true if all lines of the closed log are written.
+    fn is_done<R: Wait + Eprint>(&self, rt: &R) -> bool {
+        match self.by {
+            Writer::Thread => self.is_written.load(Ordering::SeqCst) == 1,
+            Writer::Itself => self.write_at_once(rt),
+        }
+    }
+}
+
+// Returns true if a write of one line to standard error does not wait, or fails at once. A pipe that has room takes 4,096
+// bytes, which is more than a line.
+fn takes_a_line() -> bool {
+    let mut asked = [pollfd {
+        fd: libc::STDERR_FILENO,
+        events: net::POLLOUT,
+        revents: 0,
+    }];
+    net::poll(&mut asked, 0) > 0
 }
 
 // Returns the text of a line without its end, cut where it is too long.

@@ -1,5 +1,6 @@
 //! A host whose standard error is a log.
 
+use crate::log::Writer;
 use crate::shared::Shared;
 use std::alloc::Global;
 use std::fmt::Display;
@@ -11,8 +12,8 @@ use std::sync::{Arc, Wait};
 use std::thread::Threads;
 use std::time::Duration;
 
-/// A host whose standard error is a log that another thread writes, so that no thread waits for the reader of what it
-/// reports. All other calls go to the host itself.
+/// A host whose standard error is a log, so that no thread waits for the reader of what it reports. All other calls go to
+/// the host itself.
 #[derive(Drop)]
 pub struct Logging<R> {
     host: R,
@@ -78,13 +79,17 @@ impl<R: Print> Print for Logging<R> {
 }
 
 /// Both calls add a line to the log.
-impl<R: Wait> Eprint for Logging<R> {
+impl<R: Wait + Eprint> Eprint for Logging<R> {
     fn eprint<D: Display + Drop>(&self, value: D) -> io::Result<()> {
         self.eprintln(value)
     }
 
     fn eprintln<D: Display + Drop>(&self, value: D) -> io::Result<()> {
         self.shared.log.add(&self.host, value);
+        if self.shared.log.by() == Writer::Itself {
+            let is_done = self.shared.log.write_at_once(&self.host);
+            self.shared.ending.note_reports(!is_done);
+        }
         Ok(())
     }
 }

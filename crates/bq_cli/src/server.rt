@@ -12,10 +12,11 @@ ghost use Rattle.bq_run.specs.ThreadRuns.{IsRunOf};
 ghost use Rattle.bq_core_api.specs.Limits.{are_in_range};
 
 use crate::ending::Ending;
+use crate::lone_turns::LoneTurns;
 use crate::telling_clock::TellingClock;
 use bq_core::{Config, Core};
 use bq_core_api::QueueCore;
-use bq_event_loop::{EventLoopRun, run_event_loop};
+use bq_event_loop::{EventLoopRun, run_turns};
 use bq_host::RunFault;
 use bq_job::NoMemory;
 use bq_line::control_line::ControlReader;
@@ -320,7 +321,16 @@ pub fn run_loop<'l, R: Net + Wait + Clock + Print + Eprint, I: ControlReader + D
         return Err(Fault::NoMemory(Need::Doors));
     };
     let clock = TellingClock::new(rt, tell.ending.form());
-    match serve_doors_by_loop(rt, alloc, options, doors, clock, control, source) {
+    match serve_doors_by_loop(
+        rt,
+        alloc,
+        options,
+        doors,
+        clock,
+        control,
+        source,
+        tell.ending,
+    ) {
         Ok(run) => Ok(run),
         Err(fault) => Err(fault_of_loop(fault)),
     }
@@ -360,7 +370,8 @@ pub fn serve_doors<
 }
 
 /// Does the same as `serve_doors` by the calling thread alone, in an event loop. The listeners of the doors must not
-/// block. The descriptor is that of the control line; with None it is read to its end before any door is looked at.
+/// block. The descriptor is that of the control line; with None it is read to its end before any door is looked at. If
+/// it is the standard input, that ends when the last door fails, as `ending` tells.
 pub fn serve_doors_by_loop<
     'l,
     R: Net + Wait + Clock + Eprint,
@@ -374,6 +385,7 @@ pub fn serve_doors_by_loop<
     clock: C,
     control: I,
     source: Option<RawFd>,
+    ending: &Ending,
 ) -> Result<EventLoopRun<TcpLine, TcpDoor<'l, R>, C, I, Core>, RunFault>
     requires new { All (λ door. IsNewDoor (door_seen ⟦<TcpDoor<'l, R> as Door>⟧.is_out
         ⟦<TcpDoor<'l, R> as Door>⟧.is_at_end ⟦<TcpDoor<'l, R> as Door>⟧.lines_over door)) doors.items }
@@ -392,7 +404,8 @@ pub fn serve_doors_by_loop<
     ensures bad_configuration { IsErrOf result RunFault.BadConfiguration
         ↔ IsTrue (not (are_in_range (settings_of options.now) && vec_len doors.entry == options.now.seats)) }
 {
-    run_event_loop(rt, alloc, config_of(options), doors, clock, control, source)
+    let turns = LoneTurns::new(rt, alloc, options.seats, doors.as_slice(), ending, source);
+    run_turns(alloc, config_of(options), doors, clock, control, turns)
 }
 
 // The settings of a run by these options.

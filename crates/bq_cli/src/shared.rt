@@ -1,13 +1,14 @@
 //! What the threads of a program share.
 
 use crate::ending::Ending;
-use crate::log::Log;
+use crate::log::{Log, Writer};
 use bq_job::NoMemory;
 use bq_program::LogForm;
 use std::alloc::Global;
 use std::sync::Arc;
 
-/// What three threads share: the one that starts a server, the one that serves, and the one that writes the log.
+/// What the thread that starts a server, the one that serves and the one that writes the log share. For an event loop they
+/// are one.
 #[derive(Drop)]
 pub struct Shared {
     pub log: Log,
@@ -16,8 +17,13 @@ pub struct Shared {
 
 impl Shared {
     /// Makes what the threads of a server with this number of doors share. Its reports have this form.
-    pub fn new(alloc: Global, doors: u16, form: LogForm) -> Result<Arc<Shared, Global>, NoMemory> {
-        let Ok(log) = Log::new(alloc, form) else {
+    pub fn new(
+        alloc: Global,
+        doors: u16,
+        form: LogForm,
+        by: Writer,
+    ) -> Result<Arc<Shared, Global>, NoMemory> {
+        let Ok(log) = Log::new(alloc, form, by) else {
             return Err(NoMemory);
         };
         let ending = Ending::new(doors, form);

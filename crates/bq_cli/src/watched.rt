@@ -1,10 +1,12 @@
-//! A server in a thread that the calling one watches.
+//! A server on the calling thread, or in one that the calling thread watches.
 ghost use Rattle.std.specs.Prelude.{◌≡◌, ◌≤◌, IfOk, IfSome};
 ghost use Rattle.bq_program.specs.Chosen.{of_bqd};
 ghost use Rattle.bq_cli.specs.Servers.{IsStatusFrom, IsStatusOfListening, IsStatusOfServer};
 ghost use Rattle.bq_cli.specs.declared.logging.Logging.{Logging};
 
+use crate::descriptors::STANDARD_INPUT;
 use crate::listening::{NoListener, listen};
+use crate::log::Writer;
 use crate::logging::Logging;
 use crate::server::serve_to;
 use crate::shared::Shared;
@@ -18,21 +20,18 @@ use std::alloc::Global;
 use std::io::{BufReader, Eprint, Print, Read};
 use std::marker::PhantomData;
 use std::net::{Net, TcpListener, TcpStream};
-use std::os::fd::RawFd;
 use std::rt::Clock;
 use std::snapshot::Snapshot;
 use std::sync::{Arc, Wait};
 use std::thread;
 use std::thread::{Promise, PromisedHandle, Threads};
 
-/// The descriptor of a program's standard input.
-const STANDARD_INPUT: RawFd = 0;
-
 /// Binds the address and serves until the server has ended. The input is the control line. Returns the status of the
 /// program.
 ///
-/// One thread serves, and one writes what is reported. The calling thread waits for the end. So neither a control line
-/// that stays open nor a standard error that blocks can hold it up.
+/// An event loop runs on the calling thread, and there is no other one. Otherwise one thread serves, and one writes what is
+/// reported, and the calling thread waits for the end. So neither a control line that stays open nor a standard error that
+/// blocks can hold it up.
 pub(crate) fn listen_and_serve<
     R: Net<Listener = TcpListener, Stream = TcpStream>
         + Threads
@@ -57,7 +56,7 @@ pub(crate) fn listen_and_serve<
     let Ok(control) = BufReader::new(alloc, input) else {
         return tell_fault(rt, Program::Bqd, form, Fault::NoMemory(Need::ControlLine));
     };
-    let came = serve_watched(rt, alloc, form, Options::from(options), listener, control);
+    let came = serve_begun(rt, alloc, form, Options::from(options), listener, control);
     status_of(rt, form, came)
 }
 
@@ -81,6 +80,40 @@ fn tell_no_listener<R: Eprint>(rt: &R, form: LogForm, address: &str, why: &NoLis
             tell_fault(rt, Program::Bqd, form, Fault::NoMemory(Need::Options))
         }
         NoListener::System(e) => tell_cannot_listen(rt, Program::Bqd, form, address, e),
+    }
+}
+
+// Serves by the engine that the options choose. Returns the status, or None if the last door failed and that was
+// reported.
+fn serve_begun<
+    R: Net<Listener = TcpListener, Stream = TcpStream>
+        + Threads
+        + Wait
+        + Clock
+        + Print
+        + Eprint
+        + Copy
+        + Send
+        + Sync
+        + 'static,
+    I: ControlReader + Drop + Send + 'static,
+>(
+    rt: &R,
+    alloc: Global,
+    form: LogForm,
+    options: Options,
+    listener: TcpListener,
+    control: I,
+) -> Result<Option<u8>, Fault>
+    ensures { IfOk result (λ came. IfSome came (λ status. (IsStatusOfServer (Logging R) I.remaining I.may_fail
+        ⟦<Core as QueueCore>⟧.machine ⟦<Core as QueueCore>⟧.comparisons options listener control status) × (status ≤ 1))) }
+{
+    if !options.event_loop {
+        return serve_watched(rt, alloc, form, options, listener, control);
+    }
+    match serve_here(rt, alloc, form, &options, listener, control) {
+        Ok(status) => Ok(Some(status)),
+        Err(fault) => Err(fault),
     }
 }
 
@@ -108,7 +141,7 @@ fn serve_watched<
     ensures { IfOk result (λ came. IfSome came (λ status. (IsStatusOfServer (Logging R) I.remaining I.may_fail
         ⟦<Core as QueueCore>⟧.machine ⟦<Core as QueueCore>⟧.comparisons options listener control status) × (status ≤ 1))) }
 {
-    let Ok(shared) = Shared::new(alloc, options.seats, form) else {
+    let Ok(shared) = Shared::new(alloc, options.seats, form, Writer::Thread) else {
         return Err(Fault::NoMemory(Need::Queue));
     };
     let (Ok(of_log), Ok(of_server)) = (Arc::try_clone(&shared), Arc::try_clone(&shared)) else {
@@ -132,6 +165,47 @@ fn serve_watched<
     let came = came_of(rt, &logging, thread);
     logging.shared().log.close(rt);
     Ok(came)
+}
+
+// Serves on the calling thread, by an event loop. It ends by itself when its last door fails. Returns the status.
+fn serve_here<
+    R: Net<Listener = TcpListener, Stream = TcpStream>
+        + Threads
+        + Wait
+        + Clock
+        + Print
+        + Eprint
+        + Copy
+        + Send
+        + Sync
+        + 'static,
+    I: ControlReader + Drop,
+>(
+    rt: &R,
+    alloc: Global,
+    form: LogForm,
+    options: &Options,
+    listener: TcpListener,
+    control: I,
+) -> Result<u8, Fault>
+    ensures { IfOk result (λ status. (IsStatusOfServer (Logging R) I.remaining I.may_fail
+        ⟦<Core as QueueCore>⟧.machine ⟦<Core as QueueCore>⟧.comparisons options.now listener control status) × (status ≤ 1)) }
+{
+    let Ok(shared) = Shared::new(alloc, options.seats, form, Writer::Itself) else {
+        return Err(Fault::NoMemory(Need::Queue));
+    };
+    let logging = Logging::new(*rt, shared);
+    let status = serve_to(
+        &logging,
+        alloc,
+        options,
+        listener,
+        &logging.shared().ending,
+        control,
+        Some(STANDARD_INPUT),
+    );
+    logging.shared().log.close(rt);
+    Ok(status)
 }
 
 // Starts the thread that writes the log. Returns true if it could be started.
