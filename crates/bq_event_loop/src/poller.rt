@@ -296,6 +296,7 @@ impl<'r, R: rt::Clock> Poller<'r, R> {
     // Begins the visits of all seats that are in the queue now. Those that were in it before the
     // last wait come last, so that a visit that was cut short goes on after the seats that the
     // system reported. They have the last part only.
+    #[inline(always)]
     fn begin_visits<L: Line + Drop, D: Door<Line = L>>(
         &mut self,
         alloc: Global,
@@ -495,6 +496,7 @@ impl<'r, R: rt::Clock> Poller<'r, R> {
     }
 
     // Lets a seat rest if nothing moves at it. Otherwise it is visited again.
+    #[inline(always)]
     fn let_rest<L: Line + Drop, D: Door<Line = L>>(
         &mut self,
         row: &Row<L, D>,

@@ -154,6 +154,10 @@ impl SeatQueue {
         ensures queue { self.new ≡ record self.old { queue = drop many self.old.queue ++ take many self.old.queue } }
         ensures same { (seat : ℕ) → times seat self.new.queue ≡ times seat self.old.queue }
     {
+        // Mostly there are none.
+        if many == 0 {
+            return;
+        }
         if many < self.queue.len() {
             self.queue.rotate_left(many);
         }
