@@ -34,7 +34,7 @@ waits_sooner machine compared due most core s (inr m) = inr (record {
   in_time = in_time due most (next_due (machine core.timed.core)) core.timed.time.moment s m.in_time;
 })
 
--- A turn may wait for less than it was told.
+-- What holds at a turn also holds for a shorter wait.
 pub turn_sooner : {L C I K : Type 0} (gives takes : L → Bool) (machine : K → Machine) (compared : K → ℕ) (many : ℕ)
     (listed looks : ℕ → Bool) (seats : List (Attendant L)) (mails : List (List Answer)) (due most : Option ℕ) (standing : ControlStands)
     (core : LoopCore C K) (control : ControlTurns I) → IsSooner due most

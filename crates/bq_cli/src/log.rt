@@ -29,7 +29,7 @@ const LAST_WAIT: u64 = 100;
 
 type Line = ArrayString<LINE_LENGTH>;
 
-/// Who writes the lines of a log.
+/// What writes the lines of a log.
 #[derive(Clone, Copy, PartialEq, Eq)]
 pub enum Writer {
     /// A thread that does nothing else.
@@ -83,7 +83,7 @@ impl Log {
         self.writer.unpark();
     }
 
-    /// Returns who writes the lines.
+    /// Returns what writes the lines.
     pub fn by(&self) -> Writer {
         self.by
     }
