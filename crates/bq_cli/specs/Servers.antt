@@ -69,8 +69,8 @@ pub record IsDoorAt {R : Type 0} (listener : TcpListener) (sessions : Option ℕ
   pub allowed : in_all door.left door.is_out door.over ≡ in_all sessions false []
 
 -- The doors of a server whose run has ended. There was a door for each seat that the options choose, all at this listener,
--- each for the number of connections that they choose. Each door is at its end with no line out. A door whose listener
--- did not fail had exactly this number of connections.
+-- each for the number of connections that they choose. Each door is at its end with no connection out. A door whose
+-- listener did not fail had exactly this number of connections.
 pub record AreServedDoors {R : Type 0} (options : Options) (listener : TcpListener) (many : ℕ) (of_run : List (TcpDoor R)) : Type 0 where
   pub seats : many ≡ options.seats
   pub doors : All (λ door. IsDoorAt listener options.sessions door) of_run
@@ -78,7 +78,7 @@ pub record AreServedDoors {R : Type 0} (options : Options) (listener : TcpListen
   pub all_came : All (λ door. door.met_fault ≡ false → options.sessions ≡ Some (length door.over)) of_run
 
 -- A run of a server by threads that has ended. It began with a new clock, with these doors and this control line, and the
--- machine that took its history has the settings of the options.
+-- model that took its history has the settings of the options.
 pub record IsServerRun {R I K : Type 0} (left : I → Option (List ℕ)) (may_fail : I → Bool)
     (machine : K → Machine) (comparisons : K → ℕ) (options : Options) (listener : TcpListener) (control : I)
     (run : Run (TcpDoor R) (TellingClock R) I K) : Type 0 where

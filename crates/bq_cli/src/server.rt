@@ -353,7 +353,7 @@ pub fn serve_doors<
 ) -> Result<Run<TcpDoor<'l, R>, C, I, Core>, RunFault>
     requires new { All (λ door. IsNewDoor (door_seen ⟦<TcpDoor<'l, R> as Door>⟧.is_out
         ⟦<TcpDoor<'l, R> as Door>⟧.is_at_end ⟦<TcpDoor<'l, R> as Door>⟧.lines_over door)) doors.items }
-    // There is one history of the steps of all connections and of the control line, and the one-list machine takes it by
+    // There is one history of the steps of all connections and of the control line, and the one-list model takes it by
     // the options. Each connection of each door received exactly the bytes that this history prescribes for it, as far as
     // its reads and writes show.
     ensures served { IfOk result (IsRunOf C.given ⟦<TcpDoor<'l, R> as Door>⟧.lines_over I.remaining I.may_fail
@@ -371,7 +371,8 @@ pub fn serve_doors<
 
 /// Does the same as `serve_doors` by the calling thread alone, in an event loop. The listeners of the doors must not
 /// block. The descriptor is that of the control line; with None it is read to its end before any door is looked at. If
-/// it is the standard input, that ends when the last door fails, as `ending` tells.
+/// it is the standard input, that ends when the last door fails, as `ending` tells. On error the doors come back, and
+/// none was opened.
 pub fn serve_doors_by_loop<
     'l,
     R: Net + Wait + Clock + Eprint,

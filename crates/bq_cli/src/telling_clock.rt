@@ -8,7 +8,7 @@ use bq_program::{LogForm, Severity};
 use std::io::Eprint;
 use std::rt;
 
-/// The machine's clock. The notices of a run go to standard error, a line each.
+/// The computer's clock. The notices of a run go to standard error, a line each.
 #[derive(Drop)]
 pub struct TellingClock<'r, R> {
     rt: &'r R,

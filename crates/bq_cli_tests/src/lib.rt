@@ -1,5 +1,6 @@
-//! Tests of the options, of the run of one line, of a lone client's session and of the server. They
-//! are in a crate of their own, so that the tested crates are not proved again for them.
+//! Tests of the options, of the run of one connection, of a lone client's session and of the
+//! server. They are in a crate of their own, so that the tested crates are not proved again for
+//! them.
 #![tactic(auto)]
 
 #[cfg(test)]

@@ -1,5 +1,5 @@
-//! Sessions of one line: worked ones with three clocks each, and scripted ones with a clock that
-//! advances, goes backwards or fails.
+//! Sessions of one connection: worked ones with three clocks each, and scripted ones with a clock
+//! that advances, goes backwards or fails.
 
 mod refused;
 mod runs;

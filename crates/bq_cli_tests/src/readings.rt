@@ -1,4 +1,4 @@
-//! What the machine's clock reads.
+//! What the computer's clock reads.
 
 use bq_line::clock::{Clock, MachineClock};
 use std::sync::atomic::{AtomicU64, Ordering};

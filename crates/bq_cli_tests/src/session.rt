@@ -1,4 +1,5 @@
-//! The session of `bq` over a console in memory: from its words to the end of the client's line.
+//! The session of `bq` over a console in memory: from its words to the end of the client's
+//! connection.
 ghost use Rattle.std.specs.Prelude.{◌≡◌, IfOk, IfSome, None};
 ghost use Rattle.bq_program.specs.Ranges.{IsForBq};
 
@@ -64,7 +65,8 @@ impl Write for Reads {
 }
 
 // What each row shows; the words and their options, as in module `command_line`; what the client
-// sends, and whether a read after that `fails`; what it receives, its room, and how its line ends.
+// sends, and whether a read after that `fails`; what it receives, its room, and how its connection
+// ends.
 static EXAMPLES: &str = "a quit, after which nothing is read\
     |bq|- 1 65535 - 0 - -|put 5 0 10 3\r\nabc\r\nquit\r\n|fails|INSERTED 1\r\n|100|quit
 
@@ -119,8 +121,8 @@ fn options_of(alloc: Global, row: &'static str) -> Option<BqOptions>
     bq_options(alloc, words.as_slice()).ok()
 }
 
-// Returns true if the client of a row has received what it has to, and its line has ended as it
-// has to.
+// Returns true if the client of a row has received what it has to, and its connection has ended as
+// it has to.
 fn is_left_so(reads: &Reads, end: LineEnd, row: &'static str) -> bool {
     reads.arrived.as_slice() == column(row, 5).as_bytes() && is_end(end, column(row, 7))
 }
@@ -145,7 +147,7 @@ fn is_met<R: Wait + Clock>(rt: &R, alloc: Global, row: &'static str) -> bool {
     }
 }
 
-// From the words to the end of the line and the bytes that the client receives.
+// From the words to the end of the connection and the bytes that the client receives.
 #[test]
 fn sessions_of_words(rt: HostRuntime) {
     for row in EXAMPLES.split("\n\n") {
@@ -153,7 +155,7 @@ fn sessions_of_words(rt: HostRuntime) {
     }
 }
 
-// Serves a client whose stream never fails. Its line has met no fault.
+// Serves a client whose stream never fails. Its connection has met no fault.
 fn serve_surely<'r, R: Wait + Clock>(
     rt: &'r R,
     alloc: Global,
@@ -167,7 +169,7 @@ fn serve_surely<'r, R: Wait + Clock>(
     serve_client(rt, alloc, options, client, MachineClock::new(rt))
 }
 
-// Returns true if such a client has its answer, and its line has ended with its input.
+// Returns true if such a client has its answer, and its connection has ended with its input.
 fn is_served_surely<R: Wait + Clock>(rt: &R, alloc: Global) -> bool {
     let Some(options) = options_of(alloc, EXAMPLES) else {
         return false;

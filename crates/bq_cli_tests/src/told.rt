@@ -39,7 +39,8 @@ static FAULTS: &[(Program, Fault)] = &[
     (Program::Bqd, Fault::TooManyTurns),
 ];
 
-// The reports of these faults, one after another.
+// The reports of these faults, of two of them for a journal, and of an address that is in use.
+// sd-daemon(3) has the priority of an error, 3.
 static REPORTS: &str = "bq: read failed\n\
     bq: write failed\n\
     bq: no memory\nbq: could not allocate memory for the options\n\

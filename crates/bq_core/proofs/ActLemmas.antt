@@ -42,7 +42,7 @@ pub reserve_job_done : (m first second last : Machine) (s : SeatRecord) (seat id
     → reserve_job_effect id m s ≡ telling (answers.Reserved id body) last
 reserve_job_done m first second last s seat id body at passes one two told after = grind (arith, common_steps, found_id, passed_by)
 
--- the machine after the next id was given to a put
+-- the model after the next id was given to a put
 abbrev pub after_given : Machine → Machine
 after_given m = record m { next_id = m.next_id + 1; puts = raised m.puts; draining = nat_le last_id m.next_id }
 

@@ -79,7 +79,7 @@ module _ (st : CoreParts) (seat : ℕ) (what : Step) (r : Reserves st seat what)
   next id first = first ∙ ap (option_map (λ (r : ℕ × ℕ). r.1)) (next_offer st (client ∷ []) ∙ sym (client_waits then_waits seat _
       (numbered_after seat (Wait (raised st.tickets) r.until) _ st.sound.numbered) found known)) ∙ id_of_best (next_job then_waits)
 
-  -- the machine once the client holds the job is the one after a turn of dispatch
+  -- the model once the client holds the job is the one after a turn of dispatch
   handed : (id : ℕ) → record (with_job id (reserved_by st.moment seat) (machine_of st)) { tickets = raised st.tickets }
       ≡ handed_to seat id then_waits
   handed id = ap (λ seats. record (with_job id (reserved_by st.moment seat) (machine_of st)) { tickets = raised st.tickets; seats = seats })

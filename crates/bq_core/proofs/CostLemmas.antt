@@ -1,4 +1,4 @@
--- The searches of the parts of a step, in terms of the machine.
+-- The searches of the parts of a step, in terms of the model.
 use Rattle.std.proofs.Common.{Bool, List, Some, [], ap, arith, false, if◌then◌else◌, length, map, not, suc, true, ℕ, ◌&&◌, ◌*◌, ◌+◌, ◌-◌}
 use Rattle.std.proofs.{Common.{◌<◌, ◌==◌, ◌∙◌, ◌∷◌, ◌≡◌, ◌≤◌}, Math.Nat.suc-mul, lemmas.{Grind.common_steps, List.Sums.sum_by-cons}}
 use Rattle.std.{proofs.lemmas.{List.length-append, Nat.mul-le}, specs.{List.{AllByRecursion as All, list_any, sum_by}, Prelude.count_by}}

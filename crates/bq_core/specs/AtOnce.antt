@@ -18,11 +18,11 @@ abbrev pub is_reserve : Step → Bool
 is_reserve (steps.Ask request) = is_reserve_request request
 is_reserve what = false
 
--- the machine once the client at this seat waits, with the next ticket
+-- the model once the client at this seat waits, with the next ticket
 abbrev pub waiting_at : ℕ → Option ℕ → Machine → Machine
 waiting_at seat until m = record (with_seat seat (waiting_from (raised m.tickets) until) m) { tickets = raised m.tickets }
 
--- what is kept of the jobs of this machine, with this count of comparisons
+-- what is kept of the jobs of this model, with this count of comparisons
 abbrev pub kept_at : Machine → ℕ → Kept → Kept
 kept_at m comparisons k = record k { jobs = m.jobs; comparisons = comparisons }
 

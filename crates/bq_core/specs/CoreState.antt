@@ -2,7 +2,7 @@
 use Rattle.std.specs.Prelude.{ℕ}
 use Rattle.bq_job.specs.machine.Machine.{Machine}
 
--- the machine that it represents, and how many keys of its jobs it has compared so far
+-- the model that it represents, and how many keys of its jobs it has compared so far
 pub record CoreState : Type 0 where
   pub machine : Machine
   pub comparisons : ℕ

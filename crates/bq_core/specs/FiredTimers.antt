@@ -4,7 +4,7 @@ use Rattle.bq_job.specs.{declared.job.{Job.Job, JobState.JobState}, machine.{giv
 use Rattle.bq_job.specs.machine.{job_with, with_job, Machine.Machine}
 use Rattle.bq_state.specs.{CoreParts.machine_of, declared.core_parts.CoreParts.CoreParts}
 
--- the machine after all timers of jobs have fired
+-- the model after all timers of jobs have fired
 abbrev pub after_job_timers : Machine → Machine
 after_job_timers m = record m {
   jobs = map (job_after_timers m.moment) m.jobs;
@@ -27,7 +27,7 @@ is_some_due m = list_any (λ j. is_due m.moment j.state) m.jobs
 abbrev pub is_some_expired : Machine → Bool
 is_some_expired m = list_any (λ j. is_expired m.moment j.state) m.jobs
 
--- the machine after all jobs that the client at the seat holds were brought into this state
+-- the model after all jobs that the client at the seat holds were brought into this state
 abbrev pub after_giving_back : JobState → ℕ → Machine → Machine
 after_giving_back state seat m = record m { jobs = map (given_back state seat) m.jobs }
 

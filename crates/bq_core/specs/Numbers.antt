@@ -1,4 +1,4 @@
--- The numbers in statistics are those of the machine.
+-- The numbers in statistics are those of the model.
 use Rattle.std.specs.Prelude.{List, count_by, length, ℕ, ◌≡◌}
 use Rattle.bq_core.specs.declared.texts.statistics.{ServerNumbers.ServerNumbers, TubeNumbers.TubeNumbers}
 use Rattle.bq_job.specs.machine.{Machine.Machine, is_waiting, jobs_in, tube_record, tubes, using_count, waiting_clients_of, watching_count}

@@ -11,7 +11,7 @@ use Rattle.bq_state.specs.{CoreParts.machine_of, Cost.waited, declared.core_part
 abbrev pub IsLastTurn : {A : Type 0} → Option A → CoreParts → CoreParts → Outbox → Outbox → Type 0
 IsLastTurn next old new outs more = (next ≡ None) × (machine_of new ≡ machine_of old) × (more ≡ outs)
 
--- The machine keeps no records of tubes that do not exist.
+-- The model keeps no records of tubes that do not exist.
 abbrev pub NoneIsGone : Machine → Type 0
 NoneIsGone m = IsTrue (list_all (λ t. is_tube t.name m) m.tubes)
 

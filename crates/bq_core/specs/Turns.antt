@@ -3,7 +3,7 @@ use Rattle.std.specs.Prelude.{Bool, List, false, length, ℕ, ◌++◌, ◌+◌,
 use Rattle.bq_core_api.specs.Outbox.{Outbox}
 use Rattle.bq_job.specs.{beside.waiting_count, machine.{Chain, GivenAnswer, Machine.Machine}}
 
--- Turns of this kind led from the first machine to the last, and their answers were appended.
+-- Turns of this kind led from the first model to the last, and their answers were appended.
 -- `refused` says what they mean for the mark of bodies that could not be shared. Each made a
 -- waiting client stop waiting.
 pub record Gives (Turn : Machine → GivenAnswer → Machine → Type 0) (refused : List GivenAnswer → Bool)

@@ -233,9 +233,9 @@ fn pick_at_tube(state: &mut CoreParts, id: JobId) -> Option<(Seat, Result<Body, 
     Some((seat, shared))
 }
 
-// Returns the client that gets the next job, and another reference to the job's body, unless its
-// allocation fails. If only one client may have any job, it is that one, and neither the other
-// clients nor the job's tube are checked.
+// Returns the client that gets the next job, and another reference to the job's body, unless that
+// is refused. If only one client may have any job, it is that one, and neither the other clients
+// nor the job's tube are checked.
 fn pick(state: &mut CoreParts, id: JobId) -> Option<(Seat, Result<Body, NoMemory>)>
     requires next { Some id ≡ option_map (λ j. j.id) (next_job (machine_of state.old)) }
     ensures some { is_some result ≡ true }
@@ -285,8 +285,7 @@ fn refuse(state: &mut CoreParts, outs: &mut Outs, number: Seat)
     outs.push(number, Answer::OutOfMemory);
 }
 
-// Hands the job out to the client at the seat, unless the reference to its body could not be
-// allocated.
+// Hands the job out to the client at the seat, unless another reference to its body is refused.
 #[tactic(auto, using(crate::proofs::TurnLemmas::shared_given, crate::proofs::TurnLemmas::refused_given))]
 fn hand_out(
     state: &mut CoreParts,
@@ -444,7 +443,7 @@ fn reserve(state: &mut CoreParts, seat: Seat, what: &Step, outs: &mut Outs) -> b
 /// Carries out the command's own effect and drops tubes that are gone. If the command is a reserve
 /// and its client may have a job, the client is handed the job: by the rules it begins to wait, and
 /// dispatch then hands it the job and ends its wait. Here it is not entered among the clients that
-/// wait, and the machine is the same afterwards.
+/// wait, and the model is the same afterwards.
 pub(crate) fn act_or_hand_out(
     state: &mut CoreParts,
     alloc: Global,

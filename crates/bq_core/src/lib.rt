@@ -1,5 +1,5 @@
 //! The core of the work queue: it takes one step after another, and each of them is a step of the
-//! one-list machine that `bq_job` defines.
+//! one-list model that `bq_job` defines.
 //!
 //! `bq_state` contains its state and the operations on it. This crate decides what happens when.
 #![tactic(auto)]

@@ -16,7 +16,7 @@ use bq_state::{changes, seats};
 use std::alloc::Global;
 use std::marker::Model;
 
-/// The core: it represents the one-list machine and takes its steps.
+/// The core: it represents the one-list model and takes its steps.
 #[derive(Drop)]
 pub struct Core {
     parts: CoreParts,

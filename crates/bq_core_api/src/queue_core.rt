@@ -12,9 +12,9 @@ use crate::outs::Outs;
 use bq_job::{Moment, Seat, Step};
 use std::alloc::Global;
 
-/// A core: it represents the one-list machine and takes its steps.
+/// A core: it represents the one-list model and takes its steps.
 pub trait QueueCore: Sized {
-    /// The machine that the core represents.
+    /// The model that the core represents.
     ghost machine: { Self → Machine };
 
     /// How many keys of its jobs it has compared so far.
@@ -49,7 +49,7 @@ pub trait QueueCore: Sized {
 
     /// Returns the earliest moment, in milliseconds, at which something happens by itself: a delay,
     /// a time to run or a pause ends, a wait times out, or a waiting client gets DEADLINE_SOON. A
-    /// tick before that moment changes nothing but the moment. The machine stays the same.
+    /// tick before that moment changes nothing but the moment. The model stays the same.
     fn next_due(&mut self) -> Option<Moment>
         ensures due { result ≡ next_due (machine self.old) }
         ensures same { machine self.new ≡ machine self.old }

@@ -3,7 +3,7 @@ use bq_job::{Answer, Step};
 use bq_wire::{HeadBuf, answer_body, answer_head, answer_tail};
 use std::alloc::Global;
 
-/// Returns a step that isn't read from a client's line, if the words name one.
+/// Returns a step that isn't read from a client's connection, if the words name one.
 pub(crate) fn plain_step(words: &str) -> Option<Step> {
     match words {
         "connect" => Some(Step::Connect),

@@ -404,7 +404,7 @@ module _ {L : Type 0} (gives takes : L → Bool) (seats : List (Attendant L)) (m
           (enqueued_lists i l (omega (arith, below, k.all, is)) (λ looks. k.apart i looks (or_right (is_on l.queue i) (i == i) (is_same
           i i refl))))
 
-  -- The visited seat found no client, and is between two lines.
+  -- The visited seat found no client, and is between two connections.
   pub known_freed : (l : Listing) (i : ℕ) → ((a : Attendant L) → (slice_index_or seats i a).place ≡ places.Between)
       → AreKnownTo gives takes l (Some i) seats mails → AreKnownTo gives takes (freed i l) None seats mails
   known_freed l i between k =

@@ -22,7 +22,7 @@ use Rattle.bq_event_loop.specs.WakeLists.{Wakes}
 use Rattle.bq_event_loop.proofs.WakeLemmas.{wakes_none, wakes_same, wakes_then}
 use Rattle.bq_host.proofs.{TimedWentLemmas.{by_then}, WentLemmas.{gave_none, seat_none, seat_sorted}}
 
--- The core of a loop is in order if its machine is ready and its marks about answers are right.
+-- The core of a loop is in order if its model is ready and its marks about answers are right.
 pub order_ready : {C K : Type 0} (machine : K → Machine) (compared : K → ℕ) (first last : LoopCore C K) → IsReady machine last.timed
     → (machine last.timed.core).settings ≡ (machine first.timed.core).settings → last.mails ≡ first.mails
     → (last.is_sorted ≡ true → (state_of machine compared last).pending ≡ []) → IsInOrder (state_of machine compared first)
@@ -73,7 +73,7 @@ none_over {C} {K} machine compared given old new (looked, l, rest) = elim rest [
   | inr h ↦ ap (λ (x : TimedCore C K). x.outs) h.2 ∙ l.outs
 ]
 
--- If no tick was taken, the core represents the same machine.
+-- If no tick was taken, the core represents the same model.
 pub machine_over : {C K : Type 0} (machine : K → Machine) (compared : K → ℕ) (given : C → List (Option ℕ) → C → Type 0)
     (old new : TimedCore C K) → PassesOver given machine compared old new → machine new.core ≡ machine old.core
 machine_over {C} {K} machine compared given old new (looked, l, rest) = elim rest [

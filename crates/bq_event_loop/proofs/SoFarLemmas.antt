@@ -104,7 +104,7 @@ module _ {I : Type 0} (seen : I → ControlSeen) (left : I → Option (List ℕ)
 -- ---- the seats
 
 module _ {L : Type 0} (seen : L → LineSeen) where
-  -- the open line, or what a seat without one submitted
+  -- the open connection, or what a seat without one submitted
   out_at : (size : ℕ) (machine : SeatMachine) (place : LinePlace L) (submitted : List Step) (taken more : List Answer)
       → IsAt seen size machine place submitted taken → IsOutOwed size (line_out seen place) submitted (taken ++ more)
   out_at size machine places.Between submitted taken more at = inl at.0
@@ -140,7 +140,7 @@ module _ {L : Type 0} (seen : L → LineSeen) where
 -- ---- all of it
 
 module _ {L D : Type 0} (seen : L → LineSeen) (at : D → DoorSeen) (settings : Settings) (first : MailState) where
-  -- a seat with its door, and the answers that it was given
+  -- a seat with its door, the answers that it was given, and how many of them are `Closed`
   record IsSeatSoFar (history : List Entry) (took : ℕ → List Answer) (given : List GivenAnswer) (core : MailState) (t : ℕ)
       (a : Attendant L) (door : DoorSeen) : Type 0 where
     tended : IsTended seen settings.max_job_size a door (steps_at t history) (took t)

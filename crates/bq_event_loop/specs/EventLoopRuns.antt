@@ -15,7 +15,7 @@ use Rattle.bq_event_loop.specs.declared.run.EventLoopRun.{EventLoopRun}
 -- `bq_run`, with the same definitions, except for the links between threads, which this run does
 -- not have. The clock gave these readings. The control line was read to its end or until a read
 -- failed, and it failed only if a read of it may fail. One history of the control line and the
--- lines that the doors have served leads to the machine that the core represents. The core's
+-- connections that the doors have served leads to the model that the core represents. The core's
 -- comparisons of keys stayed within the bound of each of its steps, and of at most one query for
 -- the next due moment before each step and after the last.
 pub record IsEventLoopRun {L D C I K : Type 0} (given : Gives C) (lines_over : D → List LineOver) (left : I → Option (List ℕ))

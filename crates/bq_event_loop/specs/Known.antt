@@ -48,7 +48,7 @@ ChangesOnlyIn (turns.Seat seat) old new = ChangesOnly seat old new
 ChangesOnlyIn (turns.Command seat) old new = ChangesOnly seat old new
 ChangesOnlyIn _ old new = new ≡ old
 
--- A seat that acts in a turn is one that the turns let act.
+-- A seat that acts or checks for a client in a turn is one that the turns let act.
 abbrev pub IsListedIn : (ℕ → Bool) → Turn → Type 0
 IsListedIn listed (turns.Seat seat) = listed seat ≡ true
 IsListedIn listed (turns.Command seat) = listed seat ≡ true

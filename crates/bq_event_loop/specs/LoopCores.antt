@@ -7,7 +7,7 @@ use Rattle.bq_host.specs.{MailStates.{IsInOrder, MailState, mail_state}, Went.Se
 use Rattle.bq_event_loop.specs.WakeLists.{Wakes}
 use Rattle.bq_event_loop.specs.declared.loop_core.LoopCore.{LoopCore}
 
--- from the machine that a core represents and its comparisons
+-- from the model that a core represents and its comparisons
 abbrev pub state_of : {C K : Type 0} → (K → Machine) → (K → ℕ) → LoopCore C K → MailState
 state_of machine compared h = mail_state machine compared h.timed h.held h.mails.items h.is_sorted
 

@@ -8,7 +8,7 @@ use Rattle.bq_line.specs.declared.attendant.Attendant.{Attendant}
 use Rattle.bq_line.specs.declared.attendant.LinePlace.TheVariants.{Done}
 use Rattle.bq_event_loop.specs.declared.row.Row.{Row}
 
--- A seat has done something for its door's lines, by the rules.
+-- A seat has done something for its door's connections, by the rules.
 pub record IsSomehowTended {L : Type 0} (seen : L → LineSeen) (a : Attendant L) (door : DoorSeen) : Type 0 where
   pub max_job_size : ℕ
   pub submitted : List Step
@@ -20,7 +20,7 @@ pub record AllTended {L D : Type 0} (seen : L → LineSeen) (at : D → DoorSeen
   pub each : (seat : ℕ) → seat < length seats → (a : Attendant L) (d : D)
       → IsSomehowTended seen (slice_index_or seats seat a) (at (slice_index_or doors seat d))
 
--- Each seat has a door and has done something for the door's lines, by the rules.
+-- Each seat has a door and has done something for the door's connections, by the rules.
 abbrev pub AreTended : {L D : Type 0} → (L → LineSeen) → (D → DoorSeen) → Row L D → Type 0
 AreTended seen at row = AllTended seen at row.seats.items row.doors.items
 
@@ -38,8 +38,8 @@ pub record AllRested {L D : Type 0} (seen : L → LineSeen) (at : D → DoorSeen
 abbrev pub RestsSince : {L D : Type 0} → (L → LineSeen) → (D → DoorSeen) → (D → D → Type 0) → Row L D → Row L D → Type 0
 RestsSince seen at same first row = AllRested seen at same first.seats.items first.doors.items row.seats.items row.doors.items
 
--- Each seat has still done something for its door's lines, by the rules. In between it submitted no
--- step and took no answer.
+-- Each seat has still done something for its door's connections, by the rules. In between it
+-- submitted no step and took no answer.
 abbrev pub KeepsRow : {L D : Type 0} → (L → LineSeen) → (D → DoorSeen) → (D → D → Type 0) → Row L D → Row L D → Type 0
 KeepsRow {L} {D} seen at same old new =
     AreTended seen at new × ((first : Row L D) → RestsSince seen at same first old → RestsSince seen at same first new)

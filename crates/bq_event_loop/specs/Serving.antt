@@ -22,8 +22,9 @@ use Rattle.bq_event_loop.specs.declared.loop_core.LoopCore.{LoopCore}
 use Rattle.bq_event_loop.specs.declared.row.Row.{Row}
 
 -- What was served from the first state on. The core took the steps of one history. Each seat did what
--- the history has for it, with the answers that were taken out for it. The control line, whose
--- number comes after those of the seats, submitted these steps. The history has no other steps.
+-- the history has for it, with the answers that were taken out for it. If no answer waited for it at
+-- first, at most one answer is `Closed` for each of its connections that has ended. The control line,
+-- whose number comes after those of the seats, submitted these steps. The history has no other steps.
 pub record AreServed {L D : Type 0} (seen : L → LineSeen) (at : D → DoorSeen) (max_job_size : ℕ) (control : List Step) (first : MailState)
     (readings : List (Option ℕ)) (core : MailState) (seats : List (Attendant L)) (doors : List D) : Type 0 where
   pub history : List Entry
@@ -37,7 +38,7 @@ pub record AreServed {L D : Type 0} (seen : L → LineSeen) (at : D → DoorSeen
   pub nobody_else : (seat : ℕ) → length seats < seat → steps_at seat history ≡ []
 
 -- Whatever was served before, the service went on with these readings of the clock and these steps
--- of the control line.
+-- of the control line. Whatever the history was before, the later one begins with it.
 pub record ServesOn {C K L D : Type 0} (machine : K → Machine) (compared : K → ℕ) (given : C → List (Option ℕ) → C → Type 0)
     (seen : L → LineSeen) (at : D → DoorSeen) (same : D → D → Type 0)
     (old : LoopCore C K) (row : Row L D) (control : List Step) (new : LoopCore C K) (later : Row L D) : Type 0 where
@@ -52,8 +53,8 @@ pub record ServesOn {C K L D : Type 0} (machine : K → Machine) (compared : K �
   pub same_doors : (doors : List D) → AreSame same doors row.doors.items → AreSame same doors later.doors.items
 
 -- The core of a loop and its seats are ready for a turn. The core is in order. Each seat has done
--- something for its door's lines, by the rules, and has its mail. The numbers of the seats and of
--- the control line fit in 16 bits.
+-- something for its door's connections, by the rules, and has its mail. The numbers of the seats
+-- and of the control line fit in 16 bits.
 abbrev pub AreReady : {C K L D : Type 0} → (K → Machine) → (K → ℕ) → (L → LineSeen) → (D → DoorSeen) → LoopCore C K → Row L D → Type 0
 AreReady machine compared seen at core row =
     IsInOrder (state_of machine compared core) × AreTended seen at row × (length core.mails.items ≡ length row.seats.items)

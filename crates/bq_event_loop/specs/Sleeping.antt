@@ -19,7 +19,7 @@ use Rattle.bq_event_loop.specs.declared.poller.visits.Visit.{Visit}
 use Rattle.bq_event_loop.specs.declared.turns.ControlStands.{ControlStands}
 use Rattle.bq_event_loop.specs.declared.turns.ControlStands.TheVariants as stands
 
--- the seat of the visit that is under way
+-- the seat of the visit that is under way, or the one that checks for a client
 abbrev pub visited_by : Part → Visit → Option ℕ
 visited_by (parts.Visit part) visit = Some visit.seat
 visited_by _ visit = None
@@ -31,7 +31,8 @@ stands_of true _ = stands.Owes
 stands_of false stages.Ended = stands.Owes
 stands_of false stages.Reads = stands.Reads
 
--- The control line was read to its end. Or it owes no step, and the system will report more of it.
+-- The control line was read to its end. Or it owes no step, was read since it was handed in and since
+-- the last report, and the system will report more of it.
 abbrev pub IsControlStill : ControlWatch → ControlStands → Type 0
 IsControlStill watches.Over standing = Unit {0}
 IsControlStill (watches.Watched fd false) stands.Owes = ⊥

@@ -14,12 +14,12 @@ use Rattle.bq_line.specs.declared.attendant.Attendant.{Attendant}
 use Rattle.bq_line.specs.declared.attendant.LinePlace.{LinePlace}
 use Rattle.bq_line.specs.declared.attendant.LinePlace.TheVariants as places
 
--- the line that a seat serves
+-- the connection that a seat serves
 abbrev pub line_out : {L : Type 0} → (L → LineSeen) → LinePlace L → Option LineSeen
 line_out seen (places.On line action sent) = Some (seen line)
 line_out seen _ = None
 
--- the lines of each seat and its door
+-- the connections of each seat and its door
 abbrev pub doors_so_far : {L D : Type 0} → (L → LineSeen) → (D → List LineOver) → (D → Bool) → List (Attendant L) → List D
     → List DoorSoFar
 doors_so_far seen over is_out (seat ∷ seats) (door ∷ doors) =

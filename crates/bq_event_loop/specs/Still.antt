@@ -10,8 +10,8 @@ use Rattle.bq_seat.specs.declared.machine.Action.{Action}
 use Rattle.bq_seat.specs.declared.machine.Action.TheVariants as actions
 use Rattle.bq_seat.specs.declared.machine.SeatMachine.{SeatMachine}
 
--- This action would move nothing. The line gives bytes and takes bytes, as far as it knows, and
--- these answers wait for the seat. A seat that polls its mail may read afterwards.
+-- This action would move nothing. The connection gives bytes and takes bytes, as far as it knows,
+-- and these answers wait for the seat. A seat that polls its mail may read afterwards.
 abbrev pub IsStillOn : Action → SeatMachine → Bool → Bool → List Answer → Type 0
 IsStillOn actions.Read machine gives takes mail = (gives ≡ false) × ((mail ≡ []) ⊎ ReadsWith false machine)
 IsStillOn actions.PollMail machine gives takes mail = (mail ≡ []) × ((gives && would_read machine) ≡ false)
@@ -24,6 +24,6 @@ IsStillAt gives takes machine places.Done mail = Unit {0}
 IsStillAt gives takes machine _ mail = ⊥
 
 -- The next action of a seat would move nothing, and so would the one after it. A seat between two
--- lines, or one that has to submit that no more lines come, is not still.
+-- connections, or one that has to submit that no more connections come, is not still.
 abbrev pub IsStill : {L : Type 0} → (L → Bool) → (L → Bool) → Attendant L → List Answer → Type 0
 IsStill gives takes a mail = IsStillAt gives takes a.machine a.place mail

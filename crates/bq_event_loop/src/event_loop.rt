@@ -19,15 +19,16 @@ use std::net::Net;
 use std::os::fd::RawFd;
 use std::rt;
 
-/// Serves the lines of all doors, each door at a seat of its own, until no more lines come at any
-/// of them. The calling thread does everything, as epoll reports that lines are ready. It also
-/// reads the control line, where each line `drain` starts draining. It reads it when epoll reports
-/// `control_source`, its descriptor, as ready. If there is no descriptor, or it is that of a file,
-/// the control line is read to its end before any door is checked.
+/// Serves the connections of all doors, each door at a seat of its own, until no more connections
+/// come at any of them. The calling thread does everything, as epoll reports that connections are
+/// ready. It also reads the control line, where each line `drain` starts draining. It reads it when
+/// epoll reports `control_source`, its descriptor, as ready. If there is no descriptor, or it is
+/// that of a file, the control line is read to its end before any door is checked.
 ///
 /// Doors must not block when they are checked, and share one listener. The errors are those of
 /// `run_turns`, and `ThreadRefused` if the doors have several listeners, or the system refused epoll
-/// or to watch the listener or the control line.
+/// or to watch the listener or the control line. With any error the doors come back, and none was
+/// opened.
 pub fn run_event_loop<
     R: Net + rt::Clock,
     L: Line + Drop,
@@ -48,18 +49,18 @@ pub fn run_event_loop<
     requires new { All
         (λ door. IsNewDoor (door_seen D.is_out D.is_at_end D.lines_over door)) doors.items }
     // There is one history of the steps of all clients and of the control line, each at the moment
-    // of a reading of the clock. The one-list machine takes this history, the core represents the
-    // machine after it, and each line received exactly the bytes that the history prescribes for
-    // it.
+    // of a reading of the clock. The one-list model takes this history, the core represents the
+    // model after it, and each connection received exactly the bytes that the history prescribes
+    // for it.
     ensures served { IfOk result (λ run. run.is_over ≡ true →
         IsEventLoopRun C.given D.lines_over I.remaining I.may_fail K.machine K.comparisons config clock control run) }
-    // The same so far, however the run ended. The lines that are open were written a beginning of
-    // what the history prescribes for them.
+    // The same so far, however the run ended. Each open connection has received a beginning of what
+    // the history prescribes for it.
     ensures so_far { IfOk result
         (IsEventLoopSoFar C.given L.seen D.lines_over D.is_out D.same I.remaining I.may_fail K.machine K.comparisons config doors.items clock control) }
-    // Along either history, each job that is handed out is the least one that the client may have. An
-    // undisturbed job is handed out at most once and in order. No job is lost before its deletion.
-    // Once draining has begun, no put is accepted.
+    // Along either history, each job that is handed out is the least one that the client may have.
+    // An undisturbed job is handed out at most once and in order. No job is lost before its
+    // deletion. Once draining has begun, no put is accepted.
     ensures headline { IfOk result (λ run. (served : IsEventLoopRun C.given D.lines_over I.remaining I.may_fail K.machine K.comparisons config clock control run)
         → AreJobsServedIn served.history.run) }
     ensures headline_so_far { IfOk result

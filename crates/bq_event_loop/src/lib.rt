@@ -1,6 +1,6 @@
-//! A run of many doors by one thread, which owns the core. It waits for all lines at once, and then
-//! does for each seat what can be done without waiting. A `Turns` chooses which seat acts next and
-//! when; whatever it chooses, every answer is right.
+//! A run of many doors by one thread, which owns the core. It waits for all connections at once,
+//! and then does for each seat what can be done without waiting. A `Turns` chooses which seat acts
+//! next and when; whatever it chooses, every answer is right.
 #![tactic(auto)]
 
 pub use event_loop::run_event_loop;

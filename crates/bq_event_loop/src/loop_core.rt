@@ -1,5 +1,5 @@
-//! The core of an event loop with its clock and the answers that no seat has taken yet, and a seat's
-//! link to it.
+//! The core of an event loop with its clock and the answers that no seat has taken yet, and a
+//! seat's link to it.
 ghost use Rattle.std.specs.Prelude.{◌≡◌, ◌<◌, ◌≤◌, ◌+◌, ◌++◌, ◌∷◌, [], ℕ, List, None, Option, Some, true, false};
 ghost use Rattle.std.specs.Prelude.{◌↔◌, ◌&&◌, not, IfErr, IfOk, IfSome, IsErrOf, IsTrue, IsNone, MatchResult, length, slice_index_or, if◌then◌else◌};
 ghost use Rattle.std.specs.Option.{option_to_list};

@@ -1,6 +1,4 @@
-//! The order in which the seats act, decided by epoll (`mio`). One thread sleeps until a line is
-//! ready, a connection may have come, there is more to read of the control line, or something is
-//! due.
+//! The order in which the seats act, by readiness.
 //!
 //! A round consists of the control line, the doors, visits of all seats that can act, the time, and
 //! the wait. A seat can act if its line became ready, it has mail, or its last visit was cut short.
@@ -107,8 +105,8 @@ pub struct Poller<'r, R> {
     // What the core's clock showed when it was last read, and the pace of the round's visits.
     reading: u64,
     pace: Pace,
-    // How many seats came into the queue since the last wait, and how many were visited in this part
-    // of the round.
+    // How many seats came into the queue since the last wait, and how many were visited in this
+    // part of the round.
     fresh: usize,
     visited: usize,
     // The current visit or, if the stage does not say that one is under way, the last one.

@@ -51,8 +51,8 @@ impl<L: Line + Drop, D: Door<Line = L>> Row<L, D> {
         true
     }
 
-    /// Closes a connection that waits although every door is taken, if the doors were made to do so.
-    /// No seat and no line is touched.
+    /// Closes a connection that waits although every door is taken, if the doors were made to do
+    /// so. No seat and no connection of a seat is touched.
     pub fn turn_away(&self) -> TurnedAway {
         match self.doors.first() {
             Some(door) => door.turn_away(),
@@ -60,9 +60,9 @@ impl<L: Line + Drop, D: Door<Line = L>> Row<L, D> {
         }
     }
 
-    /// Checks for the next line at a door, without waiting for it, and has it watched.
-    /// `may_have_come` is false if none can have come since the last check. A seat that has a line
-    /// is left alone, and the result is `Looked::Opened`.
+    /// Checks for the next connection at a door, without waiting for it, and has it watched.
+    /// `may_have_come` is false if none can have come since the last check. A seat that has a
+    /// connection is left alone, and the result is `Looked::Opened`.
     pub fn look<W: Watcher>(
         &mut self,
         alloc: Global,
@@ -73,7 +73,7 @@ impl<L: Line + Drop, D: Door<Line = L>> Row<L, D> {
         requires tended { AreTended L.seen (door_seen D.is_out D.is_at_end D.lines_over) self.old }
         ensures keeps { KeepsRow L.seen (door_seen D.is_out D.is_at_end D.lines_over) D.same self.old self.new }
         ensures only { ChangesOnly seat self.old.seats.items self.new.seats.items }
-        // Without a line the seat is still between two lines.
+        // Without a connection the seat is still between two connections.
         ensures none { (result ≡ Looked.NotYet) ⊎ (result ≡ Looked.Later) → (a : Attendant L)
             → (slice_index_or self.new.seats.items seat a).place ≡ LinePlace.Between }
     {
@@ -89,7 +89,7 @@ impl<L: Line + Drop, D: Door<Line = L>> Row<L, D> {
         )
     }
 
-    /// Notes what the line of a seat is ready for, as the system reported it.
+    /// Notes what the connection of a seat is ready for, as the system reported it.
     pub fn note_ready(&mut self, seat: usize, ready: Readiness)
         requires tended { AreTended L.seen (door_seen D.is_out D.is_at_end D.lines_over) self.old }
         ensures keeps { KeepsRow L.seen (door_seen D.is_out D.is_at_end D.lines_over) D.same self.old self.new }
@@ -102,8 +102,9 @@ impl<L: Line + Drop, D: Door<Line = L>> Row<L, D> {
         }
     }
 
-    /// Swaps the read buffer of a seat's line with this one, if both are empty. A seat between two
-    /// lines swaps that of its door, which drops what the last line left in it.
+    /// Swaps the read buffer of a seat's connection with this one, if both are empty. A seat
+    /// between two connections swaps that of its door, which drops what the last connection left in
+    /// it.
     pub fn exchange(&mut self, seat: usize, buffer: &mut ReadBuffer)
         requires tended { AreTended L.seen (door_seen D.is_out D.is_at_end D.lines_over) self.old }
         ensures keeps { KeepsRow L.seen (door_seen D.is_out D.is_at_end D.lines_over) D.same self.old self.new }
@@ -114,8 +115,8 @@ impl<L: Line + Drop, D: Door<Line = L>> Row<L, D> {
         }
     }
 
-    /// Returns true if nothing moves at a seat until its line is ready or it has mail; `has_none`
-    /// says that it has no mail now.
+    /// Returns true if nothing moves at a seat until its connection is ready or it has mail;
+    /// `has_none` says that it has no mail now.
     pub fn is_still(&self, seat: usize, has_none: bool) -> bool
         ensures { result ≡ true → (mail : List Answer) → (has_none ≡ true → mail ≡ []) → (a : Attendant L)
             → IsStill L.may_give L.may_take (slice_index_or self.now.seats.items seat a) mail }
@@ -126,7 +127,7 @@ impl<L: Line + Drop, D: Door<Line = L>> Row<L, D> {
         }
     }
 
-    /// Sends what the line of a seat holds back in the expectation of more answers.
+    /// Sends what the connection of a seat holds back in the expectation of more answers.
     pub fn hand_on(&mut self, seat: usize)
         requires tended { AreTended L.seen (door_seen D.is_out D.is_at_end D.lines_over) self.old }
         ensures keeps { KeepsRow L.seen (door_seen D.is_out D.is_at_end D.lines_over) D.same self.old self.new }
@@ -138,7 +139,7 @@ impl<L: Line + Drop, D: Door<Line = L>> Row<L, D> {
     }
 }
 
-// Checks for the next line at a door, unless its seat has a line.
+// Checks for the next connection at a door, unless its seat has a connection.
 fn look_at<L: Line + Drop, D: Door<Line = L>, W: Watcher>(
     alloc: Global,
     seat: &mut Attendant<L>,
@@ -158,7 +159,8 @@ fn look_at<L: Line + Drop, D: Door<Line = L>, W: Watcher>(
     seat.look(alloc, door, may_have_come, watcher)
 }
 
-// Swaps the read buffer of a seat's line, or of its door between two lines, with this one.
+// Swaps the read buffer of a seat's connection, or of its door between two connections, with this
+// one.
 fn exchange_at<L: Line + Drop, D: Door<Line = L>>(
     seat: &mut Attendant<L>,
     door: &mut D,

@@ -28,11 +28,11 @@ use bq_line::line::Line;
 use std::alloc::Global;
 use std::snapshot::Snapshot;
 
-/// A run over doors that has ended or was broken off: the seats and the doors with their lines, the
-/// clock and the control line as they were left, and the core.
+/// A run over doors that has ended or was broken off: the seats and the doors with their
+/// connections, the clock and the control line as they were left, and the core.
 #[derive(Drop)]
 pub struct EventLoopRun<L, D, C, I, K> {
-    /// The seats, each with its line if that is still open.
+    /// The seats, each with its connection if that is still open.
     pub seats: Vec<Attendant<L>, Global>,
     pub doors: Vec<D, Global>,
     pub clock: C,
@@ -54,8 +54,8 @@ pub struct EventLoop<T: Turns + Drop, L: Line + Drop, C: Clock + Drop, K: QueueC
 impl<T: Turns + Drop, L: Line + Drop, C: Clock + Drop, K: QueueCore + Drop> EventLoop<T, L, C, K> {
     ghost use Rattle.bq_event_loop.specs.NewLoops.{IsNewLoop};
 
-    /// Prepares a run with these turns. It has no door yet, so it serves no line. All memory is
-    /// allocated here that the run needs at its start.
+    /// Prepares a run with these turns. It has no door yet, so it serves no connection. All memory
+    /// is allocated here that the run needs at its start.
     ///
     /// The error is `BadConfiguration` if the configuration is out of its ranges. Otherwise it is
     /// `NoMemory` if an allocation failed, or the error of the turns.
@@ -87,9 +87,10 @@ impl<T: Turns + Drop, L: Line + Drop, C: Clock + Drop, K: QueueCore + Drop> Even
         }
     }
 
-    /// Serves the lines of all doors, each door at a seat of its own, until no more lines come at
-    /// any of them. The calling thread does everything, in the order that the turns choose. It also
-    /// reads the control line, where each line `drain` starts draining.
+    /// Serves the connections of all doors, each door at a seat of its own, until no more
+    /// connections come at any of them. The calling thread does everything, in the order that the
+    /// turns choose. It waits by `sleeper` alone. It also reads the control line, where each line
+    /// `drain` starts draining.
     ///
     /// It cannot fail: what may fail was done by `new`.
     pub fn run<D: Door<Line = L> + Drop, I: ControlReader + Drop>(
@@ -99,7 +100,7 @@ impl<T: Turns + Drop, L: Line + Drop, C: Clock + Drop, K: QueueCore + Drop> Even
     ) -> EventLoopRun<L, D, C, I, K>
         requires ready { IsNewLoop K.machine K.comparisons self }
         requires doored { length doors.items ≡ self.config.seats }
-        // No door has a line that is open or was served, and no door is at its end.
+        // No door has a connection that is open or was served, and no door is at its end.
         requires new { All
             (λ door. IsNewDoor (door_seen D.is_out D.is_at_end D.lines_over door)) doors.items }
         // The turns are for this run.
@@ -108,13 +109,13 @@ impl<T: Turns + Drop, L: Line + Drop, C: Clock + Drop, K: QueueCore + Drop> Even
         // They know each seat.
         requires knows { KnowsAll self.config.seats (T.seats self.turns) (T.listed self.turns) (T.looks self.turns) }
         // There is one history of the steps of all clients and of the control line, each at the
-        // moment of a reading of the clock. The one-list machine takes this history, the core
-        // represents the machine after it, and each line received exactly the bytes that the
+        // moment of a reading of the clock. The one-list model takes this history, the core
+        // represents the model after it, and each connection received exactly the bytes that the
         // history prescribes for it.
         ensures served { result.is_over ≡ true → IsEventLoopRun C.given D.lines_over I.remaining I.may_fail
             K.machine K.comparisons self.config self.core.timed.time.clock control result }
-        // The same so far, however the run ended. The lines that are open received a beginning of
-        // what the history prescribes for them.
+        // The same so far, however the run ended. Each open connection has received a beginning of
+        // what the history prescribes for it.
         ensures so_far { IsEventLoopSoFar C.given L.seen D.lines_over D.is_out D.same I.remaining I.may_fail
             K.machine K.comparisons self.config doors.items self.core.timed.time.clock control result }
         // Along either history, each job that is handed out is the least one that the client may
@@ -142,13 +143,14 @@ impl<T: Turns + Drop, L: Line + Drop, C: Clock + Drop, K: QueueCore + Drop> Even
     }
 }
 
-/// Serves the lines of all doors, each door at a seat of its own, until no more lines come at any
-/// of them. The calling thread does everything. It also reads the control line, where each line
-/// `drain` starts draining. `turns` chooses what is done next.
+/// Serves the connections of all doors, each door at a seat of its own, until no more connections
+/// come at any of them. The calling thread does everything. It also reads the control line, where
+/// each line `drain` starts draining. `turns` chooses what is done next. `sleeper` is what the loop
+/// waits by.
 ///
 /// The error is `BadConfiguration` if the configuration is out of its ranges or the number of doors
 /// is not the number of seats. Otherwise it is `NoMemory` if an allocation failed, or the error of
-/// the turns. After any error no door was opened, and the doors are dropped.
+/// the turns or of the sleeper. With any error the doors come back, and none was opened.
 pub fn run_turns<
     T: Turns + Drop,
     L: Line + Drop,
@@ -172,18 +174,18 @@ pub fn run_turns<
     // They know each seat.
     requires knows { IfOk turns (λ t. KnowsAll config.seats (T.seats t) (T.listed t) (T.looks t)) }
     // There is one history of the steps of all clients and of the control line, each at the moment
-    // of a reading of the clock. The one-list machine takes this history, the core represents the
-    // machine after it, and each line received exactly the bytes that the history prescribes for
-    // it.
+    // of a reading of the clock. The one-list model takes this history, the core represents the
+    // model after it, and each connection received exactly the bytes that the history prescribes
+    // for it.
     ensures served { IfOk result (λ run. run.is_over ≡ true →
         IsEventLoopRun C.given D.lines_over I.remaining I.may_fail K.machine K.comparisons config clock control run) }
-    // The same so far, however the run ended. The lines that are open were written a beginning of
-    // what the history prescribes for them.
+    // The same so far, however the run ended. Each open connection has received a beginning of what
+    // the history prescribes for it.
     ensures so_far { IfOk result
         (IsEventLoopSoFar C.given L.seen D.lines_over D.is_out D.same I.remaining I.may_fail K.machine K.comparisons config doors.items clock control) }
-    // Along either history, each job that is handed out is the least one that the client may have. An
-    // undisturbed job is handed out at most once and in order. No job is lost before its deletion.
-    // Once draining has begun, no put is accepted.
+    // Along either history, each job that is handed out is the least one that the client may have.
+    // An undisturbed job is handed out at most once and in order. No job is lost before its
+    // deletion. Once draining has begun, no put is accepted.
     ensures headline { IfOk result (λ run. (served : IsEventLoopRun C.given D.lines_over I.remaining I.may_fail K.machine K.comparisons config clock control run)
         → AreJobsServedIn served.history.run) }
     ensures headline_so_far { IfOk result

@@ -157,8 +157,8 @@ fn take_turn<
     }
 }
 
-// Passes time. Returns how long the loop may wait, in milliseconds: not at all if an answer is left to
-// be sorted.
+// Passes time. Returns how long the loop may wait, in milliseconds: not at all if an answer is left
+// to be sorted.
 fn pass_time<C: Clock + Drop, K: QueueCore + Drop>(core: &mut LoopCore<C, K>) -> Option<u64>
     requires order { IsInOrder (state_of K.machine K.comparisons core.old) }
     ensures went { WentInOrder K.machine K.comparisons C.given 0 core.old [] [] core.new }
@@ -205,7 +205,8 @@ enum Extent {
 }
 
 // Does what a turn of a seat says, and returns what its last action moved or what was missing. All
-// answers are then put into the mail, unless this seat takes its own next.
+// answers are then put into the mail, unless this seat takes its own next. A seat between two
+// connections does nothing: it never waits at its door.
 fn serve_seat<L: Line + Drop, D: Door<Line = L>, C: Clock + Drop, K: QueueCore + Drop>(
     row: &mut Row<L, D>,
     core: &mut LoopCore<C, K>,
@@ -269,7 +270,8 @@ fn do_command<L: Line + Drop, D: Door<Line = L>, C: Clock + Drop, K: QueueCore +
     progress
 }
 
-// One action of a seat. If a step is to be submitted next, the seat submits it and looks for the answer.
+// One action of a seat. If a step is to be submitted next, the seat submits it and looks for the
+// answer.
 fn read_and_ask<L: Line + Drop, D: Door<Line = L>, C: Clock + Drop, K: QueueCore + Drop>(
     row: &mut Row<L, D>,
     core: &mut LoopCore<C, K>,
@@ -289,7 +291,8 @@ fn read_and_ask<L: Line + Drop, D: Door<Line = L>, C: Clock + Drop, K: QueueCore
     progress
 }
 
-// One action of a seat. If it submitted a step, the seat looks for the answer at once: mostly the core gave it.
+// One action of a seat. If it submitted a step, the seat looks for the answer at once: mostly the
+// core gave it.
 fn act_and_poll<L: Line + Drop, D: Door<Line = L>, C: Clock + Drop, K: QueueCore + Drop>(
     row: &mut Row<L, D>,
     core: &mut LoopCore<C, K>,

@@ -35,7 +35,7 @@ fn is_still_on<L: Line>(action: &Action, machine: &SeatMachine, line: &L, has_no
     }
 }
 
-// Returns true if the line has no bytes, and no answer that a read would delay waits.
+// Returns true if the connection has no bytes, and no answer that a read would delay waits.
 fn reads_nothing<L: Line>(machine: &SeatMachine, line: &L, has_none: bool) -> bool
     ensures gives { result ≡ true → L.may_give line.now ≡ false }
     ensures mail { result ≡ true → (has_none ≡ true) ⊎ ReadsWith false machine.now }

@@ -36,7 +36,9 @@ pub enum Turn {
     /// The control line is read.
     Control(ControlReads),
     /// The core takes a tick if something is due, and all answers are sorted into the mail of their
-    /// seats. The run ends here if all seats are done and the control line has ended.
+    /// seats. The run ends here if all seats are done and the control line has ended. Otherwise the
+    /// loop takes what the system has to report. It sleeps until there is something if nothing can
+    /// move.
     Time,
 }
 
@@ -85,7 +87,8 @@ pub struct Began<D, C, I> {
     pub control: Snapshot<I>,
 }
 
-/// The clock, the control line and the core at a turn, for the proofs alone: it has no bytes.
+/// The seats, the doors, the clock, the control line and the core at a turn, for the proofs alone:
+/// it has no bytes.
 #[derive(Drop)]
 pub struct SoFar<C, I, K> {
     pub clock: Snapshot<C>,
@@ -118,9 +121,8 @@ impl TurnsFault {
     }
 }
 
-/// Chooses the turns of a run, and waits for lines. It may note what lines are ready for, check for
-/// new lines at doors, and exchange read buffers. It cannot submit a step or take an answer, so
-/// nothing that it chooses or forgets makes an answer wrong.
+/// Chooses the turns of a run: the order in which the seats act. It has no seat, and nothing of the
+/// system. So nothing that it chooses makes an answer wrong, and it cannot forget a seat.
 pub trait Turns {
     /// How many seats they know.
     ghost seats: { Self → ℕ };
@@ -134,8 +136,7 @@ pub trait Turns {
     /// What is known of the run that these turns are for, by what it began with.
     ghost is_of: { {B : Type 0} → B → Type 0 };
 
-    /// Returns the next turn. It may wait here, but for no longer than `news.due`, and only after a
-    /// `Turn::Time`. `mails` are the answers that wait for each seat.
+    /// Returns the next turn. All but `news` is passed for the contract alone.
     fn next<
         L: Line + Drop,
         D: Door<Line = L>,
@@ -155,16 +156,16 @@ pub trait Turns {
         // `began` is what the run of these turns began with.
         requires of_run { is_of (beginning began.now.config.value began.now.doors.value.items began.now.clock.value
             (I.remaining began.now.control.value) (I.may_fail began.now.control.value)) }
-        // The promise, at this moment: there is one history of all steps so far, the core represents
-        // the machine after it, and each client has received the bytes that it is owed along it. If
-        // its line is open, it has received a beginning of them.
+        // The promise, at this moment: there is one history of all steps so far, the core
+        // represents the model after it, and each client has received the bytes that it is owed
+        // along it. If its connection is open, it has received a beginning of them.
         requires so_far { IsLoopSoFar C.given L.seen D.lines_over D.is_out D.same K.machine K.comparisons
             (beginning began.now.config.value began.now.doors.value.items began.now.clock.value
             (I.remaining began.now.control.value) (I.may_fail began.now.control.value))
             row.old.seats.items row.old.doors.items so_far.clock.value (I.seen so_far.control.value)
             (I.remaining so_far.control.value) so_far.core.value }
-        // No seat is forgotten: it acts, or it checks for a client, or nothing moves at it. Each seat
-        // that has mail was woken for it. A wait of `news.due` ends in time.
+        // No seat is forgotten: it acts, or it checks for a client, or nothing moves at it. Each
+        // seat that has mail was woken for it. A wait of `news.due` ends in time.
         requires turn { IsAtTurn L.may_give L.may_take K.machine K.comparisons (seats self.old) (listed self.old) (looks self.old)
             row.old.seats.items mails.now.items news.due news.control so_far.whole_core.value so_far.whole_control.value }
         ensures keeps { KeepsRow L.seen (door_seen D.is_out D.is_at_end D.lines_over) D.same row.old row.new }

@@ -1,5 +1,6 @@
-//! Lines that fail while others are served without damage. Only the last answer of a line that
-//! fails may be cut off. The client of that line sends 35 bytes and would receive 38.
+//! Connections that fail while others are served without damage. Only the last answer of a
+//! connection that fails may be cut off. The client of that connection sends 35 bytes and would
+//! receive 38.
 
 use crate::runs::come_out;
 use crate::series::Series;

@@ -1,6 +1,6 @@
 //! Tests of the run by an event loop, over doors in memory, by public functions alone. The tests
-//! choose the order in which the seats act, and lines read and write a few bytes at a time. The
-//! notation and the sessions that every run has to pass are those of `bq_serve_tests`.
+//! choose the order in which the seats act, and connections read and write a few bytes at a time.
+//! The notation and the sessions that every run has to pass are those of `bq_serve_tests`.
 #![tactic(auto)]
 
 #[cfg(test)]

@@ -34,7 +34,7 @@ pub enum Rule {
     Starved(usize),
     /// Any of them, by pseudo-random numbers.
     Any,
-    /// Each in its turn. A seat that rests acts only after it is woken, or its line is ready.
+    /// Each in its turn. A seat that rests acts only after it is woken, or its connection is ready.
     Woken,
     /// Each in its turn, with a command at a time in place of an action.
     Commands,

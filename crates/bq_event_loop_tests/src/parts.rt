@@ -1,7 +1,7 @@
 //! The notation of what clients do. The parts of a text are separated by ` + `. A part is bytes, as
 //! module `notation` has them; `after 9`, where the client sends no more until it has received 9
 //! bytes; `all 9`, where it waits until all clients together have received 9 bytes; `stops 9`,
-//! where it receives no bytes until then; or `fails`, where its line fails.
+//! where it receives no bytes until then; or `fails`, where its connection fails.
 
 /// A part of what a client does.
 #[derive(Clone, Copy)]
@@ -14,7 +14,7 @@ pub enum Part {
     All(u64),
     /// It receives no bytes until all clients together have received this many.
     Stops(u64),
-    /// Its line fails: each further read returns an error.
+    /// Its connection fails: each further read returns an error.
     Fails,
     /// Its input has ended.
     End,

@@ -34,7 +34,7 @@ fn clock_of(alloc: Global, readings: &'static str) -> ScriptClock {
     ScriptClock::new(script)
 }
 
-// Returns true if the lines of all doors are left as they have to be.
+// Returns true if the connections of all doors are left as they have to be.
 fn are_left_so(doors: Vec<ScriptDoor<'_>, Global>, setting: &Setting) -> bool {
     let mut are_right = true;
     let mut at: usize = 0;
@@ -60,7 +60,7 @@ fn turns_of<'t>(
 }
 
 /// Runs the doors of a run in a table, unless the turns have this fault. Returns true if this
-/// leaves the results at their lines that the table says. All tests use this one call.
+/// leaves the results at their connections that the table says. All tests use this one call.
 pub fn ran_so(
     alloc: Global,
     config: Config,
@@ -83,8 +83,8 @@ pub fn ran_so(
     }
 }
 
-// Returns true if a run has the results of the table, and opens each door once for each line and
-// once more.
+// Returns true if a run has the results of the table, and opens each door once for each connection
+// and once more.
 fn comes_out(alloc: Global, table: &Table, run: Run, setting: &Setting) -> bool {
     let all = Together::new();
     let config = config(run.doors.min(256) as u16, USUAL_BODY);

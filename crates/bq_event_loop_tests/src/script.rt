@@ -59,8 +59,8 @@ impl<'t> Script<'t> {
         client
     }
 
-    /// Returns true if it has received what it has to, but at most this many bytes, and its line
-    /// has ended as it has to.
+    /// Returns true if it has received what it has to, but at most this many bytes, and its
+    /// connection has ended as it has to.
     pub fn is_left_so(&self, most: usize, end: LineEnd) -> bool {
         match bytes_of(self.alloc, self.visit.receives) {
             Ok(bytes) => {

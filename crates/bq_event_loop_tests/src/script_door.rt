@@ -23,13 +23,13 @@ pub struct ScriptDoor<'t> {
     over: Vec<(IoLine<Script<'t>>, LineEnd), Global>,
     is_out: bool,
     is_at_end: bool,
-    // There is room for each line that is open or still to come.
+    // There is room for each connection that is open or still to come.
     ghost room: { vec_len over + (length coming.items + (if is_out then 1 else 0)) ≤ vec_capacity over },
 }
 
 impl<'t> ScriptDoor<'t> {
-    /// Returns true if no line is left to come, and each client was left as it has to be, but with
-    /// at most this many bytes.
+    /// Returns true if no connection is left to come, and each client was left as it has to be, but
+    /// with at most this many bytes.
     pub fn is_left_so(self, most: usize) -> bool {
         let ScriptDoor {
             seat: _,

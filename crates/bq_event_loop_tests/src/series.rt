@@ -19,19 +19,20 @@ pub enum Series {
     Timed,
     /// Control lines that give this and are read so far each time, with a clock that advances.
     Control(&'static [Gives], ControlReads),
-    /// Lines that pause once, after each number of bytes below this one.
+    /// Connections that pause once, after each number of bytes below this one.
     Cut(usize),
-    /// Each rule, and lines that read 1 to 5 bytes at a time, and write fewer the more they read.
+    /// Each rule, and connections that read 1 to 5 bytes at a time, and write fewer the more they
+    /// read.
     Few,
     /// Pauses in long answers.
     Long,
-    /// First lines that receive each number of bytes below this one, each with 17 settings, and
-    /// then fail.
+    /// First connections that receive each number of bytes below this one, each with 17 settings,
+    /// and then fail.
     WriteFails(usize),
-    /// First lines that receive this many bytes, with the same settings, and then would fail.
+    /// First connections that receive this many bytes, with the same settings, and then would fail.
     WriteAll(usize),
-    /// First lines that send each number of bytes below this one, each with 16 settings, and then
-    /// fail.
+    /// First connections that send each number of bytes below this one, each with 16 settings, and
+    /// then fail.
     ReadFails(usize),
 }
 
@@ -100,8 +101,8 @@ fn few(rule: Rule, more: usize) -> Setting {
     with_pauses(rule, (reads, reads), (writes, writes))
 }
 
-// Returns the numbers of bytes before the first pause of a line, and between two further ones: in
-// the head, after it, in the body, and before, in and after the last line end.
+// Returns the numbers of bytes before the first pause of a connection, and between two further
+// ones: in the head, after it, in the body, and before, in and after the last line end.
 fn pace(number: usize) -> Pace {
     match number {
         0 => (12, 1000),
@@ -128,7 +129,7 @@ fn both(number: usize) -> Setting {
     with_pauses(rule_of(number % RULES), FREE, pace)
 }
 
-// The first line receives all of this many bytes.
+// The first connection receives all of this many bytes.
 fn write_fails(number: usize, bytes: usize) -> Setting {
     let mut setting = if number < BOTH {
         both(number)

@@ -9,7 +9,7 @@ use bq_scenes::control::Gives;
 #[derive(Clone, Copy)]
 pub struct Setting {
     pub rule: Rule,
-    /// How many bytes reads and writes of a line move.
+    /// How many bytes reads and writes of a connection move.
     pub gives: Pace,
     pub takes: Pace,
     /// At the first door: after a client has sent this many bytes, each read of it fails.
@@ -30,8 +30,8 @@ pub fn at_first(door: usize, limit: usize) -> usize {
     if door == 0 { limit } else { usize::MAX }
 }
 
-/// Returns the settings of a run by this rule without faults, whose lines pause in this way when
-/// they are read and written, whose clock always reads the same, and whose control line has no
+/// Returns the settings of a run by this rule without faults, whose connections pause in this way
+/// when they are read and written, whose clock always reads the same, and whose control line has no
 /// text.
 pub fn with_pauses(rule: Rule, gives: Pace, takes: Pace) -> Setting {
     Setting {

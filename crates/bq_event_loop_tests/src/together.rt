@@ -1,8 +1,8 @@
-//! What the lines of a run have in common.
+//! What the connections of a run have in common.
 
 use std::sync::atomic::{AtomicBool, AtomicU64, Ordering};
 
-/// What the lines of a run have in common.
+/// What the connections of a run have in common.
 #[derive(Drop)]
 pub struct Together {
     written: AtomicU64,
@@ -20,12 +20,12 @@ impl Together {
         }
     }
 
-    /// Counts bytes that were written to one of the lines.
+    /// Counts bytes that were written to one of the connections.
     pub fn note_written(&self, count: usize) {
         self.written.fetch_add(count as u64, Ordering::SeqCst);
     }
 
-    /// Returns how many bytes were written to all lines.
+    /// Returns how many bytes were written to all connections.
     pub fn written(&self) -> u64 {
         self.written.load(Ordering::SeqCst)
     }
@@ -40,7 +40,7 @@ impl Together {
         self.opened.load(Ordering::SeqCst)
     }
 
-    /// Gives the run up: from now on each read and write of a line fails.
+    /// Gives the run up: from now on each read and write of a connection fails.
     pub fn give_up(&self) {
         self.has_given_up.store(true, Ordering::SeqCst);
     }

@@ -8,7 +8,7 @@ use std::alloc::Global;
 /// Ample room for what a client receives.
 const ROOM: usize = 1_000_000;
 
-/// A client of a run, and the result of its line.
+/// A client of a run, and the result of its connection.
 #[derive(Clone, Copy)]
 pub struct Visit {
     /// The number of the run in its table.
@@ -21,7 +21,7 @@ pub struct Visit {
     pub room: usize,
     /// What it receives, in the notation of `bq_serve_tests`.
     pub receives: &'static str,
-    /// How its line ends.
+    /// How its connection ends.
     pub end: LineEnd,
 }
 
@@ -47,11 +47,10 @@ pub struct Table {
 
 impl Table {
     /// Returns the runs that a text describes, with an empty line between one and the next. A line
-    /// has a client: what it does; after ` > ` what it receives; and after another ` > ` how its
-    /// line ends, unless that is by the end of its input. Each connects at a door of its own,
-    /// unless its line begins with `& `: then it connects at the door of the previous one, and
-    /// after it.
-    /// The text `examples` describes the runs that every run has to pass.
+    /// of the text has a client: what it does; after ` > ` what it receives; and after another ` >
+    /// ` how its connection ends, unless that is by the end of its input. Each connects at a door
+    /// of its own, unless its line begins with `& `: then it connects at the door of the previous
+    /// one, and after it. The text `examples` describes the runs that every run has to pass.
     pub fn of_text(alloc: Global, text: &'static str) -> Table {
         let mut table = Table {
             runs: Vec::new(alloc),

@@ -279,7 +279,7 @@ seat_looked d n seat known core once mails pending heard = record {
   others_took = λ t differs. refl;
 }
 
--- What is in order stays so as long as its machine does.
+-- What is in order stays so as long as its model does.
 pub order_on : (d n : MailState) → length n.mails ≡ length d.mails → n.core ≡ d.core → n.most ≡ d.most → n.known ≡ d.known → n.due ≡ d.due
     → (n.sorted ≡ true → n.pending ≡ []) → IsInOrder d → IsInOrder n
 order_on d n mails core most known due none o = record {

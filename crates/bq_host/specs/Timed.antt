@@ -18,7 +18,7 @@ pub record HasHeard {C : Type 0} (given : Gives C) (old : HeardClock C) (reading
   pub gave : GaveReadings given old.clock (reading ∷ []) new.clock
   pub heard : new.moment ≡ moment_heard old.moment reading
 
--- A new core with its clock: it has this machine, nothing was compared, and no reading was taken.
+-- A new core with its clock: it has this model, nothing was compared, and no reading was taken.
 pub record IsNewTimed {C K : Type 0} (machine : K → Machine) (compared : K → ℕ) (settings : Settings) (clock : C)
     (t : TimedCore C K) : Type 0 where
   pub core : machine t.core ≡ new_machine settings

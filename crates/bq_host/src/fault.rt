@@ -3,7 +3,7 @@ ghost use Rattle.bq_host.specs.FaultCodes.{run_fault_code};
 
 use thiserror::Error;
 
-/// The reason why a run did not begin. No line was opened, read or written.
+/// The reason why a run did not begin. No connection was opened, read or written.
 #[derive(Clone, Copy, Debug, PartialEq, Eq, Error)]
 pub enum RunFault {
     /// An allocation failed.

@@ -29,12 +29,12 @@ leaves_telling m n answer h less = record { keeps = h; waiting = omega arith }
 leaves_silent : (m n : Machine) → Keeps n → waiting_count n ≤ waiting_count m → Leaves m (silent n)
 leaves_silent m n h less = record { keeps = h; waiting = omega arith }
 
--- the seat is one of the machine's, and no other has its number
+-- the seat is one of the model's, and no other has its number
 record IsThere (m : Machine) (s : SeatRecord) : Type 0 where
   alone : All (λ t. t.number ≡ s.number → t ≡ s) m.seats
   seated : Contains m.seats s
 
--- the same machine with other jobs
+-- the same model with other jobs
 leaves_jobs : (m n : Machine) (answer : Answer) → Keeps n → n.seats ≡ m.seats → Leaves m (telling answer n)
 leaves_jobs m n answer h same = grind (arith, common_steps, leaves_telling)
 

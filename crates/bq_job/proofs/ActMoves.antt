@@ -9,7 +9,7 @@ use Rattle.bq_job.proofs.BecomeLemmas.{free_by_delay, held_not_ready, itself_tol
 use Rattle.bq_job.proofs.ChangeLemmas.{Becomes, JobsAfter, added, becomes_itself, changed, removed_one, unchanged}
 use Rattle.bq_job.proofs.{CommandKinds.kind_of, EachEvent.each_acted, LookupLemmas.found_job}
 
--- the ids of a machine's jobs
+-- the ids of a model's jobs
 abbrev pub Ids : Machine → Type 0
 Ids m = AreIdsWithin 1 m.jobs m.next_id
 

@@ -26,7 +26,7 @@ pub texts_cut : (bytes cut : List ℕ) (first : List Answer) (last : Answer) →
     → IsBeginning cut (answer_text last) → IsBeginning bytes (answers_text (first ++ last ∷ []))
 texts_cut bytes cut first last is b = grind (arith, common_steps, flat_map-append, append-nil, append_assoc)
 
--- What was written to a line that has ended is a first part of its answers' texts.
+-- What was written to a connection that has ended is a first part of its answers' texts.
 ended_begins : (over : LineEnd) (asked : List Request) (answers : List Answer) (written : List ℕ) → IsWritten over asked answers written
     → IsBeginning written (answers_text answers)
 ended_begins ends.Quit asked answers written w = begins_whole written (answers_text answers) w

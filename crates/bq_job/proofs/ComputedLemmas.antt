@@ -1,4 +1,4 @@
--- What is computed is a step of the machine.
+-- What is computed is a step of the model.
 use Rattle.std.proofs.Common.{ℕ, zero, suc, ◌≡◌, ◌≤◌, ◌<◌, true, false, ◌||◌, arith, refl, Option, Some, None, append_assoc, rules}
 use Rattle.std.proofs.lemmas.{Bool.{and_left, and_parts, cases_Bool}, Grind.common_steps}
 use Rattle.std.specs.List.{Contains, list_any}

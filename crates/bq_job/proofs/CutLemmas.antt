@@ -1,4 +1,4 @@
--- Answers line by line: where a list of them is cut.
+-- Answers connection by connection: where a list of them is cut.
 use Rattle.std.proofs.Common.{◌++◌, ◌+◌, ◌∷◌, ◌≡◌, ◌≤◌, List, [], ℕ, ap, arith, false, length, refl, suc}
 use Rattle.std.proofs.lemmas.{Bool.or_parts, Grind.common_steps}
 use Rattle.bq_job.specs.{beside.AreLinesServed, machine.has_closed, promise.LineOver, Types.Answer}
@@ -27,7 +27,7 @@ closes_unclosed [] h = refl
 closes_unclosed (answers.Closed ∷ xs) h = absurd (omega arith)
 closes_unclosed (x ∷ xs) h = closes_unclosed xs h
 
--- there is one `Closed` for each line, and all of them were taken
+-- there is one `Closed` for each connection, and all of them were taken
 pub parts_close : (mosts : List ℕ) (given : List Answer) → AreParts mosts given → closes given ≡ length mosts
 parts_close [] given h = ap closes h
 parts_close (most ∷ mosts) given h = grind (arith, common_steps, closes_append, unclosed_closes, parts_close mosts h.1 h.5)

@@ -1,5 +1,5 @@
--- What an event can do to the machine. A property of each possibility is a property of every
--- event's effect.
+-- What an event can do to the model. A property of each possibility is a property of every event's
+-- effect.
 use Rattle.std.proofs.{Common.{◌≡◌, Some, ℕ, arith, false, true}, lemmas.Bool.{cond_both, eqb-true}}
 use Rattle.std.proofs.lemmas.Grind.{common_steps}
 use Rattle.std.specs.List.{Contains}

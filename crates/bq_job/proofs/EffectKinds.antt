@@ -54,7 +54,7 @@ pub data Kind (m : Machine) (s : SeatRecord) (request : Request) : Effect → Ty
       → Kind m s request (telling answer m)
   -- lets the client wait for a job
   waits : (until : Option ℕ) → answers_wanted request ≡ 1 → is_waiting_request request ≡ true → Kind m s request (reserve_effect until m s)
-  -- puts a job within the limit while the machine isn't draining
+  -- puts a job within the limit while the model isn't draining
   adds : (pri delay ttr : ℕ) (body : List ℕ) → answers_wanted request ≡ 1 → m.draining ≡ false → is_full m.settings.max_jobs m.jobs ≡ false
       → Kind m s request (telling (answers.Inserted m.next_id) (after_put m (new_job m s pri delay ttr body)))
   -- removes the job that the request names, which no client holds or the client that asks does

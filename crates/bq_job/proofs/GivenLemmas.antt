@@ -1,5 +1,5 @@
--- What the seats did fits what the core did: the answers that a run gives a seat, line by line, are
--- those that the seat took.
+-- What the seats did fits what the core did: the answers that a run gives a seat, connection by
+-- connection, are those that the seat took.
 use Rattle.std.proofs.Common.{◌≡◌, ℕ, ◌+◌, ◌≤◌, ◌<◌, Bool, true, false, ◌&&◌, not, List, [], ◌∷◌, ◌++◌}
 use Rattle.std.proofs.Common.{map, length, refl, sym, ap, ◌∙◌, arith, subst, inl, inr, ◌⊎◌, append_assoc, rules}
 use Rattle.std.proofs.lemmas.{Bool.{and_parts, both_ways, cases_Bool}, Grind.common_steps, List.length-append}
@@ -21,7 +21,7 @@ is_here t e = not (is_tick e.what) && e.seat == t
 first_here : (t : ℕ) (e : Entry) (history : List Entry) → is_here t e ≡ true → steps_at t (e ∷ history) ≡ e.what ∷ steps_at t history
 first_here t e history h = grind (arith, common_steps, and_parts, cases_Bool)
 
--- the machine serves this seat
+-- the model serves this seat
 pub record Serves (t : ℕ) (m : Machine) : Type 0 where
   pub lawful : IsLawful m
   pub within : t < m.settings.seats
@@ -60,8 +60,8 @@ pub record GoesOn (t : ℕ) (more : List Step) (later : List Answer) (last : Mac
   pub steps_are : steps_at t history ≡ more
   pub answers_are : answers_to t given ≡ later
 
--- The line at the seat ends: it got at most as many answers as it wanted, then a `Closed`, and the
--- run goes on.
+-- The connection at the seat ends: it got at most as many answers as it wanted, then a `Closed`,
+-- and the run goes on.
 pub record LineEnds (t : ℕ) (most : ℕ) (more : List Step) (given : List Answer) (last : Machine) : Type 0 where
   pub part : List Answer
   pub later : List Answer
@@ -70,7 +70,7 @@ pub record LineEnds (t : ℕ) (most : ℕ) (more : List Step) (given : List Answ
   pub few : length part ≤ most
   pub goes : GoesOn t more later last
 
--- answers in front of the rest of a line
+-- answers in front of the rest of a connection
 ends_after : {t less : ℕ} {more : List Step} {given : List Answer} {last : Machine} (most : ℕ) (now all : List Answer)
     → has_closed now ≡ false → length now + less ≤ most → all ≡ now ++ given → LineEnds t less more given last
     → LineEnds t most more all last
@@ -125,7 +125,7 @@ own_entry : {t : ℕ} {m last : Machine} {e : Entry} {history : List Entry} {giv
     (what : Step) → e.what ≡ what → IsStep m e.moment t e.what o.outcome o.now o.next → IsStep m e.moment t what o.outcome o.now o.next
 own_entry {t = t} {m = m} {e = e} o what is step = subst (λ (x : Step). IsStep m e.moment t x o.outcome o.now o.next) is step
 
--- A connected line goes on to its end.
+-- A client that is connected stays so until its connection ends.
 pub line_ends : (t : ℕ) (m last : Machine) (history : List Entry) (given : List GivenAnswer) (ss more : List Step)
     → Serves t m → is_connected_at t m ≡ true → are_within ss ≡ true → Run m history given last
     → steps_at t history ≡ ss ++ steps.Close ∷ more
@@ -222,7 +222,7 @@ abbrev pub are_gone : List Step → Bool
 are_gone [] = true
 are_gone (step ∷ taken) = is_gone step && are_gone taken
 
--- No answer comes after the last line.
+-- No answer comes after the last connection.
 pub nothing_behind : (t : ℕ) (m last : Machine) (history : List Entry) (given : List GivenAnswer)
     → Serves t m → owing t m ≡ 0 → Run m history given last → are_gone (steps_at t history) ≡ true → answers_to t given ≡ []
 nothing_behind t m last [] given s none r gone = ap (answers_to t) ((run_of_none m last given r).0)
@@ -261,7 +261,7 @@ wanted_append [] ys = omega arith
 wanted_append (steps.Ask r ∷ xs) ys = omega (arith, wanted_append xs ys)
 wanted_append (step ∷ xs) ys = wanted_append xs ys
 
--- the requests of an open line: they are within the line, and want this many answers
+-- the requests of an open connection: they are within the connection, and want this many answers
 within_asked : (asked : List Request) (told : List Step) → are_within told ≡ true → are_within (map steps.Ask asked ++ told) ≡ true
 within_asked [] told h = h
 within_asked (r ∷ asked) told h = within_asked asked told h

@@ -41,8 +41,8 @@ is_done : (over : LineEnd) (asked : List Request) (own others : List Answer) (wr
 is_done v1 asked own others written a i w none =
     grind (arith, common_steps, cases_Bool, nothing_after, late_one)
 
--- A line that was given at most as many answers as it wanted is owed exactly those that it took and
--- wrote.
+-- A connection that was given at most as many answers as it wanted is owed exactly those that it
+-- took and wrote.
 line_owed : (size : ℕ) (line : LineOver) (own : List Step) (got part : List Answer) (l : IsLineServed size line own got)
     → part ≡ l.own ++ l.others → length part ≤ answered_count l.line_owed.steps.asked → IsLineOwed size line own part
 line_owed size line own got part l is few =
@@ -77,7 +77,7 @@ lines_owed size (line ∷ lines) own taken waiting given h parts is =
     shift xs ys zs = ap (λ (us : List Answer). us ++ zs) (sym (append_assoc xs ys (answers.Closed ∷ [])))
         ∙ append_assoc (xs ++ ys) (answers.Closed ∷ []) zs
 
--- In a new machine no seat is taken, and no client waits.
+-- In a new model no seat is taken, and no client waits.
 none_such : (t : ℕ) (q : SeatRecord → Bool) (xs : List ℕ) → ((n : ℕ) → q (empty_seat n) ≡ false)
     → list_any (λ (s : SeatRecord). s.number == t && q s) (map empty_seat xs) ≡ false
 none_such t q [] h = refl
@@ -89,7 +89,7 @@ starts_free t settings = none_such t (λ s. s.connected) (numbers 0 settings.sea
 starts_quiet : (t : ℕ) (settings : Settings) → owing t (new_machine settings) ≡ 0
 starts_quiet t settings = let h = none_such t is_waiting (numbers 0 settings.seats) (λ n. refl) in rw h refl
 
--- What the run gave the seat is what its lines are owed, and no answer is left.
+-- What the run gave the seat is what its connections are owed, and no answer is left.
 pub seat_owed : (settings : Settings) (size : ℕ) (t : ℕ) (lines : List LineOver) (own tail : List Step) (taken waiting : List Answer)
     (history : List Entry) (all : List GivenAnswer) (last : Machine)
     → t < settings.seats → are_gone tail ≡ true → Run (new_machine settings) history all last → steps_at t history ≡ own ++ tail
@@ -146,7 +146,7 @@ line_joined settings seat line readings history given last j = record {
   of_nobody_else = j.of_nobody_else;
 }
 
--- one more line has ended
+-- one more connection has ended
 pub lines_more : (size : ℕ) (lines : List LineOver) (line : LineOver) (submitted more : List Step) (taken got : List Answer)
     → AreLinesServed size lines submitted taken → IsLineServed size line more got
     → AreLinesServed size (lines ++ line ∷ []) (submitted ++ more) (taken ++ got)

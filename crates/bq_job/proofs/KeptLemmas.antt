@@ -26,7 +26,7 @@ pub record Kept (places : ℕ) (jobs : List Job) (seats : List SeatRecord) (next
   pub seated : map (λ s. s.number) seats ≡ numbers 0 places
   pub waits : All (λ s. is_open_wait s ≡ true) seats
 
--- the same of a machine
+-- the same of a model
 abbrev pub Keeps : Machine → Type 0
 Keeps m = Kept m.settings.seats m.jobs m.seats m.next_id m.draining
 

@@ -1,4 +1,4 @@
--- A new machine is lawful and stays so after every step, and a step gives few answers.
+-- A new model is lawful and stays so after every step, and a step gives few answers.
 use Rattle.std.proofs.Common.{ℕ, zero, suc, ◌≡◌, ◌≤◌, ◌<◌, ◌+◌, true, false, cond, List, [], ◌∷◌}
 use Rattle.std.proofs.Common.{map, length, arith, refl, sym, ap, ◌∙◌, subst, inl, inr, Option, Some, None, rules}
 use Rattle.std.proofs.lemmas.{Bool.{cases_Bool, cond_both, eq-eqb, le-leb, or_left, or_right}, Grind.common_steps}
@@ -174,7 +174,7 @@ only_tubes m =
     (all_weaker (λ t. Unit {0} × (is_tube t.name m ≡ true)) (λ t. is_tube t.name (forgetting m) ≡ true) (forgetting m).tubes (λ t c. c.1)
     (all_of_filter (λ t. Unit {0}) (λ t. is_tube t.name m) m.tubes (all_always (λ t. Unit {0}) m.tubes (λ t. tt))))
 
--- If no job is next and no wait ends next, forgetting tubes that do not exist makes the machine
+-- If no job is next and no wait ends next, forgetting tubes that do not exist makes the model
 -- lawful.
 pub lawful_when_done : (m : Machine) → Keeps m → Booked m → next_job m ≡ None → next_end m ≡ None → IsLawful (forgetting m)
 lawful_when_done m h b jobs ends = record {
@@ -192,7 +192,7 @@ lawful_when_done m h b jobs ends = record {
   counts = grind (arith, common_steps, list_all_from, le-leb);
 }
 
--- After dispatch and the ends of waits the machine is lawful.
+-- After dispatch and the ends of waits the model is lawful.
 pub lawful_when_served : (first : Machine) (handed ended : List GivenAnswer) (last : Machine) → Keeps first → Booked first
     → Serves first handed ended last → IsLawful last
 lawful_when_served first handed ended last h b s =
@@ -209,7 +209,7 @@ leaves_acted granted m seat what h = leaves_effect m seat what h
 leaves_acted growth_refused m seat what h = record { keeps = h; waiting = omega arith }
 leaves_acted share_refused m seat what h = record { keeps = h; waiting = omega arith }
 
--- A step leads from a lawful machine to a lawful one.
+-- A step leads from a lawful model to a lawful one.
 pub step_is_lawful : (first last : Machine) (at seat : ℕ) (what : Step) (outcome : Outcome) (given : List GivenAnswer) → IsLawful first
     → IsStep first at seat what outcome given last → IsLawful last
 step_is_lawful first last at seat what outcome given h s =
@@ -226,7 +226,7 @@ numbered : (low n : ℕ) → map (λ s. s.number) (map empty_seat (numbers low n
 numbered low zero = refl
 numbered low (suc n) = ap (λ ns. low ∷ ns) (numbered (suc low) n)
 
--- A new machine is lawful.
+-- A new model is lawful.
 pub new_is_lawful : (settings : Settings) → IsLawful (new_machine settings)
 new_is_lawful settings =
     search (rules, numbered, list_all_from, all_of_map, all_always, first_of_none_passes, list_any_not)
@@ -235,7 +235,7 @@ new_is_lawful settings =
 pub length_addressed : (seat : ℕ) (o : Option Answer) → length (addressed seat o) ≡ answer_count o
 length_addressed seat o = grind (arith, common_steps, cases_Bool)
 
--- as many seats as the machine was made with
+-- as many seats as the model was made with
 pub length_numbers : (low n : ℕ) → length (numbers low n) ≡ n
 length_numbers low zero = refl
 length_numbers low (suc n) = ap suc (length_numbers (suc low) n)

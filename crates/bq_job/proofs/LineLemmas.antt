@@ -35,7 +35,7 @@ first_line_is (a ∷ b ∷ bytes) l e =
         → (a ∷ b ∷ bytes) ≡ l.0 ++ 13 ∷ 10 ∷ l.1
     line_here a b bytes l t e = rw (← e) (grind (arith, nat_tests))
 
--- a byte in front of a line and its rest
+-- a byte in front of a command line and its rest
 first_line-onto : (a b : ℕ) (bytes after other line : List ℕ) → are_line_end a b ≡ false → b ∷ bytes ≡ line ++ 13 ∷ 10 ∷ after
     → first_line (line ++ 13 ∷ 10 ∷ other) ≡ Some (line, other) → first_line (a ∷ (line ++ 13 ∷ 10 ∷ other)) ≡ Some (a ∷ line, other)
 first_line-onto a b bytes after other line f e ih = search (rules, cases_Bool, common_steps)

@@ -66,7 +66,7 @@ current_is_gone size door taken answers d gone =
 
 module _ (settings : Settings) (history : List Entry) (all : List GivenAnswer) (last : Machine)
     (runs : Run (new_machine settings) history all last) where
-  -- The lines of a door without an open one are owed what the run gives the seat.
+  -- The connections of a door without an open one are owed what the run gives the seat.
   door_owed : (seat : ℕ) (door : DoorSoFar) → seat < settings.seats
       → (d : IsDoorOwedSoFar settings.max_job_size door (steps_at seat history) (answers_to seat all)) → are_gone d.current ≡ true
       → AreLinesOwed settings.max_job_size door.over d.own (answers_to seat all)

@@ -1,4 +1,4 @@
--- If every reference to a body is allocated, a step has one result.
+-- If no reference to a body is refused, a step has one result.
 use Rattle.std.proofs.Common.{ℕ, ◌≡◌, Bool, false, ◌||◌, List, [], ◌∷◌, refl, sym, ap, ◌∙◌, subst, Option, Some, None, arith}
 use Rattle.std.proofs.lemmas.{Bool.or_parts, Grind.common_steps}
 use Rattle.std.specs.List.{list_any}
@@ -8,7 +8,7 @@ use Rattle.bq_job.specs.machine.{has_refused_share, is_out_of_memory, is_share_r
 use Rattle.bq_job.specs.{beside.{ample, stepped}, machine.next_job, Types.Step}
 use Rattle.bq_job.proofs.{ComputedLemmas.stepped_is_step, DispatchLemmas.turn_of, LawfulLemmas.end_of}
 
--- two turns from one machine: the same answer, and the same machine
+-- two turns from one model: the same answer, and the same model
 abbrev IsSame : GivenAnswer → GivenAnswer → Machine → Machine → Type 0
 IsSame g h n o = (g ≡ h) × (n ≡ o)
 

@@ -15,7 +15,7 @@ none_in_chain : (Turns : Machine → GivenAnswer → Machine → Type 0) (first 
 none_in_chain Turns first [] last none chain = (refl, chain)
 none_in_chain Turns first (g ∷ given) last none chain = absurd (none g chain.0 chain.1)
 
--- no answers, and the same machine
+-- no answers, and the same model
 pub record IsQuiet (first : Machine) (handed ended : List GivenAnswer) (last : Machine) : Type 0 where
   pub none_handed : handed ≡ []
   pub none_ended : ended ≡ []

@@ -38,7 +38,7 @@ replay_more settings journal entry given more next last r step =
           ∙ ap (λ (xs : List GivenAnswer). given ++ xs) (append-nil more);
     }
 
--- Two runs from one machine over one journal give the same answers and end in the same machine.
+-- Two runs from one model over one journal give the same answers and end in the same model.
 one_run : (first last other : Machine) (journal : List JournalEntry) (taken others : List Transition)
     → GoesBy first taken last → map (λ t. t.entry) taken ≡ map entry_of journal → map (λ t. t.outcome) taken ≡ map outcome_of journal
     → GoesBy first others other → map (λ t. t.entry) others ≡ map entry_of journal → map (λ t. t.outcome) others ≡ map outcome_of journal

@@ -31,7 +31,7 @@ replies_telling : {b : Bool} (seat : ℕ) (m n : Machine) (answer : Answer) → 
     → connected_in seat n.seats ≡ connected_in seat m.seats → Replies seat 1 b m.seats (telling answer n)
 replies_telling seat m n answer stays w c = record { count = rw w refl; at_once = λ e. w; unclosed = rw stays refl; connected = c }
 
--- the same machine with other jobs
+-- the same model with other jobs
 replies_jobs : {b : Bool} (seat : ℕ) (m n : Machine) (answer : Answer) → waits_in seat m.seats ≡ false → is_closed_answer answer ≡ false
     → n.seats ≡ m.seats → Replies seat 1 b m.seats (telling answer n)
 replies_jobs seat m n answer w stays same = grind (arith, common_steps, replies_telling, waits_in, connected_in)

@@ -8,7 +8,7 @@ use Rattle.bq_job.specs.{machine.{new_machine, Machine.Machine}, promise.{GoesBy
 use Rattle.bq_job.proofs.{LawfulLemmas.new_is_lawful, OrderLemmas.{handed_in_order, ids_in_order, put_above, unborn}}
 use Rattle.bq_job.proofs.{SpentLemmas.handed_once, StepMoves.{Goes, parts_go, run_gone}}
 
--- a run from a new machine, as moves
+-- a run from a new model, as moves
 run_goes : (settings : Settings) (taken : List Transition) (last : Machine) → GoesBy (new_machine settings) taken last
     → Goes (new_machine settings) (happenings (parts_of_run taken)) last
 run_goes settings taken last goes = grind (arith, common_steps, parts_go, run_gone, new_is_lawful)

@@ -16,7 +16,7 @@ use Rattle.bq_job.proofs.{ChangeLemmas.move_of_jobs, KeptLemmas.{Keeps, ids_of_m
 use Rattle.bq_job.proofs.{DispatchLemmas.{next_is_least, turn_of}, ListLemmas.{all_always, all_of_map, list_any_with}}
 use Rattle.bq_job.proofs.JobMoves.{Fate, Move, Moves, handing, is_plain, moves_append, quiet}
 
--- The machine goes on by moves, in which this happens to jobs.
+-- The model goes on by moves, in which this happens to jobs.
 pub record Goes (m : Machine) (happened : List Happening) (n : Machine) : Type 0 where
   pub parts : List Part
   pub moves : Moves m parts n

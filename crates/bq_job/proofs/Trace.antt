@@ -3,8 +3,8 @@ use Rattle.std.proofs.Common.{◌++◌, ◌∙◌, ◌∷◌, ◌≡◌, List, [
 use Rattle.std.proofs.lemmas.{Grind.common_steps, List.length-map}
 use Rattle.bq_job.specs.machine.{Chain, DispatchTurn, Dispatches, EndsWaits, GivenAnswer, Machine.Machine, Serves, WaitEndTurn, forgetting}
 
--- A relation between a machine, the answers that are given from there on, and the machine after
--- them. It holds where nothing is given, and of two traces one after the other.
+-- A relation between a model, the answers that are given from there on, and the model after them.
+-- It holds where nothing is given, and of two traces one after the other.
 pub record IsTrace (So : Machine → List GivenAnswer → Machine → Type 0) : Type 0 where
   pub none : (m : Machine) → So m [] m
   pub joins : (a b c : Machine) (xs ys : List GivenAnswer) → So a xs b → So b ys c → So a (xs ++ ys) c

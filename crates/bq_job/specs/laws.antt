@@ -1,4 +1,4 @@
--- What happens to jobs and clients along any run of the machine.
+-- What happens to jobs and clients along any run of the model.
 pub mod Happenings
 pub mod LawsOfRuns
 pub mod LeastJob

@@ -1,4 +1,4 @@
--- The machine with one plain list of jobs: its state, its steps and its commands.
+-- The model with one plain list of jobs: its state, its steps and its commands.
 pub mod Acts
 pub mod Asked
 pub mod Changes

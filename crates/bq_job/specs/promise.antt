@@ -1,5 +1,5 @@
--- What a run promises: one history of all clients' steps, and what each line is owed along it; once
--- it has ended, and so far.
+-- What a run promises: one history of all clients' steps, and what each connection is owed along
+-- it; once it has ended, and so far.
 pub mod ControlDid
 pub mod CoreDid
 pub mod Headline

@@ -1,4 +1,4 @@
--- The requests that the bytes of a line contain.
+-- The requests that the bytes of a connection contain.
 pub mod CommandWords
 pub mod Line
 pub mod LineRead

@@ -46,9 +46,9 @@ pub enum Answer {
     TimedOut,
     /// `DEADLINE_SOON`: a job that the client holds has at most a second of its time to run left.
     DeadlineSoon,
-    /// `UNKNOWN_COMMAND`: the first word of the line names no command.
+    /// `UNKNOWN_COMMAND`: the first word of the command line names no command.
     UnknownCommand,
-    /// `BAD_FORMAT`: the line is too long, or its words do not fit its command.
+    /// `BAD_FORMAT`: the command line is too long, or its words do not fit its command.
     BadFormat,
     /// `JOB_TOO_BIG`: the body of a put is larger than the server accepts.
     JobTooBig,

@@ -39,7 +39,7 @@ pub fn parts_join()
         → IsHistoryOf settings doors control failed readings last }
 {}
 
-/// The same for a lone line.
+/// The same for a lone connection.
 pub fn line_joins()
     ensures { (settings : Settings) (seat : ℕ) (line : LineOver) (readings : List (Option ℕ))
         (history : List Entry) (given : List GivenAnswer) (last : Machine)
@@ -47,7 +47,7 @@ pub fn line_joins()
         → IsHistoryOfLine settings seat line readings }
 {}
 
-/// If one more line is served after the lines so far, all of them together are served.
+/// If one more connection is served after the connections so far, all of them together are served.
 #[tactic(auto, using(crate::proofs::JoinLemmas::lines_more))]
 pub fn one_line_more()
     ensures { (max_job_size : ℕ) (lines : List LineOver) (line : LineOver) (submitted more : List Step) (taken got : List Answer)
@@ -55,8 +55,8 @@ pub fn one_line_more()
         → AreLinesServed max_job_size (lines ++ line ∷ []) (submitted ++ more) (taken ++ got) }
 {}
 
-/// The headline as a whole, for a run over doors and for a lone line. If a run left a history of
-/// all clients' steps, the machine with one plain list of jobs takes that history in one run, and
+/// The headline as a whole, for a run over doors and for a lone connection. If a run left a history
+/// of all clients' steps, the model with one plain list of jobs takes that history in one run, and
 /// every client received exactly the bytes of its answers. In that run each job that is handed out
 /// is the least one that the client may have; an undisturbed job is handed out at most once and in
 /// order; no job is lost before its deletion; at most one client holds a job; and while draining no

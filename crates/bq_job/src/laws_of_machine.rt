@@ -1,4 +1,4 @@
-//! Laws of the machine: what holds of every step, whichever client takes it.
+//! Laws of the model: what holds of every step, whichever client takes it.
 ghost use Rattle.bq_job.specs.Types.{Answer, Step};
 ghost use Rattle.bq_job.specs.declared.step.Step.TheVariants.{Tick};
 ghost use Rattle.bq_job.specs.declared.answer.Answer.TheVariants.{Reserved};
@@ -9,7 +9,7 @@ ghost use Rattle.bq_job.specs.laws.{GetsLeast};
 ghost use Rattle.bq_job.specs.promise.{parts_of};
 ghost use Rattle.std.specs.Prelude.{ℕ, ◌≡◌, ◌+◌, ◌<◌, ◌≤◌, IsTrue, false, List, [], Some, length};
 
-/// From every machine there is a step with enough memory, and it can be computed.
+/// From every model there is a step with enough memory, and it can be computed.
 pub fn computed_is_step()
     ensures { (m : Machine) (at seat : ℕ) (what : Step)
         → IsStep m at seat what ample (stepped m at seat what).given (stepped m at seat what).machine }
@@ -22,13 +22,13 @@ pub fn dispatched_is_least()
         → DispatchTurn m (seat, Reserved id body) next → GetsLeast m seat id body }
 {}
 
-/// A new machine is lawful.
+/// A new model is lawful.
 pub fn new_machine_is_lawful()
     ensures { (settings : Settings) → IsLawful (new_machine settings) }
 {}
 
-/// Every step of a lawful machine leaves it lawful. So at most one connected client holds a job,
-/// and no client waits while a job that it may have is ready.
+/// Every step of a lawful model leaves it lawful. So at most one connected client holds a job, and
+/// no client waits while a job that it may have is ready.
 pub fn steps_keep_lawful()
     ensures { (first last : Machine) (at seat : ℕ) (what : Step) (outcome : Outcome) (given : List GivenAnswer)
         → IsLawful first → IsStep first at seat what outcome given last → IsLawful last }
@@ -49,7 +49,7 @@ pub fn steps_give_clients_their_answers()
         → GivesClient seat first what given last }
 {}
 
-/// Before the next due moment of a lawful machine, or at any moment if nothing is due, a tick gives
+/// Before the next due moment of a lawful model, or at any moment if nothing is due, a tick gives
 /// no answer and changes nothing but the moment.
 pub fn nothing_happens_before_it_is_due()
     ensures { (first last : Machine) (at seat : ℕ) (outcome : Outcome) (given : List GivenAnswer)
@@ -58,7 +58,7 @@ pub fn nothing_happens_before_it_is_due()
         → (given ≡ []) × (last ≡ at_moment at first) }
 {}
 
-/// A command whose answer says that it was not carried out leaves the machine as it was, whichever
+/// A command whose answer says that it was not carried out leaves the model as it was, whichever
 /// allocation failed, and no client is served after it.
 pub fn refused_commands_change_nothing()
     ensures { (first last : Machine) (at seat : ℕ) (what : Step) (outcome : Outcome) (given : List GivenAnswer) (answer : Answer)
@@ -67,8 +67,8 @@ pub fn refused_commands_change_nothing()
         → ChangesNothing (parts_of step) seat what answer given last }
 {}
 
-/// A step in which every reference to a body was allocated has one result: its answers and the
-/// machine after it are determined, even if the command was skipped for lack of memory.
+/// A step in which no reference to a body was refused has one result: its answers and the model
+/// after it are determined, even if the command was skipped for lack of memory.
 pub fn steps_have_one_result()
     ensures { (first last other : Machine) (at seat : ℕ) (what : Step) (outcome : Outcome) (given others : List GivenAnswer)
         → outcome.unshared ≡ false

@@ -17,7 +17,8 @@ pub fn all_gone_is_final()
         → IsHistoryOf settings (map (λ door. door.over) doors) control failed readings last }
 {}
 
-/// The lines of a door that has no open line are owed exactly what the final promise owes them.
+/// The connections of a door that has no open connection are owed exactly what the final promise
+/// owes them.
 pub fn idle_doors_are_owed()
     ensures { (settings : Settings) (readings : List (Option ℕ)) (history : List Entry) (given : List GivenAnswer)
         (last : Machine) (seat : ℕ) (door : DoorSoFar)

@@ -5,7 +5,7 @@ ghost use Rattle.bq_job.specs.machine.{GivenAnswer, IsStep, Machine.Machine, Set
 ghost use Rattle.bq_job.specs.beside.{Replay.Replay, outcome_of};
 ghost use Rattle.std.specs.Prelude.{◌≡◌, List, [], ◌∷◌, ◌++◌};
 
-/// The replay of an empty journal gives no answers and leads to a new machine.
+/// The replay of an empty journal gives no answers and leads to a new model.
 #[tactic(auto, using(crate::proofs::ReplayLemmas::replay_none))]
 pub fn replays_begin()
     ensures { (settings : Settings) → Replay settings [] [] (new_machine settings) }
@@ -20,7 +20,7 @@ pub fn replays_go_on()
         → Replay settings (journal ++ entry ∷ []) (given ++ more) last }
 {}
 
-/// A journal has at most one replay: the same answers and the same machine.
+/// A journal has at most one replay: the same answers and the same model.
 pub fn journals_have_one_replay()
     ensures { (settings : Settings) (journal : List Entry) (given others : List GivenAnswer) (last other : Machine)
         → Replay settings journal given last → Replay settings journal others other

@@ -1,4 +1,4 @@
-//! Laws about runs: what holds of every run of the machine, whatever its clients ask and whichever
+//! Laws about runs: what holds of every run of the model, whatever its clients ask and whichever
 //! allocations fail.
 ghost use Rattle.bq_job.specs.declared.answer.Answer.TheVariants.{Deleted, Inserted};
 ghost use Rattle.bq_job.specs.declared.job.Job.{Job};

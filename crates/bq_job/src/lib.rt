@@ -1,8 +1,8 @@
 //! The vocabulary of the work queue: jobs, tubes, requests, steps and answers.
 //!
-//! All promises of this repository are stated in the definitions under `specs/`: the machine with
-//! one list of jobs, the reading of a text into requests, the texts of answers, and what a client's
-//! line is owed.
+//! All promises of this repository are stated in the definitions under `specs/`: the model with one
+//! list of jobs, the reading of a text into requests, the texts of answers, and what a client's
+//! connection is owed.
 #![tactic(auto)]
 
 pub use answer::Answer;

@@ -6,7 +6,7 @@ ghost use Rattle.bq_job.specs.beside.Codes.{refusal_code};
 pub enum Refusal {
     /// The first word names no command: `UNKNOWN_COMMAND`.
     UnknownCommand,
-    /// The line is too long, or its words do not fit its command: `BAD_FORMAT`.
+    /// The command line is too long, or its words do not fit its command: `BAD_FORMAT`.
     BadFormat,
     /// The body of a put has more bytes than the server accepts: `JOB_TOO_BIG`.
     JobTooBig,

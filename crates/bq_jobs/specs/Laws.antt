@@ -1,4 +1,4 @@
--- Properties of the machine's definitions: what an addition does, and which job an id finds.
+-- Properties of the model's definitions: what an addition does, and which job an id finds.
 use Rattle.std.specs.Prelude.{◌≡◌, ℕ, ◌++◌, ◌∷◌, [], Bool, List, Some, None}
 use Rattle.bq_job.specs.declared.job.Job.{Job}
 use Rattle.bq_job.specs.machine.Changes.{first_of, job_with}

@@ -477,7 +477,7 @@ fn told_of(tubes: &Snapshot<NumberedTubes>, moved: Option<MovedRow>) -> Option<(
     ))
 }
 
-// Properties of the machine's definitions: what an addition does, and which job an id finds.
+// Properties of the model's definitions: what an addition does, and which job an id finds.
 
 /// A job whose id is above all others comes last.
 #[tactic(auto, using(crate::proofs::Changes::adds_at_the_end))]

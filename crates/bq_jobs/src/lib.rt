@@ -15,10 +15,9 @@
 //! - its box by id: 120 bytes;
 //! - its place in its tube or at its holder: 40;
 //! - its place among delays and leases: 40;
-//! - the vector of its body and the count of its owners: at most 48;
-//! - the bytes of its body: 64;
-//! - what a heap keeps beside each of these five pieces: at most 80;
-//! - together: at most 392.
+//! - its body and the count of the references to it: at most 80;
+//! - what a heap keeps beside each of these four pieces: at most 64;
+//! - together: at most 344.
 #![tactic(auto)]
 
 pub use ghost_name::GhostName;

@@ -41,7 +41,8 @@ pub enum Stage {
 /// that number.
 // Fields are in memory in this order: the ones that give the places of a job come first, next to
 // its key. The state is spread over three fields: an enum would take a word for its tag and its
-// seat, while here both follow three short numbers.
+// seat, while here both follow three short numbers. The body has the time to run with it, which
+// would take a word of its own otherwise.
 #[derive(Drop)]
 pub struct Row {
     /// The tube of its put. It never changes.

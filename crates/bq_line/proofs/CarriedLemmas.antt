@@ -50,7 +50,7 @@ none_begun (actions.Write answer) line = ap (λ w. record line { written = w }) 
 none_begun (actions.LineOver end) line = refl
 none_begun actions.Stray line = refl
 
--- If no answer is to be written, the line's record is the same.
+-- If no answer is to be written, the connection's record is the same.
 same_before : (action : Action) (sent : ℕ) (line : LineSeen) → ((answer : Answer) → action ≡ actions.Write answer → ⊥)
     → with_part action sent line ≡ line
 same_before (actions.Submit step) sent line other = refl
@@ -213,7 +213,8 @@ gone went P first last (actions.Write answer) submitted taken calls alone h c = 
 gone went P first last (actions.LineOver end) submitted taken calls alone h c = none P submitted taken c.0 c.1 (alone h)
 gone went P first last actions.Stray submitted taken calls alone h c = none P submitted taken c.0 c.1 (alone h)
 
--- What is known of a place follows from what is known of its action, which does not end the line.
+-- What is known of a place follows from what is known of its action, which does not end the
+-- connection.
 ends_at : {L : Type 0} (result : Progress) (line : L) (action : Action) (sent : ℕ) → ((end : LineEnd) → action ≡ actions.LineOver end → ⊥)
     → CanEnd result action → MayEndAt result (places.On line action sent)
 ends_at result line (actions.Submit step) sent other c = c

@@ -1,4 +1,4 @@
--- How events change the past of a line and what the line records.
+-- How events change the past of a connection and what the connection records.
 use Rattle.std.proofs.Common.{◌≡◌, ℕ, Bool, true, false, List, [], ◌∷◌, ◌++◌, Option, Some}
 use Rattle.std.proofs.Common.{None, is_some, length, refl, sym, ap, ◌∙◌, subst, append-nil, if◌then◌else◌}
 use Rattle.std.proofs.lemmas.List.Concat.{flat_map-append}
@@ -31,7 +31,7 @@ fault_keeps fault p = at (is_some p.fault)
     at true = (refl, refl)
     at false = (refl, refl)
 
--- the line recorded a fault after these bytes
+-- the connection recorded a fault after these bytes
 pub told_fault : (fault : LineFault) (old new : LineSeen) (written : List ℕ) (p : Past) → new ≡ with_line_fault fault old
     → old ≡ seen_line written p → new ≡ seen_line written (with_fault fault p)
 told_fault fault old new written p r s =

@@ -1,4 +1,4 @@
--- Decoding a line's numbers yields the line, whatever numbers follow.
+-- Decoding a connection's numbers yields the connection, whatever numbers follow.
 use Rattle.std.proofs.Common.{◌≡◌, refl, ap, ◌∙◌, ℕ, List, [], ◌∷◌, ◌++◌}
 use Rattle.std.specs.Prelude.{Bool, true, false, Option, Some, None}
 use Rattle.bq_job.specs.declared.line_end.LineEnd.{LineEnd}
@@ -29,7 +29,7 @@ fault_back None = refl
 fault_back (Some faults.Read) = refl
 fault_back (Some faults.Write) = refl
 
--- the three groups of a line
+-- the three groups of a connection
 abbrev groups_with_line : LineOver → List (List ℕ) → List (List ℕ)
 groups_with_line line groups =
     (number_of_end line.over ∷ number_of_flag line.seen.ended ∷ number_of_fault line.seen.fault ∷ []) ∷ line.seen.read

@@ -1,4 +1,4 @@
--- An open line so far, whatever action comes next: its steps, and what was written to it.
+-- An open connection so far, whatever action comes next: its steps, and what was written to it.
 use Rattle.std.proofs.Common.{◌≡◌, ℕ, zero, suc, List, [], ◌∷◌, ◌++◌, Option, Some, None, take}
 use Rattle.std.proofs.Common.{refl, sym, ap, ◌∙◌, subst, append_assoc}
 use Rattle.bq_job.specs.declared.answer.Answer.{Answer}
@@ -48,7 +48,7 @@ unbroken (Some fault) handed bytes none w = absurd cc
 
 -- ---- an open line
 
--- the line while an action is carried out that writes nothing
+-- the connection while an action is carried out that writes nothing
 quiet : (size : ℕ) (machine : SeatMachine) (line : LineSeen) (action : Action) (submitted more : List Step) (taken waiting : List Answer)
     → (o : IsOnLine size machine line action submitted taken) → (with_action action o.past).steps ≡ o.past.steps ++ more
     → (with_action action o.past).written ≡ o.past.written → (with_action action o.past).mail ≡ o.past.mail
@@ -72,7 +72,7 @@ quiet size machine line action submitted more taken waiting o steps_are written_
           (texts_more o.written (p.mail ++ p.late_mail) waiting (texts_more o.written p.mail p.late_mail begins)));
     }
 
--- the line while an answer is written
+-- the connection while an answer is written
 writing : (size : ℕ) (machine : SeatMachine) (line : LineSeen) (answer : Answer) (sent : ℕ) (submitted : List Step)
     (taken waiting : List Answer) → IsOnLine size machine line (actions.Write answer) submitted taken
     → IsLineOwedSoFar size (with_part (actions.Write answer) sent line) submitted (taken ++ waiting)
@@ -101,8 +101,8 @@ writing size machine line answer sent submitted taken waiting o =
     cut_begins (suc n) [] = ([], refl)
     cut_begins (suc n) (x ∷ text) = let more = cut_begins n text in (more.0, ap (λ (xs : List ℕ). x ∷ xs) more.1)
 
--- Whatever action comes next: the line's steps, and what was written to it, of the answers that were taken for it and those that
--- wait.
+-- Whatever action comes next: the connection's steps, and what was written to it, of the answers
+-- that were taken for it and those that wait.
 pub line_so_far : (size : ℕ) (machine : SeatMachine) (line : LineSeen) (action : Action) (sent : ℕ) (submitted : List Step)
     (taken waiting : List Answer) → IsOnLine size machine line action submitted taken
     → IsLineOwedSoFar size (with_part action sent line) submitted (taken ++ waiting)

@@ -1,4 +1,4 @@
--- Parts of a line in memory that are done.
+-- Parts of a connection in memory that are done.
 use Rattle.std.proofs.Common.{◌≡◌, ◌<◌, ◌≤◌, ℕ, ◌+◌, ◌-◌, zero, suc, Bool, true, false, ◌||◌, ◌==◌, IfSome, min, List}
 use Rattle.std.proofs.Common.{[], ◌∷◌, ◌++◌, refl, sym, ap, arith, append_assoc, length, take, drop, take-add, get_or, slice_get, nat_le}
 use Rattle.std.proofs.lemmas.Bool.Decides.{nat_tests}
@@ -59,7 +59,7 @@ passed_fault (first ∷ more) zero offset part lt is fault =
 passed_fault (first ∷ more) (suc place) offset part lt is fault =
     ap (λ bytes. part_bytes first ++ bytes) (passed_fault more place offset part (omega arith) is fault)
 
--- A read that returns bytes does not end the line's input.
+-- A read that returns bytes does not end the connection's input.
 pub still_open : (ended : Bool) (n : ℕ) → 0 < n → ended ≡ (ended || n == 0)
 still_open true n some = refl
 still_open false n some = grind (arith, nat_tests)

@@ -35,7 +35,7 @@ use Rattle.bq_line.specs.Writing.{BreaksOff, with_written}
 use Rattle.bq_seat.proofs.OrderlyLemmas.{orderly}
 use Rattle.bq_line.proofs.EventLemmas.{cut_off, taken_at_fault, taken_at_mail, told_fault, writes_at_mail, writes_still, wrote}
 
--- The awaited event happened, and the machine continues with this action.
+-- The awaited event happened, and the seat machine continues with this action.
 goes_on : (size : ℕ) (old new : SeatMachine) (seen later : LineSeen) (written : List ℕ) (event : Event) (action next : Action)
     (before : List Step) (got : List Answer) (submitted : List Step) (taken : List Answer)
     → (s : IsOnLine size old seen action before got) → IsMove old event next new → answers event (awaited old) ≡ true
@@ -175,7 +175,7 @@ read_fault_on size old new seen later next submitted taken told move s =
     (told_fault faults.Read seen later s.written p told s.seen_is) (taken_at_fault faults.Read p submitted s.submitted_is)
     (s.taken_is ∙ sym (mail_at_fault faults.Read p)) (writes_still p s.written s.writes)
 
--- A read of the line resulted in this event.
+-- A read of the connection resulted in this event.
 read_on : (result : Progress) (size : ℕ) (old new : SeatMachine) (seen later : LineSeen) (event : Event) (next : Action)
     (submitted : List Step) (taken : List Answer)
     → IsReadAs result seen event later → IsMove old event next new → IsOnLine size old seen actions.Read submitted taken
@@ -199,7 +199,7 @@ read_on results.Moved size old new seen later events.ReadFault next submitted ta
     read_fault_on size old new seen later next submitted taken told move s
 read_on _ size old new seen later _ next submitted taken told move s = absurd told
 
--- what was written of the answers given for writing, depending on how the line ended
+-- what was written of the answers given for writing, depending on how the connection ended
 written_of : (end : LineEnd) (fault : Option LineFault) (asked : List Request) (own : List Answer) (written : List ℕ) → IsFaultOf end fault
     → IsWrittenSo fault own written → IsWritten end asked own written × IsNoneUnwritten end own written
 written_of ends.Quit fault asked own written f w = (subst (λ (o : Option LineFault). IsWrittenSo o own written) f w, tt)
@@ -208,7 +208,7 @@ written_of ends.ReadFault fault asked own written f w =
     let all : written ≡ answers_text own = subst (λ (o : Option LineFault). IsWrittenSo o own written) f w in (inl all, all)
 written_of ends.WriteFault fault asked own written f w = (subst (λ (o : Option LineFault). IsWrittenSo o own written) f w, tt)
 
--- A line that has ended was served.
+-- A connection that has ended was served.
 pub line_served : (size : ℕ) (machine : SeatMachine) (seen : LineSeen) (end : LineEnd) (submitted : List Step) (taken : List Answer)
     → IsOnLine size machine seen (actions.LineOver end) submitted taken
     → IsLineServed size (record { seen = seen; over = end }) submitted taken
@@ -271,7 +271,7 @@ turn_counts steps.Drain taken mail h = refl
 turn_counts steps.Tick taken mail h = absurd h
 turn_counts steps.Gone taken mail h = refl
 
--- The line continues with each action that was carried out.
+-- The connection continues with each action that was carried out.
 pub carried_on : (result : Progress) (size : ℕ) (old new : SeatMachine) (seen later : LineSeen) (action next : Action)
     (submitted more : List Step) (taken got : List Answer)
     → Carried result old seen action new later next more got → IsOnLine size old seen action submitted taken
@@ -331,7 +331,7 @@ carried_on result size old new seen later (actions.LineOver end) next submitted 
 carried_on result size old new seen later actions.Stray next submitted more taken got h s =
     left_on result size old new seen later actions.Stray next submitted more taken got h s
 
--- An unused line is opened.
+-- An unused connection is opened.
 pub opened_on : (size : ℕ) (old new : SeatMachine) (action : Action) (seen : LineSeen) → awaited old ≡ Awaited.ALine
     → old.reader.max_job_size ≡ size → IsMove old events.Opened action new → seen ≡ new_line → IsOnLine size new seen action [] []
 opened_on size old new action seen waits same move fresh =

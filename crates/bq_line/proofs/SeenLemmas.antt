@@ -1,4 +1,4 @@
--- What a line records equals another record if all four fields are equal.
+-- What a connection records equals another record if all four fields are equal.
 use Rattle.std.proofs.Common.{◌≡◌}
 use Rattle.bq_job.specs.promise.LineSteps.{LineSeen}
 

@@ -1,4 +1,4 @@
--- What calls of a stream mean for a line over it.
+-- What calls of a stream mean for a connection over it.
 use Rattle.std.proofs.Common.{◌≡◌, ◌<◌, ◌==◌, ◌||◌, ℕ, Bool, true, false, List, [], ◌∷◌, ◌++◌, Option, Some, None}
 use Rattle.std.proofs.Common.{IfSome, Result, Ok, Err, length, take, refl, sym, ap, ◌∙◌, append-nil, arith, subst, if◌then◌else◌}
 use Rattle.std.proofs.KnownBytes.{Appends-kept, Appends-trans, Consumes-kept, Consumes-trans, Consumes-whole}
@@ -30,7 +30,7 @@ by_either : (ended none : Bool) (A : Type 0) → (ended ≡ true → A) → (non
 by_either true none A first second either = first refl
 by_either false none A first second either = second either
 
--- A line that read these bytes is over the stream that returned them.
+-- A connection that read these bytes is over the stream that returned them.
 read_bytes : (first old new : StreamSeen) (line : LineSeen) (n : ℕ) (buf : List ℕ) → 0 < length buf
     → Consumes old.left new.left (take n buf) × (n ≡ 0 → 0 < length buf → IsAtEnd new.left) → Keeps old.held new.held
     → new.may_fail ≡ old.may_fail → LiesOver first line old
@@ -88,7 +88,8 @@ read_on : (first old new : StreamSeen) (line : LineSeen) (result : Result ℕ St
 read_on first old new line (Ok n) buf room gave apart same cause over = read_bytes first old new line n buf room gave apart same over
 read_on first old new line (Err e) buf room gave apart same cause over = failed_on first old new line e gave apart same cause over
 
--- A line that read these bytes, some of them from its buffer, is over the stream with what is left.
+-- A connection that read these bytes, some of them from its buffer, is over the stream with what is
+-- left.
 pub read_more : (first old new : StreamSeen) (line : LineSeen) (bytes all : List ℕ) → all ≡ line.read ++ bytes
     → Consumes old.left new.left bytes → Keeps old.held new.held → new.may_fail ≡ old.may_fail → LiesOver first line old
     → LiesOver first (record line { read = all }) new
@@ -101,13 +102,13 @@ read_more first old new line bytes all all_is gave apart same over =
       fault = over.fault;
     })
 
--- what holds of a line and its stream, under equal names
+-- what holds of a connection and its stream, under equal names
 noted_so : (first gave new : StreamSeen) (noted later : LineSeen) → later ≡ noted → new ≡ gave → LiesOver first noted gave
     → LiesOver first later new
 noted_so first gave new noted later is stays over =
     subst (LiesOver first later) (sym stays) (subst (λ seen. LiesOver first seen gave) (sym is) over)
 
--- The line recorded the result of a read of its stream.
+-- The connection recorded the result of a read of its stream.
 pub read_noted : (first old gave new : StreamSeen) (line later : LineSeen) (result : Result ℕ StreamError) (buf : List ℕ) (room : ℕ)
     → length buf ≡ room → 0 < room → ReadConsumes old.left gave.left result buf → Keeps old.held gave.held
     → gave.may_fail ≡ old.may_fail → FailsIf old.may_fail result → later ≡ after_read result buf line → new ≡ gave
@@ -116,7 +117,7 @@ read_noted first old gave new line later result buf room length_is some took apa
     noted_so first gave new (after_read result buf line) later noted stays
     (read_on first old gave line result buf (subst (λ n. 0 < n) (sym length_is) some) took apart same cause over)
 
--- The line recorded that a read of its stream failed.
+-- The connection recorded that a read of its stream failed.
 pub failed_noted : (first old gave new : StreamSeen) (line later : LineSeen) (e : StreamError) → Keeps old.left gave.left
     → Keeps old.held gave.held → gave.may_fail ≡ old.may_fail → HasCause old.may_fail e
     → later ≡ after_fill (Err e) line → new ≡ gave → LiesOver first line old → LiesOver first later new
@@ -135,7 +136,7 @@ refused_on first old new line errors.Fault kept apart same cause over =
     nothing_moved first old new line (with_line_fault faults.Write line) kept apart same (λ sure. neither old.may_fail cause sure) refl refl
     refl over
 
--- The line recorded that a write to its stream failed.
+-- The connection recorded that a write to its stream failed.
 pub refused_noted : (first old gave new : StreamSeen) (line later : LineSeen) (e : StreamError) → Keeps old.left gave.left
     → Keeps old.held gave.held → gave.may_fail ≡ old.may_fail → HasCause old.may_fail e
     → later ≡ after_write (Err e) [] line → new ≡ gave → LiesOver first line old → LiesOver first later new

@@ -46,7 +46,7 @@ tends_beside seen a door next out ended over =
     (subst (λ (e : Bool). P door.is_out e next.lines_over) (sym ended)
     (subst (λ (l : List LineOver). P door.is_out door.is_at_end l) (sym over) (tends_still seen a door)))
 
--- A line was opened.
+-- A connection was opened.
 pub tends_opened : {L : Type 0} (seen : L → LineSeen) (old new : SeatMachine) (line : L) (action : Action) (door next : DoorSeen)
     → IsMove old events.Opened action new → next.lines_over ≡ door.lines_over → next.is_out ≡ true → next.is_at_end ≡ false
     → seen line ≡ new_line
@@ -68,7 +68,7 @@ tends_opened seen old new line action door next move over out more fresh size be
       placed = (out, more);
     })
 
--- No more lines come.
+-- No more connections come.
 pub tends_at_end : {L : Type 0} (seen : L → LineSeen) (machine : SeatMachine) (door next : DoorSeen)
     → next.lines_over ≡ door.lines_over → next.is_out ≡ false → next.is_at_end ≡ true
     → Tends seen (attendant machine places.Between) door [] [] (attendant machine places.Leaving) next
@@ -89,7 +89,7 @@ tends_at_end seen machine door next over inside ended size before got t =
       placed = (inside, ended);
     })
 
--- A line that has ended was shut.
+-- A connection that has ended was shut.
 pub tends_shut : {L : Type 0} (seen : L → LineSeen) (machine : SeatMachine) (line : L) (end : LineEnd) (sent : ℕ) (door next : DoorSeen)
     → next.lines_over ≡ door.lines_over ++ record { seen = seen line; over = end } ∷ [] → next.is_out ≡ false
     → next.is_at_end ≡ door.is_at_end
@@ -116,7 +116,7 @@ tends_shut seen machine line end sent door next left inside still size before go
       placed = (inside, still ∙ t.placed.1);
     })
 
--- An action of the line was carried out, or a part of it.
+-- An action of the connection was carried out, or a part of it.
 tends_carried : {L : Type 0} (result : Progress) (seen : L → LineSeen) (old new : SeatMachine) (line later : L)
     (action next : Action) (sent now : ℕ) (submitted : List Step) (taken : List Answer) (door : DoorSeen)
     → CarriesOn result old (seen line) action sent new (seen later) next now submitted taken
@@ -186,7 +186,7 @@ pub tends_from : {L : Type 0} (seen : L → LineSeen) (machine : SeatMachine) (p
 tends_from {L} seen machine place same door next later e h =
     subst (λ (q : LinePlace L). Tends seen (attendant machine q) door [] [] later next) (sym e) h
 
--- The open line was given a hint, and its record is unchanged.
+-- The open connection was given a hint, and its record is unchanged.
 pub tends_told : {L : Type 0} (seen : L → LineSeen) (machine : SeatMachine) (line later : L) (action : Action) (sent : ℕ) (door : DoorSeen)
     → seen later ≡ seen line → Tends seen (attendant machine (places.On line action sent)) door [] []
     (attendant machine (places.On later action sent)) door

@@ -25,8 +25,8 @@ IsWrittenSo None handed written = written ≡ answers_text handed
 IsWrittenSo (Some faults.Read) handed written = written ≡ answers_text handed
 IsWrittenSo (Some faults.Write) handed written = IsCutOff handed written
 
--- An open line while this action is carried out: the steps and answers submitted and taken for it
--- up to the event that the action answers.
+-- An open connection while this action is carried out: the steps and answers submitted and taken
+-- for it up to the event that the action answers.
 pub record IsOnLine (max_job_size : ℕ) (machine : SeatMachine) (seen : LineSeen) (action : Action)
     (submitted : List Step) (taken : List Answer) : Type 0 where
   pub past : Past
@@ -40,7 +40,7 @@ pub record IsOnLine (max_job_size : ℕ) (machine : SeatMachine) (seen : LineSee
   pub awaits : awaited_by action ≡ Some (awaited machine)
   pub limit_is : machine.reader.max_job_size ≡ max_job_size
 
--- what was done for the open line
+-- what was done for the open connection
 abbrev pub IsAt : {L : Type 0} → (L → LineSeen) → ℕ → SeatMachine → LinePlace L → List Step → List Answer → Type 0
 IsAt seen max_job_size machine places.Between submitted taken =
     (submitted ≡ []) × (taken ≡ []) × (awaited machine ≡ Awaited.ALine) × (machine.reader.max_job_size ≡ max_job_size)
@@ -49,7 +49,7 @@ IsAt seen max_job_size machine (places.On line action sent) submitted taken =
 IsAt seen max_job_size machine places.Leaving submitted taken = (submitted ≡ []) × (taken ≡ [])
 IsAt seen max_job_size machine places.Done submitted taken = (submitted ≡ Gone ∷ []) × (taken ≡ [])
 
--- What a seat did: the lines that have ended, and then the open one.
+-- What a seat did: the connections that have ended, and then the open one.
 pub record IsAttending {L : Type 0} (seen : L → LineSeen) (max_job_size : ℕ) (machine : SeatMachine) (place : LinePlace L)
     (lines : List LineOver) (submitted : List Step) (taken : List Answer) : Type 0 where
   pub before : List Step

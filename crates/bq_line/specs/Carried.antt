@@ -1,4 +1,5 @@
--- The result of carrying out an action: which event it was, and what the line and the link did.
+-- The result of carrying out an action: which event it was, and what the connection and the link
+-- did.
 use Rattle.std.specs.Prelude.{ℕ, true, ◌≡◌, ◌⊎◌, List, [], ◌∷◌, ◌++◌}
 use Rattle.bq_job.specs.declared.answer.Answer.{Answer}
 use Rattle.bq_job.specs.declared.step.Step.{Step}
@@ -18,7 +19,7 @@ use Rattle.bq_seat.specs.declared.machine.Event.{Event}
 use Rattle.bq_seat.specs.declared.machine.Event.TheVariants as events
 use Rattle.bq_seat.specs.declared.machine.SeatMachine.{SeatMachine}
 
--- the result of one read of a line
+-- the result of one read of a connection
 abbrev pub IsReadAs : Progress → LineSeen → Event → LineSeen → Type 0
 IsReadAs results.Moved seen (events.Bytes piece) later = later ≡ record seen { read = seen.read ++ piece.now }
 IsReadAs results.Moved seen events.EndOfInput later = later ≡ record seen { ended = true }
@@ -74,14 +75,14 @@ Carried result old seen (actions.LineOver end) new later next submitted taken =
 Carried result old seen actions.Stray new later next submitted taken =
     IsLeft result old seen actions.Stray new later next submitted taken
 
--- A seat read its line with this result. The line lies over the same stream.
+-- A seat read its connection with this result. The connection lies over the same stream.
 abbrev pub ReadsLine : {L : Type 0} → (L → LineSeen) → (StreamSeen → L → Type 0) → Progress → SeatMachine → L → SeatMachine → L → Action
     → Type 0
 ReadsLine seen lies_over result old line new later next =
     Carried result old (seen line) actions.Read new (seen later) next [] [] × StaysOver lies_over line later
 
--- What a line records while this action is carried out: if the action writes an answer, `sent`
--- bytes of it are written.
+-- What a connection records while this action is carried out: if the action writes an answer,
+-- `sent` bytes of it are written.
 abbrev pub with_part : Action → ℕ → LineSeen → LineSeen
 with_part (actions.Write answer) sent line = with_begun (answer_text answer) sent line
 with_part _ sent line = line
@@ -107,7 +108,7 @@ MayCall (actions.Submit step) submitted taken = Unit {0}
 MayCall actions.PollMail submitted taken = Unit {0}
 MayCall _ submitted taken = (submitted ≡ []) × (taken ≡ [])
 
--- The action was carried out, or a further part of it. `first` and `last` are what the line
+-- The action was carried out, or a further part of it. `first` and `last` are what the connection
 -- recorded before and after, not counting an answer of which only a part is written.
 abbrev pub CarriesOn : Progress → SeatMachine → LineSeen → Action → ℕ → SeatMachine → LineSeen → Action → ℕ → List Step → List Answer
     → Type 0

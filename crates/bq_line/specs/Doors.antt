@@ -1,15 +1,15 @@
--- What a door does with its lines.
+-- What a door does with its connections.
 use Rattle.std.specs.Prelude.{◌≡◌, Bool, true, false, Option, Some, None, Result, Ok, Err}
 use Rattle.bq_job.specs.promise.LineSteps.{LineSeen}
 use Rattle.bq_line.specs.LineCalls.{new_line}
 use Rattle.bq_line.specs.declared.door.Opening.{Opening}
 use Rattle.bq_line.specs.declared.door.Opening.TheVariants as openings
 
--- No line is open, and more may come.
+-- No connection is open, and more may come.
 abbrev pub MayOpen : Bool → Bool → Type 0
 MayOpen is_out is_at_end = (is_out ≡ false) × (is_at_end ≡ false)
 
--- An unused line was opened, or the door has ended.
+-- An unused connection was opened, or the door has ended.
 abbrev pub IsOpened : {L E : Type 0} → (L → LineSeen) → Bool → Bool → Result (Option L) E → Type 0
 IsOpened seen is_out is_at_end (Ok (Some line)) = (is_out ≡ true) × (is_at_end ≡ false) × (seen line ≡ new_line)
 IsOpened seen is_out is_at_end (Ok None) = (is_out ≡ false) × (is_at_end ≡ true)
@@ -31,7 +31,7 @@ IfLine (Ok openings.Later) P = Unit {0}
 IfLine (Ok openings.NoMore) P = Unit {0}
 IfLine (Err e) P = Unit {0}
 
--- No line was opened, and no fault was met.
+-- No connection was opened, and no fault was met.
 abbrev pub IsNoneFound : {L E : Type 0} → Result (Opening L) E → Type 0
 IsNoneFound (Ok (openings.Line line)) = ⊥
 IsNoneFound (Ok openings.NotYet) = Unit {0}
@@ -39,7 +39,7 @@ IsNoneFound (Ok openings.Later) = Unit {0}
 IsNoneFound (Ok openings.NoMore) = Unit {0}
 IsNoneFound (Err e) = ⊥
 
--- No more lines come.
+-- No more connections come.
 abbrev pub IsNoMore : {L : Type 0} → Opening L → Type 0
 IsNoMore openings.NoMore = Unit {0}
 IsNoMore _ = ⊥

@@ -1,4 +1,4 @@
--- The parts of a line in memory, and how far they were read.
+-- The parts of a connection in memory, and how far they were read.
 use Rattle.std.specs.Prelude.{ℕ, zero, suc, ◌+◌, ◌<◌, ◌≡◌, List, [], ◌∷◌, ◌++◌, take, drop, length}
 use Rattle.std.specs.Prelude.{Bool, true, false, nat_le, if◌then◌else◌, Option, Some, None, Result, Ok, Err}
 use Rattle.bq_line.specs.LineCalls.{is_nothing_yet}
@@ -23,7 +23,7 @@ all_bytes [] = []
 all_bytes (part ∷ more) = part_bytes part ++ all_bytes more
 
 -- whether a part is done, given how many of its bytes were read and how many bytes were written to
--- the line
+-- the connection
 abbrev pub is_over : ℕ → ℕ → Part → Bool
 is_over offset written (parts.Bytes bytes) = nat_le (length bytes.items) offset
 is_over offset written (parts.AfterWritten count) = nat_le count written

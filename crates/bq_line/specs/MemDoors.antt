@@ -1,4 +1,4 @@
--- The lines of a door in memory.
+-- The connections of a door in memory.
 use Rattle.std.specs.Prelude.{◌≡◌}
 use Rattle.bq_job.specs.declared.line_end.LineEnd.{LineEnd}
 use Rattle.bq_job.specs.promise.History.{LineOver}
@@ -7,7 +7,7 @@ use Rattle.bq_job.specs.promise.LineSteps.{LineSeen}
 use Rattle.bq_line.specs.LineParts.{bytes_up_to}
 use Rattle.bq_line.specs.declared.line.mem_line.MemLine.{MemLine}
 
--- what a line in memory records
+-- what a connection in memory records
 abbrev pub seen_of : MemLine → LineSeen
 seen_of line = record {
   read = bytes_up_to line.parts.items line.place line.offset;
@@ -20,10 +20,10 @@ seen_of line = record {
 abbrev pub KeepsPartsAndRoom : MemLine → MemLine → Type 0
 KeepsPartsAndRoom old new = (new.parts ≡ old.parts) × (new.room ≡ old.room)
 
--- the line is unused
+-- the connection is unused
 abbrev pub IsFresh : MemLine → Type 0
 IsFresh line = seen_of line ≡ new_line
 
--- a line that was shut, as it records itself
+-- a connection that was shut, as it records itself
 abbrev pub line_over : MemLine × LineEnd → LineOver
 line_over over = record { seen = seen_of over.0; over = over.1 }

@@ -58,10 +58,10 @@ IsWatched is_nonblocking ready stream = IsSome ready × (is_nonblocking true str
 abbrev pub MovesNothing : {S : Type 0} → (S → Option (List ℕ)) → (S → Option (List ℕ)) → S → S → Type 0
 MovesNothing remaining contents old new = Keeps (remaining old) (remaining new) × Keeps (contents old) (contents new)
 
--- The line is over a stream that had the state `first` before the line was made, and has `last`
--- now. The line read the bytes that the stream returned since then, and it wrote the bytes that the
--- stream took. Its input has ended only if it read everything that the stream had left at first. A
--- line over a stream that may not fail has met no fault.
+-- The connection is over a stream that had the state `first` before the connection was made, and
+-- has `last` now. The connection read the bytes that the stream returned since then, and it wrote
+-- the bytes that the stream took. Its input has ended only if it read everything that the stream
+-- had left at first. A connection over a stream that may not fail has met no fault.
 pub record LiesOver (first : StreamSeen) (line : LineSeen) (last : StreamSeen) : Type 0 where
   pub read : Consumes first.left last.left line.read
   pub written : Appends first.held last.held line.written

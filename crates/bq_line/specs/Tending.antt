@@ -32,13 +32,13 @@ pub record DoorSeen : Type 0 where
 abbrev pub door_seen : {D : Type 0} → (D → Bool) → (D → Bool) → (D → List LineOver) → D → DoorSeen
 door_seen is_out is_at_end lines_over door = record { is_out = is_out door; is_at_end = is_at_end door; lines_over = lines_over door }
 
--- No line was opened, and more may come.
+-- No connection was opened, and more may come.
 pub record IsNewDoor (door : DoorSeen) : Type 0 where
   pub inside : door.is_out ≡ false
   pub more : door.is_at_end ≡ false
   pub none_over : door.lines_over ≡ []
 
--- A line is open if and only if the seat is on it. A door has ended once its seat leaves.
+-- A connection is open if and only if the seat is on it. A door has ended once its seat leaves.
 abbrev pub IsPlaced : {L : Type 0} → LinePlace L → DoorSeen → Type 0
 IsPlaced places.Between door = (door.is_out ≡ false) × (door.is_at_end ≡ false)
 IsPlaced (places.On line action sent) door = (door.is_out ≡ true) × (door.is_at_end ≡ false)
@@ -65,8 +65,8 @@ GoesOn went first last seen old at_old new at_new =
     (submitted : List Step) × (taken : List Answer) × Calls went first submitted taken last
     × Tends seen old at_old submitted taken new at_new
 
--- A line that stays open stays over its stream. So if the stream may not fail, the seat meets no fault
--- on it.
+-- A connection that stays open stays over its stream. So if the stream may not fail, the seat meets no
+-- fault on it.
 abbrev pub StaysOpenOver : {L : Type 0} → (StreamSeen → L → Type 0) → LinePlace L → LinePlace L → Type 0
 StaysOpenOver lies_over (places.On line action sent) (places.On later next now) = StaysOver lies_over line later
 StaysOpenOver lies_over _ _ = Unit {0}
@@ -85,9 +85,9 @@ pub record IsNewSeat {L : Type 0} (max_job_size : ℕ) (a : Attendant L) : Type 
   pub awaits : awaited a.machine ≡ Awaited.ALine
   pub limit : a.machine.reader.max_job_size ≡ max_job_size
 
--- A door that a seat served until its end. For each line that has ended, the seat submitted the
--- line's steps, took an answer to each of its requests, and wrote these answers; finally it
--- submitted that no more lines come.
+-- A door that a seat served until its end. For each connection that has ended, the seat submitted
+-- the connection's steps, took an answer to each of its requests, and wrote these answers; finally
+-- it submitted that no more connections come.
 pub record IsDoorServed (max_job_size : ℕ) (door : DoorSeen) (submitted : List Step) (taken : List Answer) : Type 0 where
   pub done : IsSeatDone max_job_size door.lines_over submitted taken
   pub inside : door.is_out ≡ false

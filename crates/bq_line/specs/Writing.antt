@@ -1,4 +1,4 @@
--- Texts that are written to a line.
+-- Texts that are written to a connection.
 use Rattle.std.specs.Prelude.{ℕ, ◌≡◌, List, ◌++◌, take}
 use Rattle.bq_job.specs.declared.line_end.LineFault.TheVariants as faults
 use Rattle.bq_job.specs.promise.LineSteps.{LineSeen, IsBeginning}
@@ -19,7 +19,8 @@ pub record BreaksOff (text : List ℕ) (old new : LineSeen) : Type 0 where
 abbrev pub with_begun : List ℕ → ℕ → LineSeen → LineSeen
 with_begun text sent line = with_written (take sent text) line
 
--- How far the writing of a text got on a line that recorded `first` before any of it was written.
+-- How far the writing of a text got on a connection that recorded `first` before any of it was
+-- written.
 abbrev pub WritesOn : List ℕ → LineSeen → Wrote → ℕ → LineSeen → Type 0
 WritesOn text first wrotes.Whole sent later = later ≡ with_written text first
 WritesOn text first wrotes.Part sent later = later ≡ with_begun text sent first

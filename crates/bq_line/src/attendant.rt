@@ -1,5 +1,6 @@
-//! A seat that attends to a door: it serves the door's lines one after another, one action at a
-//! time. Also its link to the core, and how one action is carried out at its line and its link.
+//! A seat that attends to a door: it serves the door's connections one after another, one action at
+//! a time. Also its link to the core, and how one action is carried out at its connection and its
+//! link.
 ghost use Rattle.std.specs.Prelude.{◌≡◌, ◌⊎◌, ◌≤◌, ◌↔◌, [], true, not, IfOk, IsTrue, ◌<◌, ◌++◌, ℕ, List, length};
 ghost use Rattle.bq_seat.specs.Outstanding.{ReadsWith};
 ghost use Rattle.bq_seat.specs.Past.{Awaited};
@@ -60,9 +61,9 @@ pub enum Progress {
     NotAccepted,
     /// No answer has come.
     NoMail,
-    /// The line has no bytes yet.
+    /// The connection has no bytes yet.
     NoBytes,
-    /// The line has no room yet for the rest of the answer, which remains to be written.
+    /// The connection has no room yet for the rest of the answer, which remains to be written.
     NoRoom,
     /// There was nothing to do.
     NothingToDo,
@@ -80,27 +81,27 @@ impl Progress {
 /// Where a seat is with its door.
 #[derive(Drop)]
 pub enum LinePlace<L> {
-    /// The next line has to be opened.
+    /// The next connection has to be opened.
     Between,
-    /// This line is open, and the action is its next one. If the action writes an answer, the
+    /// This connection is open, and the action is its next one. If the action writes an answer, the
     /// number says how many bytes of it were written already.
     On(L, Action, usize),
-    /// No more lines come, which has to be submitted.
+    /// No more connections come, which has to be submitted.
     Leaving,
-    /// It was submitted that no more lines come.
+    /// It was submitted that no more connections come.
     Done,
 }
 
-/// The result of opening the next line without waiting.
+/// The result of opening the next connection without waiting.
 #[derive(Clone, Copy, Debug, PartialEq, Eq)]
 pub enum Looked {
-    /// A line was opened.
+    /// A connection was opened.
     Opened,
     /// No client has connected yet. The system reports when one has.
     NotYet,
     /// No connection can be accepted for a while. The system does not report when that ends.
     Later,
-    /// No more lines come.
+    /// No more connections come.
     NoMore,
 }
 
@@ -150,7 +151,7 @@ impl<L: Line + Drop> Attendant<L> {
         matches!(self.place, LinePlace::On(_, Action::Read, _)) && self.machine.has_outstanding()
     }
 
-    /// Returns true if it wants to read its line.
+    /// Returns true if it wants to read its connection.
     pub fn reads(&self) -> bool {
         matches!(self.place, LinePlace::On(_, Action::Read, _))
     }
@@ -173,8 +174,8 @@ impl<L: Line + Drop> Attendant<L> {
         matches!(self.place, LinePlace::On(_, Action::Write(_), _))
     }
 
-    /// Returns true if it is blocked on input that has not come, as far as its line knows: it wants
-    /// to read and has no outstanding answer.
+    /// Returns true if it is blocked on input that has not come, as far as its connection knows: it
+    /// wants to read and has no outstanding answer.
     pub fn awaits_bytes(&self) -> bool {
         match &self.place {
             LinePlace::On(line, Action::Read, _) => {
@@ -198,15 +199,15 @@ impl<L: Line + Drop> Attendant<L> {
         }
     }
 
-    /// Returns true if its next line has to be opened.
+    /// Returns true if its next connection has to be opened.
     pub fn is_between(&self) -> bool
         ensures { IsTrue result ↔ (self.now.place ≡ LinePlace.Between) }
     {
         matches!(self.place, LinePlace::Between)
     }
 
-    /// Records what the system reported about the line's readiness. A seat between two lines stays
-    /// as it is.
+    /// Records what the system reported about the connection's readiness. A seat between two
+    /// connections stays as it is.
     pub fn note_ready(&mut self, ready: Readiness)
         ensures went { (door : DoorSeen) → Tends L.seen self.old door [] [] self.new door }
         ensures between { self.old.place ≡ LinePlace.Between → self.new.place ≡ LinePlace.Between }
@@ -216,7 +217,7 @@ impl<L: Line + Drop> Attendant<L> {
         }
     }
 
-    /// Swaps the read buffer of the open line with this one if both are empty.
+    /// Swaps the read buffer of the open connection with this one if both are empty.
     pub fn exchange(&mut self, buffer: &mut ReadBuffer)
         ensures { (door : DoorSeen) → Tends L.seen self.old door [] [] self.new door }
     {
@@ -225,7 +226,7 @@ impl<L: Line + Drop> Attendant<L> {
         }
     }
 
-    /// Sends what the line holds back for further answers.
+    /// Sends what the connection holds back for further answers.
     pub fn hand_on(&mut self)
         ensures { (door : DoorSeen) → Tends L.seen self.old door [] [] self.new door }
     {
@@ -234,8 +235,8 @@ impl<L: Line + Drop> Attendant<L> {
         }
     }
 
-    /// Opens the next line without waiting for it, and has it watched. `may_have_come` is false if
-    /// no client can have connected since the last call.
+    /// Opens the next connection without waiting for it, and has it watched. `may_have_come` is
+    /// false if no client can have connected since the last call.
     pub fn look<D: Door<Line = L>, W: Watcher>(
         &mut self,
         alloc: Global,
@@ -295,7 +296,7 @@ impl<L: Line + Drop> Attendant<L> {
         // The door is still the same.
         ensures same { (first : D) → D.same first door.old → D.same first door.new }
     {
-        // An open line stays in place until it ends.
+        // An open connection stays in place until it ends.
         match &mut self.place {
             LinePlace::On(line, action, sent) => match action {
                 Action::LineOver(end) => {
@@ -315,8 +316,8 @@ impl<L: Line + Drop> Attendant<L> {
     }
 }
 
-// Opens the next line in its place. A separate function, because its caller would otherwise reserve and initialize
-// room for a line on every path.
+// Opens the next connection in its place. A separate function, because its caller would otherwise
+// reserve and initialize room for a connection on every path.
 #[inline(never)]
 fn open_in_place<L: Line + Drop, D: Door<Line = L>>(
     alloc: Global,
@@ -333,7 +334,7 @@ fn open_in_place<L: Line + Drop, D: Door<Line = L>>(
     *place = open_line(alloc, machine, door);
 }
 
-// Opens the next line, or learns that no more come.
+// Opens the next connection, or learns that no more come.
 fn open_line<L: Line + Drop, D: Door<Line = L>>(
     alloc: Global,
     machine: &mut SeatMachine,
@@ -352,8 +353,8 @@ fn open_line<L: Line + Drop, D: Door<Line = L>>(
     }
 }
 
-// Shuts the line, and frees its place. A separate function, because its caller would otherwise
-// reserve and initialize room for a line on every path.
+// Shuts the connection, and frees its place. A separate function, because its caller would
+// otherwise reserve and initialize room for a connection on every path.
 #[inline(never)]
 fn shut_line<L: Line + Drop, D: Door<Line = L>>(
     place: &mut LinePlace<L>,
@@ -372,7 +373,7 @@ fn shut_line<L: Line + Drop, D: Door<Line = L>>(
     }
 }
 
-// Submits that no more lines come.
+// Submits that no more connections come.
 fn leave<L: Line + Drop, K: Link>(place: &mut LinePlace<L>, link: &mut K) -> Progress
     requires leaving { place.old ≡ LinePlace.Leaving }
     requires ready { K.is_ready link.old }
@@ -390,17 +391,16 @@ fn leave<L: Line + Drop, K: Link>(place: &mut LinePlace<L>, link: &mut K) -> Pro
     }
 }
 
-/// Carries out one action of a seat's machine, and replaces it by the machine's next action. An
-/// action that ends the line does nothing here. The contents of `buffers` have no meaning before or
-/// after.
+/// Carries out one action of a seat machine, and replaces it by the next one. An action that ends
+/// the connection does nothing here. The contents of `buffers` have no meaning before or after.
 ///
 /// If the action writes an answer, `sent` is the number of its bytes that were written before.
-/// Bytes for which the line has no room remain to be written, and so do those of a long answer
-/// after the first 256 KB.
+/// Bytes for which the connection has no room remain to be written, and so do those of a long
+/// answer after the first 256 KB.
 ///
 /// The result says what moved or what was missing: a step was not accepted, there was no mail, or
-/// the line had no bytes or no room yet. The same action can then be tried again later. After a
-/// part of an answer it can be continued at once.
+/// the connection had no bytes or no room yet. The same action can then be tried again later. After
+/// a part of an answer it can be continued at once.
 pub fn carry_out<L: Line, K: Link>(
     alloc: Global,
     machine: &mut SeatMachine,

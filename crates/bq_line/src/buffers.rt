@@ -1,5 +1,5 @@
-//! How a seat reads its line and writes answers to it: the buffers of a seat, from which answers are
-//! written, and into which the line is read.
+//! How a seat reads its connection and writes answers to it: the buffers of a seat, from which
+//! answers are written, and into which the connection is read.
 ghost use Rattle.std.specs.Prelude.{ℕ, List, [], ◌≡◌, ◌<◌, ◌≤◌, ◌+◌, ◌++◌, drop, length, take, false, true, if◌then◌else◌};
 ghost use Rattle.std.specs.Io.{ReadsAtMost, WritesAtMost};
 ghost use Rattle.bq_job.specs.promise.LineSteps.{IsBeginning, LineSeen};
@@ -20,8 +20,8 @@ use std::alloc::Global;
 /// first.
 #[derive(Drop)]
 pub struct Buffers {
-    /// Most answers with a body are joined here, and a line without a buffer of its own is read into
-    /// it.
+    /// Most answers with a body are joined here, and a connection without a buffer of its own is
+    /// read into it.
     pub piece: [u8; PIECE_ROOM],
     /// For the head of an answer.
     pub head: HeadBuf,
@@ -55,9 +55,9 @@ pub enum Wrote {
 }
 
 /// Writes the rest of the text of an answer, of which `sent` bytes were written before, and flushes
-/// the line.
+/// the connection.
 ///
-/// It goes out in one write if the line takes all of it. The contents of the buffers have no
+/// It goes out in one write if the connection takes all of it. The contents of the buffers have no
 /// meaning before and after. If there is no room yet for all of it, or it is long, `sent` becomes the
 /// number of bytes written so far.
 pub fn write_answer<L: Line>(
@@ -77,7 +77,7 @@ pub fn write_answer<L: Line>(
     }
 }
 
-// Flushes the line after all of a text was written.
+// Flushes the connection after all of a text was written.
 fn flush<L: Line>(line: &mut L) -> Wrote
     ensures text { (text : List ℕ) (first : LineSeen) (sent : ℕ) → L.seen line.old ≡ with_written text first
         → WritesOn text first result sent (L.seen line.new) }
@@ -373,9 +373,9 @@ fn after_error(e: StreamError) -> Wrote
     }
 }
 
-/// Reads the line once and passes what came to the seat's machine, which puts its next action into
-/// `next`. Bytes in the line's own buffer are passed on without copying them. A line without a
-/// buffer is read into `piece`.
+/// Reads the connection once and passes what came to the seat machine, which puts its next action
+/// into `next`. Bytes in the connection's own buffer are passed on without copying them. A
+/// connection without a buffer is read into `piece`.
 pub fn read<L: Line>(
     alloc: Global,
     machine: &mut SeatMachine,
@@ -392,7 +392,8 @@ pub fn read<L: Line>(
     }
 }
 
-// If the line's own buffer is empty, it has none or its input has ended.
+// If the connection's own buffer is empty, it has none or its input has ended. The rest of a long
+// body is passed on at once, and other bytes piece by piece.
 fn hand_on<L: Line>(
     alloc: Global,
     machine: &mut SeatMachine,
@@ -466,7 +467,7 @@ fn fill_line<L: Line>(machine: &SeatMachine, line: &mut L) -> Result<(), StreamE
     line.fill(!machine.has_outstanding())
 }
 
-// Does the same for a line without a buffer of its own.
+// Does the same for a connection without a buffer of its own.
 fn read_line<L: Line>(
     machine: &SeatMachine,
     line: &mut L,

@@ -50,7 +50,7 @@ pub fn moment_heard(last: Moment, reading: Option<Moment>) -> Moment
     }
 }
 
-/// The machine's clock: the milliseconds since it was made. It records the readings that it gave;
+/// The computer's clock: the milliseconds since it was made. It records the readings that it gave;
 /// nothing is claimed about the system's clock.
 #[derive(Drop)]
 pub struct MachineClock<R> {

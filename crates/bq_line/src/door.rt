@@ -32,7 +32,7 @@ use thiserror::Error;
 /// A door for TCP connections.
 pub type TcpDoor<'l, R> = ListenDoor<'l, R, TcpListener>;
 
-/// No further line could be opened.
+/// No further connection could be opened.
 #[derive(Clone, Copy, Debug, PartialEq, Eq, Error)]
 #[error("a connection could not be accepted")]
 pub struct DoorFault;
@@ -46,31 +46,31 @@ impl DoorFault {
     }
 }
 
-/// The result of opening the next line without waiting.
+/// The result of opening the next connection without waiting.
 #[derive(Drop)]
 pub enum Opening<L> {
-    /// The next line.
+    /// The next connection.
     Line(L),
     /// No client has connected yet. The system reports when one has.
     NotYet,
     /// No connection can be accepted for a while, because the system lacks a resource. It does not
     /// report when that ends.
     Later,
-    /// No more lines come.
+    /// No more connections come.
     NoMore,
 }
 
-/// A door, which opens lines one after another, one at a time.
+/// A door, which opens connections one after another, one at a time.
 pub trait Door {
     type Line: Line + Drop;
 
-    /// True if a line was opened and not shut yet.
+    /// True if a connection was opened and not shut yet.
     ghost is_out: { Self → Bool };
 
-    /// True if no more lines come.
+    /// True if no more connections come.
     ghost is_at_end: { Self → Bool };
 
-    /// The lines that have ended, in the order in which they were shut.
+    /// The connections that have ended, in the order in which they were shut.
     ghost lines_over: { Self → List LineOver };
 
     /// The second door is the first one at a later moment: everything that identifies the door is
@@ -85,9 +85,9 @@ pub trait Door {
         ensures over { lines_over self.new ≡ lines_over self.old }
         ensures same { (first : Self) → same first self.old → same first self.new };
 
-    /// Opens the next line without waiting for it. `may_have_come` is false if no client can have
-    /// connected since the last call, so that no system call is needed. The line is watched by
-    /// `watcher`, or it is not opened. After an error no more lines come.
+    /// Opens the next connection without waiting for it. `may_have_come` is false if no client can
+    /// have connected since the last call, so that no system call is needed. The connection is
+    /// watched by `watcher`, or it is not opened. After an error no more connections come.
     fn look<W: Watcher>(
         &mut self,
         may_have_come: bool,
@@ -105,14 +105,14 @@ pub trait Door {
     }
 
     /// Closes a connection that waits although every door of its listener is taken, if the door was
-    /// made to do so. It accepts that connection for this alone, so no line of a door is touched. It
-    /// does not wait. By default connections wait for a door.
+    /// made to do so. It accepts that connection for this alone, so no connection that a door has
+    /// opened is touched. It does not wait. By default connections wait for a door.
     fn turn_away(&self) -> TurnedAway {
         TurnedAway::Waits
     }
 
-    /// Swaps the door's own read buffer with this one, and drops the bytes that the last line left
-    /// in it. A door without a buffer, or whose line has it, does nothing.
+    /// Swaps the door's own read buffer with this one, and drops the bytes that the last connection
+    /// left in it. A door without a buffer, or whose connection has it, does nothing.
     fn exchange(&mut self, _buffer: &mut ReadBuffer)
         ensures inside { is_out self.new ≡ is_out self.old }
         ensures at_end { is_at_end self.new ≡ is_at_end self.old }
@@ -120,7 +120,7 @@ pub trait Door {
         ensures same { (first : Self) → same first self.old → same first self.new }
     {}
 
-    /// Takes back the open line, which has ended in this way.
+    /// Takes back the open connection, which has ended in this way.
     fn shut(&mut self, line: Self::Line, end: LineEnd)
         requires { is_out self.old ≡ true }
         ensures inside { is_out self.new ≡ false }

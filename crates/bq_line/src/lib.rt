@@ -1,10 +1,10 @@
-//! Lines of bytes to clients, the doors at which clients connect, the clocks that a run reads, and a
-//! seat at work: it serves the lines of a door one after another. Through its link to a core it
-//! submits steps and checks its mail. The control line has a link too.
+//! Connections to clients, the doors at which clients connect, the clocks that a run reads, and a
+//! seat at work: it serves the connections of a door one after another. Through its link to a core
+//! it submits steps and checks its mail. The control line has a link too.
 //!
-//! Lines, doors and clocks are traits, whose contracts are all that a run knows of them. Each has an
-//! implementation in memory and one by the operating system. Nothing here depends on what a link is
-//! connected to.
+//! Connections, doors and clocks are traits, whose contracts are all that a run knows of them. Each
+//! has an implementation in memory and one by the operating system. Nothing here depends on what a
+//! link is connected to.
 #![tactic(auto)]
 
 pub use door::{

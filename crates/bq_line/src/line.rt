@@ -22,23 +22,25 @@ mod stream_error;
 
 use bq_job::LineFault;
 
-/// A line to one client. It records the bytes that its reads returned and its writes took since it
-/// was made, whether its input has ended, and the first fault that a call returned.
+/// A connection to one client. It records the bytes that its reads returned and its writes took
+/// since it was made, whether its input has ended, and the first fault that a call returned.
 pub trait Line {
-    /// What the line records.
+    /// What the connection records.
     ghost seen: { Self → LineSeen };
 
-    /// True if the line is over the stream that had this state before the line was made. No call of
-    /// a line changes its stream for another.
+    /// True if the connection is over the stream that had this state before the connection was
+    /// made. No call of a connection changes its stream for another.
     ghost lies_over: { StreamSeen → Self → Type 0 };
 
-    /// The bytes in the line's own buffer, which came and were not read yet.
+    /// The bytes in the connection's own buffer, which came and were not read yet.
     ghost unread: { Self → List ℕ };
 
-    /// False if a read would only report that there are no bytes yet, as far as the line knows.
+    /// False if a read would only report that there are no bytes yet, as far as the connection
+    /// knows.
     ghost may_give: { Self → Bool } = { λ line. true };
 
-    /// False if a write would only report that there is no room yet, as far as the line knows.
+    /// False if a write would only report that there is no room yet, as far as the connection
+    /// knows.
     ghost may_take: { Self → Bool } = { λ line. true };
 
     /// Reads at most as many bytes as the buffer has room for, as `std::io::Read` does. A result of
@@ -50,17 +52,17 @@ pub trait Line {
         ensures seen { seen self.new ≡ after_read result buf.new (seen self.old) }
         ensures stays { StaysOver lies_over self.old self.new };
 
-    /// Reads as `read` does, but does not wait: without bytes it returns `NotYet`, if the line can
-    /// do that.
+    /// Reads as `read` does, but does not wait: without bytes it returns `NotYet`, if the
+    /// connection can do that.
     fn read_now(&mut self, buf: &mut [u8]) -> Result<usize, StreamError>
         requires { 0 < length buf.old }
         ensures bound { ReadsAtMost result buf.new }
         ensures seen { seen self.new ≡ after_read result buf.new (seen self.old) }
         ensures stays { StaysOver lies_over self.old self.new };
 
-    /// If the line's own buffer is empty, reads into it once; `waits` says whether that may wait. A
-    /// line without a buffer does nothing. Errors are those of `read`. The bytes do not count as
-    /// read yet.
+    /// If the connection's own buffer is empty, reads into it once; `waits` says whether that may
+    /// wait. A connection without a buffer does nothing. Errors are those of `read`. The bytes do
+    /// not count as read yet.
     fn fill(&mut self, waits: bool) -> Result<(), StreamError>
         ensures seen { seen self.new ≡ after_fill result (seen self.old) }
         ensures stays { StaysOver lies_over self.old self.new }
@@ -68,18 +70,18 @@ pub trait Line {
         Ok(())
     }
 
-    /// Returns the bytes in the line's own buffer.
+    /// Returns the bytes in the connection's own buffer.
     fn unread(&self) -> &[u8]
         ensures { result.now ≡ unread self.now };
 
-    /// Marks the first `count` bytes of the line's own buffer as read, and removes them.
+    /// Marks the first `count` bytes of the connection's own buffer as read, and removes them.
     fn take_unread(&mut self, count: usize)
         requires { count ≤ length (unread self.old) }
         ensures seen { seen self.new ≡ after_take count (unread self.old) (seen self.old) }
         ensures stays { StaysOver lies_over self.old self.new };
 
-    /// Writes a first part of the buffer and returns its length, as `std::io::Write` does.
-    /// `NotYet` and `Interrupted` mean that there is no room yet, and leave the line as it was. A
+    /// Writes a first part of the buffer and returns its length, as `std::io::Write` does. `NotYet`
+    /// and `Interrupted` mean that there is no room yet, and leave the connection as it was. A
     /// `Fault` is a write fault, and so is a write that took no bytes.
     fn write(&mut self, buf: &[u8]) -> Result<usize, StreamError>
         requires { 0 < length buf.now }
@@ -88,7 +90,7 @@ pub trait Line {
         ensures stays { StaysOver lies_over self.old self.new };
 
     /// Writes three texts as if they were one. By default it writes from the first text only; a
-    /// line that supports gathered writes does not copy them.
+    /// connection that supports gathered writes does not copy them.
     fn write_together(
         &mut self,
         first: &[u8],
@@ -109,45 +111,45 @@ pub trait Line {
         ensures seen { seen self.new ≡ after_flush result (seen self.old) }
         ensures stays { StaysOver lies_over self.old self.new };
 
-    /// Returns true if the line has buffered bytes, so that the next read returns them without
-    /// waiting.
+    /// Returns true if the connection has buffered bytes, so that the next read returns them
+    /// without waiting.
     fn has_unread(&self) -> bool {
         false
     }
 
     /// A hint: if `more`, more will be written soon, so that small writes may go out together;
-    /// otherwise everything that was written is sent. A line that can't use it does nothing.
+    /// otherwise everything that was written is sent. A connection that can't use it does nothing.
     fn expect_more(&mut self, more: bool)
         ensures seen { seen self.new ≡ seen self.old }
         ensures stays { StaysOver lies_over self.old self.new }
     {}
 
-    /// Returns false if a read would only report that there are no bytes yet, as far as the line
-    /// knows.
+    /// Returns false if a read would only report that there are no bytes yet, as far as the
+    /// connection knows.
     fn may_give(&self) -> bool
         ensures { result ≡ false → may_give self.now ≡ false }
     {
         true
     }
 
-    /// Returns false if a write would only report that there is no room yet, as far as the line
-    /// knows.
+    /// Returns false if a write would only report that there is no room yet, as far as the
+    /// connection knows.
     fn may_take(&self) -> bool
         ensures { result ≡ false → may_take self.now ≡ false }
     {
         true
     }
 
-    /// Swaps the line's own read buffer with this one if both are empty. A line without a buffer
-    /// does nothing. So many lines can share one buffer, and a line keeps one only while it has
-    /// bytes in it.
+    /// Swaps the connection's own read buffer with this one if both are empty. A connection without
+    /// a buffer does nothing. So many connections can share one buffer, and a connection keeps one
+    /// only while it has bytes in it.
     fn exchange(&mut self, _buffer: &mut ReadBuffer)
         ensures seen { seen self.new ≡ seen self.old }
         ensures stays { StaysOver lies_over self.old self.new }
     {}
 
-    /// Records what the system reported about the line's readiness. A line that is not watched does
-    /// nothing.
+    /// Records what the system reported about the connection's readiness. A connection that is not
+    /// watched does nothing.
     fn note_ready(&mut self, _ready: Readiness)
         ensures seen { seen self.new ≡ seen self.old }
         ensures stays { StaysOver lies_over self.old self.new }
@@ -220,7 +222,7 @@ fn found_nothing(came: &Result<usize, StreamError>) -> bool
     matches!(came, Err(StreamError::NotYet))
 }
 
-// Records the first fault of a line; later ones are dropped.
+// Records the first fault of a connection; later ones are dropped.
 fn note_fault(first: &mut Option<LineFault>, fault: LineFault)
     ensures { first.new ≡ first_fault first.old fault }
 {

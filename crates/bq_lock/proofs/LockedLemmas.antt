@@ -102,7 +102,7 @@ refused_of {none} {refused} old at seat what new why taken = record {
     by_journal (inr left) = inr (record { was_refused = λ room. why (left.was_refused room) room; new_is = left.new_is })
 
 -- If the journal is complete after a step, it was complete before it, and no reference to a body
--- failed to be allocated in the step.
+-- was refused in the step.
 both_true : (a b : Bool) → (a && b) ≡ true → (a ≡ true) × (b ≡ true)
 both_true true true h = (refl, refl)
 both_true true false h = absurd cc

@@ -46,8 +46,8 @@ new_locked settings capacity = record {
   journal = record { entries = []; capacity = capacity; whole = true };
 }
 
--- Replaying the journal leads to the machine, and each outbox is a last part of the answers that
--- the replay gives to its seat.
+-- Replaying the journal leads to the model, and each outbox is a last part of the answers that the
+-- replay gives to its seat.
 pub record IsReplayed (l : LockedState) : Type 0 where
   pub given : List GivenAnswer
   pub replay : Replay l.machine.settings l.journal.entries given l.machine

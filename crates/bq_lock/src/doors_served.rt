@@ -20,9 +20,9 @@ use std::sync::{Mutex, Wait};
 use std::thread;
 use std::thread::{Promise, PromisedHandle, Scope, Threads};
 
-/// Serves the lines of all doors at the desk under the lock, each at a seat and in a thread of its
-/// own, until no more lines come at any of them. The calling thread reads the control line. The
-/// doors are returned in their order.
+/// Serves the connections of all doors at the desk under the lock, each at a seat and in a thread
+/// of its own, until no more connections come at any of them. The calling thread reads the control
+/// line. The doors are returned in their order.
 ///
 /// The error is `NoMemory` if an allocation failed, or `ThreadRefused` if a thread could not be
 /// started. After an error no door was opened, and the doors are dropped.

@@ -74,7 +74,7 @@ impl Locked {
     /// answers go into the outboxes of their seats, where a fifth answer replaces the oldest.
     ///
     /// The journal gets the step's entry if it has room and another reference to the body in the
-    /// step can be allocated.
+    /// step is not refused.
     pub fn step(&mut self, at: Moment, seat: Seat, what: Step)
         ensures taken { TakesStep self.old at seat what self.new }
         ensures holds { IsLawfulHold self.new }

@@ -28,10 +28,10 @@ pub struct LockedRun<D, C> {
     pub locked: Locked,
 }
 
-/// Serves the lines of all doors, each at a seat and in a thread of its own, until no more lines
-/// come at any of them. The calling thread reads the control line, where each line `drain` starts
-/// draining. One lock protects the core and the clock, with a journal that has room for this many
-/// entries.
+/// Serves the connections of all doors, each at a seat and in a thread of its own, until no more
+/// connections come at any of them. The calling thread reads the control line, where each line
+/// `drain` starts draining. One lock protects the core and the clock, with a journal that has room
+/// for this many entries.
 ///
 /// The error is `BadConfiguration` if the configuration is out of its ranges or the number of doors
 /// is not the number of seats. Otherwise it is `NoMemory` if an allocation failed, or
@@ -52,12 +52,12 @@ pub fn run_locked<
     mut control: I,
     capacity: usize,
 ) -> Result<LockedRun<D, C>, RunFault>
-    // No door has a line that is open or was served, and no door is at its end.
+    // No door has a connection that is open or was served, and no door is at its end.
     requires new { All
         (λ door. IsNewDoor (door_seen D.is_out D.is_at_end D.lines_over door)) doors.items }
-    // Each door was served to its end: the steps of its lines were submitted, and each line
-    // received the answers that were taken for it. No clause states how these relate to the steps
-    // of the core.
+    // Each door was served to its end: the steps of its connections were submitted, and each
+    // connection received the answers that were taken for it. No clause states how these relate to
+    // the steps of the core.
     ensures served { IfOk result (λ run. All (λ door. IsServedToEnd config.max_job_size (door_seen D.is_out D.is_at_end D.lines_over door))
         run.doors.items) }
     // The doors are those that were passed in, in the same order.

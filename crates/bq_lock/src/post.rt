@@ -106,8 +106,8 @@ impl<L: Line + Drop, D: Door<Line = L> + Drop> Post<D> {
     }
 }
 
-// Lets other threads run if the line had no bytes or no room, or a step was not accepted. If no
-// answer has come, the next look for mail sleeps.
+// Lets other threads run if the connection had no bytes or no room, or a step was not accepted. If
+// no answer has come, the next look for mail sleeps.
 fn yield_after(progress: Progress) {
     match progress {
         Progress::NotAccepted | Progress::NoBytes | Progress::NoRoom => thread::yield_now(),

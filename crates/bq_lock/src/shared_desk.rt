@@ -10,8 +10,8 @@ use std::mem;
 use std::sync::{Mutex, Wait};
 use std::time::Duration;
 
-/// How long a seat whose reserve waits sleeps before its line is read again, in milliseconds. This
-/// read notices if the client has disconnected.
+/// How long a seat whose reserve waits sleeps before its connection is read again, in milliseconds.
+/// This read notices if the client has disconnected.
 pub const LONGEST_REST: u64 = 100;
 
 /// The result of a look for mail.
@@ -111,11 +111,12 @@ impl<'a, R: Wait, K: SharedDesk> SharedSeat<'a, R, K> {
         if rung { 1 } else { most }
     }
 
-    // The first look after a step without an answer returns at once, so that bytes that the line
-    // holds back are written first. After that, the seat sleeps while there is no answer, and looks
-    // again whenever its bell is rung or the core is due. One ring does not end the wait, because a
-    // bell may have been rung for an answer that was taken before. If the wait ended, the line
-    // would be read, and the next answer would have to wait for as long as that read does.
+    // The first look after a step without an answer returns at once, so that bytes that the
+    // connection holds back are written first. After that, the seat sleeps while there is no
+    // answer, and looks again whenever its bell is rung or the core is due. One ring does not end
+    // the wait, because a bell may have been rung for an answer that was taken before. If the wait
+    // ended, the connection would be read, and the next answer would have to wait for as long as
+    // that read does.
     fn next_answer(&mut self) -> Option<Answer> {
         if let Some(answer) = self.at_hand.take() {
             return Some(answer);

@@ -1,4 +1,5 @@
--- The faults of a program that a fault of its run and an end of its client's line are, and the report of each.
+-- The faults of a program that a fault of its run and an end of its client's connection are, and
+-- the report of each.
 use Rattle.std.specs.Prelude.{ℕ, List, Option, Some, None, codes}
 use Rattle.bq_job.specs.declared.line_end.LineEnd.{LineEnd}
 use Rattle.bq_job.specs.declared.line_end.LineEnd.TheVariants as ends
@@ -20,7 +21,7 @@ fault_of_loop runs.NoMemory = faults.NoMemory needs.Queue
 fault_of_loop runs.ThreadRefused = faults.EpollRefused
 fault_of_loop runs.BadConfiguration = faults.BadConfiguration
 
--- None: the line ended well
+-- None: the connection ended well
 abbrev pub fault_of_end : LineEnd → Option Fault
 fault_of_end ends.Quit = None
 fault_of_end ends.EndOfInput = None

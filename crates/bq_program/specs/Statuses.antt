@@ -8,7 +8,7 @@ use Rattle.bq_program.specs.declared.fault.Fault.{Fault}
 use Rattle.bq_program.specs.declared.fault.Stop.{Stop}
 use Rattle.bq_program.specs.declared.fault.Stop.TheVariants as stops
 
--- A client's line has ended.
+-- A client's connection has ended.
 abbrev pub status_of_end : LineEnd → ℕ
 status_of_end ends.Quit = 0
 status_of_end ends.EndOfInput = 0

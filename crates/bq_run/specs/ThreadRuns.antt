@@ -14,9 +14,9 @@ use Rattle.bq_run.specs.declared.run.Run.{Run}
 -- line was read to its end or until a read failed, and it records which and what was read; it
 -- failed only if a read of it may fail.
 --
--- One history of these readings, this control line and the lines that the doors have served leads
--- to the machine that the core represents. The core took its steps, without ticks, at its end of
--- the links. Each other end submitted the steps that the history has for it, and received the
+-- One history of these readings, this control line and the connections that the doors have served
+-- leads to the model that the core represents. The core took its steps, without ticks, at its end
+-- of the links. Each other end submitted the steps that the history has for it, and received the
 -- answers that the run gave to it. The comparisons of keys stayed within the bound of each step,
 -- and of at most one query for the next due moment before each step and after the last.
 pub record IsRunOf {D C I K : Type 0} (given : Gives C) (lines_over : D → List LineOver) (left : I → Option (List ℕ)) (may_fail : I → Bool)

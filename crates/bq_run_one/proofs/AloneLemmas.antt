@@ -1,4 +1,4 @@
--- A lone line is served at a desk.
+-- A lone connection is served at a desk.
 use Rattle.std.proofs.Common.{◌≡◌, ◌≢◌, ℕ, ◌<◌, true, false, List, [], ◌∷◌, ◌++◌}
 use Rattle.std.proofs.Common.{Option, length, refl, sym, ap, ◌∙◌, arith, subst, inl, inr, append-nil, map}
 use Rattle.std.specs.Prelude.{◌==◌}
@@ -24,7 +24,7 @@ use Rattle.bq_host.proofs.WentLemmas.{none_waits, seat_none, seat_on}
 use Rattle.bq_line.proofs.CarriedLemmas.{none_begun}
 use Rattle.bq_line.proofs.SeatLemmas.{carried_on, line_served}
 
--- Starting from a new desk, only this seat did anything, and it served its line.
+-- Starting from a new desk, only this seat did anything, and it served its connection.
 pub record IsServingAlone (settings : Settings) (seat : ℕ) (readings : List (Option ℕ)) (desk : MailState) (machine : SeatMachine)
     (seen : LineSeen) (action : Action) (sent : ℕ) : Type 0 where
   pub first : MailState
@@ -99,7 +99,7 @@ alone_there seat (e ∷ history) h =
         let same : (e.seat == e.seat) ≡ true = eq-eqb e.seat e.seat refl in
         let no : e.what ∷ steps_at e.seat history ≡ [] = rw (x, same) at g in cc
 
--- A line that has ended: what its seat and the core did, and how it fits together.
+-- A connection that has ended: what its seat and the core did, and how it fits together.
 pub over_alone : (settings : Settings) (seat : ℕ) (readings : List (Option ℕ)) (desk : MailState) (machine : SeatMachine) (seen : LineSeen)
     (end : LineEnd) (sent : ℕ) (s : IsServingAlone settings seat readings desk machine seen (actions.LineOver end) sent)
     → seat < settings.seats → length s.first.mails ≡ settings.seats

@@ -8,7 +8,7 @@ use Rattle.bq_core.specs.CoreState.{CoreState}
 use Rattle.bq_host.specs.{MailStates.{MailState, mail_state}, Went.SeatWentBy}
 use Rattle.bq_run_one.specs.declared.desk.Desk.{Desk}
 
--- the machine of a core, and its comparisons
+-- the model of a core, and its comparisons
 abbrev pub machine_of : CoreState → Machine
 machine_of k = k.machine
 

@@ -51,8 +51,8 @@ impl<'a, C: Clock + Drop> Link for DeskSeat<'a, C> {
     }
 }
 
-/// Carries out one action of a seat's machine at the desk, and replaces it by the machine's next
-/// action. Returns what moved or what was missing.
+/// Carries out one action of a seat machine at the desk, and replaces it by the next one. Returns
+/// what moved or what was missing.
 pub fn act<L: Line, C: Clock + Drop>(
     machine: &mut SeatMachine,
     action: &mut Action,

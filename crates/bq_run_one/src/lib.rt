@@ -1,5 +1,5 @@
 //! A desk: a core with its clock and the mail of each seat, all owned by one thread; and the run of
-//! one line at it.
+//! one connection at it.
 #![tactic(auto)]
 
 pub use one::{One, run_one};

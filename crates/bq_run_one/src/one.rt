@@ -30,7 +30,7 @@ const ONLY_SEAT: Seat = 0;
 /// How long a run sleeps between two checks of the mail, in milliseconds.
 const REST: u64 = 1;
 
-/// A line that has ended: the line itself, how it ended, and the clock.
+/// A connection that has ended: the connection itself, how it ended, and the clock.
 #[derive(Drop)]
 pub struct One<L, C> {
     pub line: L,
@@ -38,11 +38,11 @@ pub struct One<L, C> {
     pub clock: C,
 }
 
-/// Serves one line until it ends, on this thread. It may block if reads of the line block, and it
-/// does not return while a reserve stays unanswered.
+/// Serves one connection until it ends, on this thread. It may block if reads of the connection
+/// block, and it does not return while a reserve stays unanswered.
 ///
 /// Returns `BadConfiguration` if a setting is out of its range or the number of seats isn't 1, and
-/// otherwise `NoMemory` if an allocation fails. In both cases the line was neither read nor
+/// otherwise `NoMemory` if an allocation fails. In both cases the connection was neither read nor
 /// written, and is dropped.
 pub fn run_one<R: Wait, L: Line + Drop, C: Clock + Drop>(
     rt: &R,
@@ -51,11 +51,11 @@ pub fn run_one<R: Wait, L: Line + Drop, C: Clock + Drop>(
     line: L,
     clock: C,
 ) -> Result<One<L, C>, RunFault>
-    // The line is unused.
+    // The connection is unused.
     requires new { L.seen line ≡ new_line }
     // There is one history of the client's steps, each at the moment of a clock reading. The
-    // one-list machine takes this history, and the client received exactly the bytes that the
-    // history prescribes for it.
+    // one-list model takes this history, and the client received exactly the bytes that the history
+    // prescribes for it.
     ensures served { IfOk result (λ one. (readings : List (Option ℕ)) × C.given clock readings one.clock ×
         IsHistoryOfLine config 0 (record { seen = L.seen one.line; over = one.end }) readings) }
     // Along this history, each job that is handed out is the least one that the client may have. An
@@ -63,7 +63,7 @@ pub fn run_one<R: Wait, L: Line + Drop, C: Clock + Drop>(
     // Once draining has begun, no put is accepted.
     ensures headline { IfOk result (λ one. (readings : List (Option ℕ)) (served : IsHistoryOfLine config 0
         (record { seen = L.seen one.line; over = one.end }) readings) → AreJobsServedIn served.run) }
-    // It is the line that was passed in, over the same stream.
+    // It is the connection that was passed in, over the same stream.
     ensures stays { IfOk result (λ one. StaysOver L.lies_over line one.line) }
     ensures bad_configuration { IsErrOf result RunFault.BadConfiguration ↔ IsTrue
         (not (is_lone config)) }
@@ -80,7 +80,7 @@ pub fn run_one<R: Wait, L: Line + Drop, C: Clock + Drop>(
     Ok(serve_line(rt, line, desk, machine))
 }
 
-// Serves a line until it ends, at a new desk, with its only seat.
+// Serves a connection until it ends, at a new desk, with its only seat.
 fn serve_line<R: Wait, L: Line + Drop, C: Clock + Drop>(
     rt: &R,
     line: L,

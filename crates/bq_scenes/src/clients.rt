@@ -1,4 +1,4 @@
-//! Clients in memory: what they do, as the parts of a line.
+//! Clients in memory: what they do, as the parts of a connection.
 
 use crate::notation::bytes_of;
 use bq_job::{LineEnd, Moment, NoMemory};
@@ -14,10 +14,10 @@ pub const STILL: &[Option<Moment>] = &[Some(0)];
 
 /// What a client does, and the room for what it receives. The parts are separated by ` + `. A part
 /// is bytes, as module `notation` has them; or `after` with the number of bytes that the client
-/// waits to receive; or `fails`, where its line fails.
+/// waits to receive; or `fails`, where its connection fails.
 pub type Client<'t> = (&'t str, usize);
 
-/// What a client received, and how its line ended.
+/// What a client received, and how its connection ended.
 pub type Outcome<'t> = (&'t str, LineEnd);
 
 /// The answer to a reserve that gets the job of `PUTS`.
@@ -47,7 +47,7 @@ fn adds_part(alloc: Global, parts: &mut Vec<Part, Global>, text: &str) -> bool {
     parts.push(part).is_ok()
 }
 
-/// Returns the parts of a line to a client that does this.
+/// Returns the parts of a connection to a client that does this.
 pub fn parts_of(alloc: Global, does: &str) -> Result<Vec<Part, Global>, NoMemory> {
     let mut parts: Vec<Part> = Vec::new(alloc);
     for text in does.split(" + ") {

@@ -24,8 +24,8 @@ pub fn rows() -> &'static [Refused] {
 /// The one client, at the one door.
 pub const ONE: &[&[Client]] = &[&[(PUTS, ROOM)]];
 
-/// Returns how often the door is opened: if the run is not rejected, once for its line and once
-/// more.
+/// Returns how often the door is opened: if the run is not rejected, once for its connection and
+/// once more.
 pub fn opens_of(fault: Option<RunFault>) -> u64 {
     if fault.is_none() { 2 } else { 0 }
 }

@@ -14,7 +14,7 @@ pub fn column(row: &'static str, at: usize) -> &'static str {
     ""
 }
 
-/// Returns true if a line ended in the way with this name.
+/// Returns true if a connection ended in the way with this name.
 pub fn is_end(end: LineEnd, name: &str) -> bool {
     let its_name = match end {
         LineEnd::Quit => "quit",

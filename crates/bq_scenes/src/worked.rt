@@ -31,7 +31,7 @@ static EXAMPLES: &[Example] = &[
             &[("RESERVED 1 1\r\nx\r\n", LineEnd::EndOfInput)],
         ],
     ),
-    // The job of a line with a write error.
+    // The job of a connection with a write error.
     (
         &[&[("put 0 0 9 1~x~reserve~", 20), ("reserve~quit~", ROOM)]],
         &[&[
@@ -86,7 +86,7 @@ pub fn examples() -> &'static [Example] {
     EXAMPLES
 }
 
-/// Returns how often the doors are opened: once for each line, and once more per door.
+/// Returns how often the doors are opened: once for each connection, and once more per door.
 pub fn opens_of(clients: &[&[Client]]) -> u64 {
     let mut opens: u64 = 0;
     for clients in clients {

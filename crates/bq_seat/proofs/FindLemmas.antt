@@ -41,7 +41,7 @@ few_at_look (stages.Leaving end) reader kept told p e h =
     omega arith
 few_at_look _ reader kept told p e h = cc
 
--- when the line is read, its input has not ended
+-- when the connection is read, its input has not ended
 goes_on_at_read : (stage : Stage) (reader : ReaderState) (kept : List ℕ) (told : Bool) (p : Past) → awaited_at stage ≡ Awaited.AReading
     → StandsInStage stage reader kept told p → (p.closing ≡ false) × (p.ended ≡ false) × (p.fault ≡ None)
 goes_on_at_read stages.Reading reader kept told p e h = (h.0.stepped.closing_is, h.0.stepped.ended_is ∙ h.2, h.0.handed.fault_is)

@@ -16,7 +16,7 @@ use Rattle.bq_seat.specs.declared.machine.Stage.TheVariants as stages
 use Rattle.bq_seat.proofs.ReadingLemmas.{none_kept}
 use Rattle.bq_seat.proofs.OpenLemmas.{asks, ends_line, quits}
 
--- the end of the input was submitted, so the line is closed, whatever is kept
+-- the end of the input was submitted, so the connection is closed, whatever is kept
 pub goes_told : (m new : SeatMachine) (action : Action) (kept : List ℕ) → m.end_told ≡ true → action ≡ actions.Submit steps.Close
     → new ≡ in_stage (stages.Closing ends.EndOfInput) m → GoesOn (holding kept m) action new
 goes_told m new action kept told does is = rw (does, is) (record {
@@ -26,7 +26,7 @@ goes_told m new action kept told does is = rw (does, is) (record {
   past = λ p o. ends_line o p.ended refl (o.stepped.told_well told).1 (o.stepped.ended_is ∙ told);
 })
 
--- nothing is kept, so the line is read
+-- nothing is kept, so the connection is read
 pub goes_reading : (m new : SeatMachine) (action : Action) → m.end_told ≡ false → (length m.kept == 0) ≡ true → action ≡ actions.Read
     → new ≡ in_stage stages.Reading m → GoesOn m action new
 goes_reading m new action untold empty does is = rw (does, is) (record {

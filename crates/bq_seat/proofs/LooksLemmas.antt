@@ -1,4 +1,4 @@
--- What the steps and the mail of a line imply for the machine's next action.
+-- What the steps and the mail of a connection imply for the machine's next action.
 use Rattle.std.proofs.Common.{◌≡◌, ℕ, ◌+◌, ◌<◌, Bool, true, false, ◌&&◌, ◌==◌, not, List, []}
 use Rattle.std.proofs.Common.{◌∷◌, ◌++◌, Some, map, length, refl, sym, ap, ◌∙◌, arith, subst}
 use Rattle.std.proofs.lemmas.{Bool.Decides.nat_tests, Grind.common_steps}
@@ -93,7 +93,7 @@ asked_in-ends [] true = refl
 asked_in-ends [] false = refl
 asked_in-ends (r ∷ asked) told = ap (λ rs. r ∷ rs) (asked_in-ends asked told)
 
--- whether the line is read while an answer is outstanding
+-- whether the connection is read while an answer is outstanding
 pub read_on_is : {r : ReaderState} {told waits : Bool} {p : Past} (kept : List ℕ) → IsWaiting r kept told waits p
     → is_read_on kept p ≡ (waits && not told && (length kept == 0))
 read_on_is {told = told} [] w =

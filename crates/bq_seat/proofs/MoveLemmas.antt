@@ -42,8 +42,8 @@ is_not_stray : (action : Action) (what : Awaited) → awaited_by action ≡ Some
 is_not_stray actions.Stray what e = cc
 is_not_stray _ what e = refl
 
--- The move of a machine in this stage. It remains to show how the line's past goes on, and why the
--- machine does this next.
+-- The move of a machine in this stage. It remains to show how the connection's past goes on, and
+-- why the machine does this next.
 turn : {s : Stage} {event : Event} {action other : Action} {old new next : SeatMachine} → old.stage ≡ s → action ≡ other → new ≡ next
     → Turns s event other old next
     → ((p : Past) → StandsInStage s old.reader old.kept old.end_told p → AgreesWith next (with_action other (with_event event p)))
@@ -63,7 +63,7 @@ turn {s} {event} {action} {other} {old} {new} {next} at does is t past looks =
       looks = λ e. looks;
     })))
 
--- an action with which the machine continues does not end the line
+-- an action with which the machine continues does not end the connection
 going_not_over : (action : Action) (P : LineEnd → Type 0) → GoesFurther action → IfLineOver action P
 going_not_over (actions.LineOver end) P e = absurd e
 going_not_over _ P e = tt
@@ -111,7 +111,7 @@ module _ (m new : SeatMachine) (action : Action) where
       → IsMove m events.Submitted action new
   submitted_close end at does is = turn at does is (search rules) (λ p h. h) (λ p h. behind_close m.reader.max_job_size end p h)
 
-  -- bytes come while the line is read and no answer is outstanding
+  -- bytes come while the connection is read and no answer is outstanding
   pub bytes_in_reading : (bytes : Bor (List ℕ)) → m.stage ≡ stages.Reading → GoesOn (holding bytes.now m) action new
       → IsMove m (events.Bytes bytes) action new
   bytes_in_reading bytes at g = goes_on (holding bytes.now m) (events.Bytes bytes) stages.Reading at refl tt refl
@@ -133,7 +133,7 @@ module _ (m new : SeatMachine) (action : Action) where
       → IsMove m events.NothingYet action new
   nothing_in_reading_on at does is = turn at does is (search rules) (λ p h. h.0) (λ p h. rw (one_unanswered h.0.0) refl)
 
-  -- No answer has come. The line is read if a reserve waits.
+  -- No answer has come. The connection is read if a reserve waits.
   pub nothing_in_polling : (waits : Bool) → m.stage ≡ stages.Polling waits
       → action ≡ (if reads_on waits m then actions.Read else actions.PollMail)
       → new ≡ (if reads_on waits m then in_stage stages.ReadingOn m else m) → IsMove m events.NothingYet action new
@@ -155,7 +155,7 @@ module _ (m new : SeatMachine) (action : Action) where
   nothing_in_leaving end at does is = turn at does (is ∙ ap (λ s. in_stage s m) at) (search rules) (λ p h. h)
       (λ p h. rw h.closing_is refl)
 
-  -- the end of input while the line is read and no answer is outstanding
+  -- the end of input while the connection is read and no answer is outstanding
   pub end_in_reading : m.stage ≡ stages.Reading → action ≡ actions.Submit steps.Close
       → new ≡ in_stage (stages.Closing ends.EndOfInput) m → IsMove m events.EndOfInput action new
   end_in_reading at does is = turn at does is (search rules) (λ p h. ends_line h.0 true refl h.1 refl) (λ p h. rw (answered_all h.0) refl)
@@ -181,7 +181,8 @@ module _ (m new : SeatMachine) (action : Action) where
   mail_in_polling waits answer at does is = turn at does is (search rules) (λ p h. answered answer h)
       (λ p h. rw h.0.stepped.closing_is refl)
 
-  -- An answer comes after the close: the close's own answer ends the line, and the reader is restarted.
+  -- An answer comes after the close: the close's own answer ends the connection, and the reader is
+  -- restarted.
   pub mail_in_leaving : (next : ReaderState) (end : LineEnd) (answer : Answer) → m.stage ≡ stages.Leaving end
       → next.max_job_size ≡ m.reader.max_job_size
       → action ≡ (if is_closed_answer answer then actions.LineOver end else actions.PollMail)
@@ -213,7 +214,7 @@ module _ (m new : SeatMachine) (action : Action) where
       (λ text. let all = reading m.reader.max_job_size text in (all.0, all.1, reading-Reads m.reader.max_job_size text)))
       (λ p h. refl)
 
--- a line is opened
+-- a connection is opened
 pub opens : (m new : SeatMachine) → m.stage ≡ stages.Between → new.stage ≡ stages.Connecting → new.end_told ≡ false
     → Stands new.reader [] → new.reader.max_job_size ≡ m.reader.max_job_size → new.kept ≡ []
     → IsMove m events.Opened (actions.Submit steps.Connect) new

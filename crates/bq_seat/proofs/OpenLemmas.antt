@@ -1,4 +1,4 @@
--- What happens to a line that is open.
+-- What happens to a connection that is open.
 use Rattle.std.proofs.Common.{◌≡◌, ℕ, ◌<◌, Bool, true, false, ◌||◌, List, []}
 use Rattle.std.proofs.Common.{◌∷◌, ◌++◌, ◌⊎◌, inl, inr, Option, Some, refl, sym, ap}
 use Rattle.std.proofs.Common.{subst, ◌∙◌, append_assoc, append-nil, map, length, arith, length-append, rules, take, drop, take-append-drop}
@@ -28,7 +28,7 @@ use Rattle.bq_seat.proofs.ReadingLemmas.{BeginsNoUnit-[], Reads-after, Reads-beg
 use Rattle.bq_seat.proofs.StepLemmas.{answered_count-asked, answered_count-quit, ends_by_wait-asked, has_quit-asked}
 use Rattle.bq_seat.proofs.StepLemmas.{map-asked, no_quit_last, some_asked}
 
--- a line is opened
+-- a connection is opened
 pub opened : (r : ReaderState) → Stands r [] → StandsInStage stages.Connecting r [] false first_past
 opened r h = (
   record {
@@ -125,16 +125,17 @@ quits r next kept n p o same unit =
       grind (arith, common_steps),
     )
 
--- How an open line ends: its input has ended or not, and this is its first fault if there is one.
+-- How an open connection ends: its input has ended or not, and this is its first fault if there is
+-- one.
 module _ {r : ReaderState} {kept : List ℕ} {told : Bool} {out : ℕ} {p : Past} (o : IsOpen r kept told out p) (ended : Bool)
     (fault : Option LineFault) (at : ℕ) where
-  -- The end is submitted only after a reserve, and only if the line's input has ended.
+  -- The end is submitted only after a reserve, and only if the connection's input has ended.
   told_well : (told ≡ true → ended ≡ true) → (end : Bool) → told ≡ end
       → MayTellEnd (record { read = p.bytes; ended = ended; fault = fault }) o.asked (end_if end)
   told_well h true e = inr (refl, (o.stepped.told_well e).0, h e)
   told_well h false e = inl refl
 
-  -- The line is closed with this reading of its bytes.
+  -- The connection is closed with this reading of its bytes.
   closes : (end : LineEnd) (asked : List Request) (rest : List ℕ) → Reads r.max_job_size p.bytes asked rest
       → IsOverBy (record { read = p.bytes; ended = ended; fault = fault }) end asked o.asked → AreAllAnswered end o.asked p.mail
       → IsLastBroken end (with_action (actions.Submit steps.Close) (record p { ended = ended; fault = fault; written_at_fault = at }))
@@ -172,7 +173,7 @@ module _ {r : ReaderState} {kept : List ℕ} {told : Bool} {out : ℕ} {p : Past
   all_answered : out ≡ 0 → length p.mail ≡ answered_count o.asked
   all_answered none = omega (arith, o.handed.answered, answered_count-asked o.asked o.stepped.no_quit)
 
-  -- A line is closed at the end of its input,
+  -- A connection is closed at the end of its input,
   pub ends_line : (ended : Bool) → out ≡ 0 → kept ≡ [] → ended ≡ true
       → IsClosing r.max_job_size ends.EndOfInput (with_action (actions.Submit steps.Close) (record p { ended = ended }))
   ends_line ended all none e = closes o ended p.fault p.written_at_fault ends.EndOfInput o.asked o.read.begun (all_read none)

@@ -1,4 +1,4 @@
--- How many answers are outstanding while a line is read.
+-- How many answers are outstanding while a connection is read.
 use Rattle.std.proofs.Common.{◌≡◌, ℕ, ◌+◌, Bool, true, false, List, ◌∷◌, ◌++◌, length, map, arith, refl, ap, subst, ◌∙◌, append-nil}
 use Rattle.std.proofs.lemmas.List.{length-map}
 use Rattle.bq_job.specs.declared.step.Step.TheVariants as steps
@@ -10,7 +10,7 @@ use Rattle.bq_seat.specs.declared.machine.SeatMachine.{SeatMachine}
 use Rattle.bq_seat.specs.declared.machine.Stage.{Stage}
 use Rattle.bq_seat.specs.declared.machine.Stage.TheVariants as stages
 
--- an open line whose end of input was not submitted
+-- an open connection whose end of input was not submitted
 many_steps : (reader : ReaderState) (kept : List ℕ) (told : Bool) (outstanding : ℕ) (p : Past) → told ≡ false
     → IsOpen reader kept told outstanding p → length p.steps ≡ length p.mail + (outstanding + 1)
 many_steps reader kept told outstanding p none o =

@@ -1,4 +1,4 @@
--- The steps of a line, as requests are submitted one after another.
+-- The steps of a connection, as requests are submitted one after another.
 use Rattle.std.proofs.Common.{◌≡◌, ◌≢◌, ◌+◌, ◌<◌, false, List, [], ◌∷◌, ◌++◌, refl, ap, ◌∙◌, map, length, arith, not, IsTrue}
 use Rattle.std.proofs.lemmas.{Bool.or_parts, Grind.common_steps, List.Folds.list_any-append}
 use Rattle.bq_job.specs.reading.Reading.{is_quit, ends_by_quit}

@@ -1,5 +1,5 @@
--- An open line by its machine's stage: the steps that were submitted for it, and the answers that
--- were given for writing.
+-- An open connection by its machine's stage: the steps that were submitted for it, and the answers
+-- that were given for writing.
 use Rattle.std.proofs.Common.{◌≡◌, ℕ, Bool, true, false, List, [], ◌∷◌, ◌++◌, IsTrue, not, ◌&&◌}
 use Rattle.std.proofs.Common.{refl, sym, ap, ◌∙◌, ◌⊎◌, inl, inr, append-nil, append_assoc}
 use Rattle.std.proofs.lemmas.Bool.{and_parts}
@@ -62,7 +62,7 @@ asked_of line ends.WriteFault read asked o = record { more = o.0; read_is = o.1 
 
 -- ---- the steps of a line
 
--- the steps are a beginning of those of a line that has ended
+-- the steps are a beginning of those of a connection that has ended
 steps_of_served : (size : ℕ) (line : LineHeard) (end : LineEnd) (taken more : List Step) → IsStepsOfLine size line end (taken ++ more)
     → IsStepsSoFar size line taken
 steps_of_served size line end taken more l =
@@ -92,7 +92,7 @@ ends_told : (line : LineHeard) (asked : List Request) (told : Bool)
 ends_told line asked true ended waits = inr (refl, waits refl, ended refl)
 ends_told line asked false ended waits = inl refl
 
--- the line is open
+-- the connection is open
 steps_of_open : (reader : ReaderState) (kept : List ℕ) (told : Bool) (outstanding : ℕ) (p : Past) (written : List ℕ)
     → IsOpen reader kept told outstanding p → IsStepsSoFar reader.max_job_size (heard (seen_line written p)) p.steps
 steps_of_open reader kept told outstanding p written o =
@@ -114,8 +114,8 @@ steps_of_open reader kept told outstanding p written o =
 pub same_steps : (xs : List Step) → xs ≡ xs ++ []
 same_steps xs = sym (append-nil xs)
 
--- What a stage says of its line: it is open, or it was served until its close, which these steps may
--- still lack.
+-- What a stage says of its connection: it is open, or it was served until its close, which these
+-- steps may still lack.
 record IsServedBy (end : LineEnd) (more : List Step) (reader : ReaderState) (p : Past) : Type 0 where
   line : (written : List ℕ) → IsStepsOfLine reader.max_job_size (heard (seen_line written p)) end (p.steps ++ more)
   handed : p.written ≡ p.mail

@@ -1,4 +1,5 @@
--- What holds when an action is given: the line's past, including the event that the action answers.
+-- What holds when an action is given: the connection's past, including the event that the action
+-- answers.
 use Rattle.std.specs.Prelude.{ℕ, ◌≡◌, ◌≤◌, ◌+◌, false, List, length, None}
 use Rattle.bq_job.specs.promise.LineSteps.{wanted}
 use Rattle.bq_seat.specs.InTurn.{IsInTurn}
@@ -7,10 +8,10 @@ use Rattle.bq_seat.specs.Served.{IsServed}
 use Rattle.bq_seat.specs.declared.machine.Action.{Action}
 use Rattle.bq_seat.specs.declared.machine.Action.TheVariants as actions
 
--- A step is submitted in its turn. When a read is given, the line is not closed, its input has not
--- ended and nothing failed. When the mail is polled, at most one answer is outstanding. When a
--- write is given, the line is not closed and nothing failed. When a line has ended, it was served,
--- whatever bytes were written to it.
+-- A step is submitted in its turn. When a read is given, the connection is not closed, its input
+-- has not ended and nothing failed. When the mail is polled, at most one answer is outstanding.
+-- When a write is given, the connection is not closed and nothing failed. When a connection has
+-- ended, it was served, whatever bytes were written to it.
 abbrev pub Finds : ℕ → Action → Past → Type 0
 Finds max_job_size (actions.Submit step) p = IsInTurn step p.steps p.mail
 Finds max_job_size actions.Read p = (p.closing ≡ false) × (p.ended ≡ false) × (p.fault ≡ None)

@@ -1,4 +1,4 @@
--- What a seat machine does next, determined by the event and the line's past alone.
+-- What a seat machine does next, determined by the event and the connection's past alone.
 use Rattle.std.specs.Prelude.{ℕ, ◌≡◌, Bool, false, not, ◌&&◌, MatchBool, nat_lt, if◌then◌else◌, List, [], ◌∷◌, length, Option, Some, None}
 use Rattle.bq_job.specs.declared.answer.Answer.{Answer}
 use Rattle.bq_job.specs.declared.request.Request.{Request}
@@ -34,7 +34,7 @@ abbrev pub is_read_on : List ℕ → Past → Bool
 is_read_on [] p = ends_by_wait (asked_in p.steps) && not p.ended
 is_read_on (_ ∷ _) p = false
 
--- No answer is outstanding: the next request is submitted, or the line is read or closed.
+-- No answer is outstanding: the next request is submitted, or the connection is read or closed.
 abbrev pub GoesFurther : Action → Type 0
 GoesFurther (actions.Submit (steps.Ask request)) = Unit {0}
 GoesFurther (actions.Submit steps.Close) = Unit {0}
@@ -45,26 +45,26 @@ abbrev pub IsLineOver : Action → Type 0
 IsLineOver (actions.LineOver end) = Unit {0}
 IsLineOver _ = ⊥
 
--- After a quit the line is closed. After any other step except the connect, the machine polls for
--- the step's answer.
+-- After a quit the connection is closed. After any other step except the connect, the machine polls
+-- for the step's answer.
 abbrev pub LooksBehindStep : Option Step → Action → Type 0
 LooksBehindStep (Some steps.Connect) action = GoesFurther action
 LooksBehindStep (Some (steps.Ask requests.Quit)) action = action ≡ actions.Submit steps.Close
 LooksBehindStep _ action = action ≡ actions.PollMail
 
 -- If there was nothing to read, the mail is polled if an answer is outstanding. If there was no
--- mail, it is polled again, except that the line is read first while a reserve waits.
+-- mail, it is polled again, except that the connection is read first while a reserve waits.
 abbrev pub LooksForMore : Awaited → List ℕ → Past → Action → Type 0
 LooksForMore Awaited.AReading kept p action = action ≡ (if is_unanswered p then actions.PollMail else actions.Read)
 LooksForMore Awaited.AMail kept p action = action ≡ (if not p.closing && is_read_on kept p then actions.Read else actions.PollMail)
 LooksForMore _ kept p action = ⊥
 
--- After the close, the mail is polled until the answer to the close ends the line; other mail is
--- dropped.
+-- After the close, the mail is polled until the answer to the close ends the connection; other mail
+-- is dropped.
 abbrev pub LooksAfterClose : Answer → Action → Type 0
 LooksAfterClose answer action = MatchBool (is_closed_answer answer) (IsLineOver action) (action ≡ actions.PollMail)
 
--- The awaited event happened to a line with this past, while these bytes were kept.
+-- The awaited event happened to a connection with this past, while these bytes were kept.
 abbrev pub LooksOn : Awaited → List ℕ → Event → Past → Action → Type 0
 LooksOn what kept events.Opened p action = action ≡ actions.Submit steps.Connect
 LooksOn what kept events.Submitted p action = LooksBehindStep (last_step p.steps) action

@@ -1,4 +1,4 @@
--- What has happened at a connection since its line was opened.
+-- What has happened at a connection since it was opened.
 use Rattle.std.specs.Prelude.{ℕ, ◌≡◌, Bool, true, false, ◌||◌, if◌then◌else◌, List, [], ◌∷◌, ◌++◌, length, Option, Some, None, is_some}
 use Rattle.std.specs.List.{list_any}
 use Rattle.bq_job.specs.declared.answer.Answer.{Answer}
@@ -49,7 +49,7 @@ with_mail answer p =
 abbrev pub with_fault : LineFault → Past → Past
 with_fault fault p = if is_some p.fault then p else record p { fault = Some fault; written_at_fault = length p.written }
 
--- The event happened. A newly opened line starts a past of its own.
+-- The event happened. A newly opened connection starts a past of its own.
 abbrev pub with_event : Event → Past → Past
 with_event events.Opened p = no_past
 with_event (events.Bytes bytes) p = record p { bytes = p.bytes ++ bytes.now }
@@ -80,7 +80,7 @@ is_stray _ = false
 abbrev pub past_after : Event → Action → Past → Past
 past_after event action p = if is_stray action then p else with_action action (with_event event p)
 
--- a line was opened, and its connect is being submitted
+-- a connection was opened, and its connect is being submitted
 abbrev pub first_past : Past
 first_past = past_after events.Opened (actions.Submit steps.Connect) no_past
 
@@ -91,15 +91,15 @@ pub record IsOrderly (p : Past) : Type 0 where
 
 -- what a machine awaits after it has given an action
 pub data Awaited : Type 0 where
-  -- that a line is opened
+  -- that a connection is opened
   ALine : Awaited
   -- that a step was submitted
   ASubmission : Awaited
-  -- the result of a read of the line
+  -- the result of a read of the connection
   AReading : Awaited
   -- the result of polling the mail
   AMail : Awaited
-  -- the result of a write to the line
+  -- the result of a write to the connection
   AWriting : Awaited
 
 -- what answers the action; a stray action awaits nothing

@@ -17,7 +17,7 @@ abbrev pub FitsPiece : Event → Type 0
 FitsPiece (events.Bytes bytes) = length bytes.now ≤ PIECE_ROOM
 FitsPiece _ = Unit {0}
 
--- An awaited line that is opened begins with its connect, and has a past of its own.
+-- An awaited connection that is opened begins with its connect, and has a past of its own.
 abbrev pub OpensPast : Event → Action → SeatMachine → Type 0
 OpensPast events.Opened action new = is_stray action ≡ false → (action ≡ actions.Submit steps.Connect) × StandsFor new first_past
 OpensPast _ action new = Unit {0}

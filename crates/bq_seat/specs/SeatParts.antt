@@ -28,7 +28,7 @@ pub record GoesOn (old : SeatMachine) (action : Action) (new : SeatMachine) : Ty
 abbrev pub in_stage : Stage → SeatMachine → SeatMachine
 in_stage stage m = record m { stage = stage }
 
--- the machine between two lines, with this reader
+-- the machine between two connections, with this reader
 abbrev pub between : ReaderState → SeatMachine → SeatMachine
 between reader m = record m { reader = reader; stage = stages.Between }
 
@@ -40,7 +40,7 @@ holding bytes m = record m { kept = bytes }
 abbrev pub asking_stage : Request → Stage
 asking_stage request = if is_quit request then stages.AskingQuit else stages.Asking (is_waiting_request request)
 
--- While a reserve waits, the line is read if no bytes are kept and the input has not ended.
+-- While a reserve waits, the connection is read if no bytes are kept and the input has not ended.
 abbrev pub reads_on : Bool → SeatMachine → Bool
 reads_on waits m = waits && not m.end_told && (length m.kept == 0)
 
@@ -55,7 +55,7 @@ would_read_in _ m = false
 abbrev pub would_read : SeatMachine → Bool
 would_read m = would_read_in m.stage m
 
--- An awaited line that is opened begins with its connect.
+-- An awaited connection that is opened begins with its connect.
 abbrev pub OpensLine : Event → Action → SeatMachine → Type 0
 OpensLine events.Opened action new = is_stray action ≡ false → (action ≡ actions.Submit steps.Connect) × AgreesWith new first_past
 OpensLine _ action new = Unit {0}

@@ -53,7 +53,7 @@ pub record HasHandedOut (outstanding : ℕ) (asked : List Request) (mail late wr
   pub late_is : late ≡ []
   pub fault_is : fault ≡ None
 
--- a line that is open
+-- a connection that is open
 pub record IsOpen (reader : ReaderState) (kept : List ℕ) (told : Bool) (outstanding : ℕ) (p : Past) : Type 0 where
   pub asked : List Request
   pub read : HasReadTo reader kept asked p.bytes
@@ -87,7 +87,7 @@ StandsInStage (stages.Polling waits) reader kept told p = IsWaiting reader kept 
 StandsInStage stages.ReadingOn reader kept told p = IsWaiting reader kept told true p × (kept ≡ []) × (told ≡ false)
 StandsInStage stages.TellingEnd reader kept told p = IsWaiting reader kept told true p × (told ≡ true)
 StandsInStage stages.Writing reader kept told p = IsOpen reader kept told 0 p × (0 < length p.written)
--- a quit was submitted, and the line may be closed
+-- a quit was submitted, and the connection may be closed
 StandsInStage stages.AskingQuit reader kept told p =
     (p.closing ≡ false) × IsClosing reader.max_job_size ends.Quit (with_action (actions.Submit steps.Close) p) × HasAskedQuit p
 StandsInStage (stages.Closing end) reader kept told p = IsClosing reader.max_job_size end p

@@ -1,4 +1,4 @@
--- A line that was served.
+-- A connection that was served.
 use Rattle.std.specs.Prelude.{ℕ, ◌≡◌, false, List, [], ◌∷◌, ◌++◌, length, Option, Some, None}
 use Rattle.bq_job.specs.declared.answer.Answer.{Answer}
 use Rattle.bq_job.specs.declared.answer.Answer.TheVariants.{Closed}
@@ -10,7 +10,7 @@ use Rattle.bq_job.specs.promise.LineSteps.{LineSeen, IsStepsOfLine, AreAllAnswer
 use Rattle.bq_job.specs.machine.OneClient.{has_closed}
 use Rattle.bq_seat.specs.Past.{Past}
 
--- the line, as the machine has seen it, if these bytes were written to it
+-- the connection, as the machine has seen it, if these bytes were written to it
 abbrev pub seen_line : List ℕ → Past → LineSeen
 seen_line bytes p = record { read = p.bytes; written = bytes; ended = p.ended; fault = p.fault }
 
@@ -19,17 +19,17 @@ abbrev pub IsLastBroken : LineEnd → Past → Type 0
 IsLastBroken ends.WriteFault p = p.written_at_fault ≡ length p.written
 IsLastBroken _ p = Unit {0}
 
--- the fault of a line that ended this way
+-- the fault of a connection that ended this way
 abbrev pub IsFaultOf : LineEnd → Option LineFault → Type 0
 IsFaultOf ends.Quit fault = fault ≡ None
 IsFaultOf ends.EndOfInput fault = fault ≡ None
 IsFaultOf ends.ReadFault fault = fault ≡ Some faults.Read
 IsFaultOf ends.WriteFault fault = fault ≡ Some faults.Write
 
--- A line was served from its opening until its close was submitted: its steps are those of the
--- line. The answers given for writing are those that came before the close, in order: one for each
--- request except quit. After a read fault, the answer to a last request that may wait can be
--- missing.
+-- A connection was served from its opening until its close was submitted: its steps are those of
+-- the connection. The answers given for writing are those that came before the close, in order: one
+-- for each request except quit. After a read fault, the answer to a last request that may wait can
+-- be missing.
 pub record IsServedToClose (max_job_size : ℕ) (written : List ℕ) (end : LineEnd) (p : Past) : Type 0 where
   pub line : IsStepsOfLine max_job_size (heard (seen_line written p)) end p.steps
   pub handed_out : p.written ≡ p.mail
@@ -43,7 +43,7 @@ pub record EndsByClosed (late : List Answer) : Type 0 where
   pub late_is : late ≡ others ++ Closed ∷ []
   pub none_closed : has_closed others ≡ false
 
--- A line that has ended was served until its close, and the close was answered.
+-- A connection that has ended was served until its close, and the close was answered.
 pub record IsServed (max_job_size : ℕ) (written : List ℕ) (end : LineEnd) (p : Past) : Type 0 where
   pub to_close : IsServedToClose max_job_size written end p
   pub late : EndsByClosed p.late_mail

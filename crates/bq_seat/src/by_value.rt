@@ -14,8 +14,8 @@ impl SeatMachine {
         requires { FitsPiece event }
         // The event is stray if and only if it does not answer the last action, and then nothing
         // changes. Otherwise every past that the machine represents continues with this event and
-        // this action, justifies the action, and determines what the machine does next; a line that
-        // has ended was served.
+        // this action, justifies the action, and determines what the machine does next; a
+        // connection that has ended was served.
         ensures { IsMove self.old event.entry result self.new }
     {
         let mut next = Action::Stray;

@@ -1,6 +1,6 @@
-//! What a connection does next: a state machine that receives events of a client's line and answers
-//! with actions. It reads requests from the line's bytes, submits the line's steps, and returns
-//! their answers for writing. It does no input or output itself.
+//! What a connection does next: a state machine that receives events of a client's connection and
+//! answers with actions. It reads requests from the connection's bytes, submits the connection's
+//! steps, and returns their answers for writing. It does no input or output itself.
 #![tactic(auto)]
 
 pub use bq_job::LineEnd;

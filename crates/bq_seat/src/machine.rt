@@ -10,7 +10,7 @@ use std::alloc::Global;
 /// What happened at a connection in answer to the machine's last action.
 #[derive(Drop)]
 pub enum Event<'a> {
-    /// A line was opened.
+    /// A connection was opened.
     Opened,
     /// The step was submitted.
     Submitted,
@@ -20,28 +20,28 @@ pub enum Event<'a> {
     NothingYet,
     /// The client sends no more.
     EndOfInput,
-    /// A read of the line failed.
+    /// A read of the connection failed.
     ReadFault,
     /// This answer came.
     Mail(Answer),
     /// The whole answer was written.
     WriteDone,
-    /// A write to the line failed.
+    /// A write to the connection failed.
     WriteFault,
 }
 
 /// What to do next for a connection.
 #[derive(Drop)]
 pub enum Action {
-    /// Submit this step of the line.
+    /// Submit this step of the connection.
     Submit(Step),
-    /// Read from the line.
+    /// Read from the connection.
     Read,
     /// Check whether an answer has come.
     PollMail,
-    /// Write the text of this answer to the line.
+    /// Write the text of this answer to the connection.
     Write(Answer),
-    /// The line has ended. The next one may be opened.
+    /// The connection has ended. The next one may be opened.
     LineOver(LineEnd),
     /// The event does not answer the last action. Nothing was changed.
     Stray,
@@ -50,17 +50,17 @@ pub enum Action {
 /// What the machine did last, and thus which events answer it.
 #[derive(Clone, Copy, PartialEq, Eq)]
 enum Stage {
-    /// No line is open; the machine waits for one.
+    /// No connection is open; the machine waits for one.
     Between,
     /// The client's connect is being submitted.
     Connecting,
-    /// The line is being read, and no answer is outstanding.
+    /// The connection is being read, and no answer is outstanding.
     Reading,
     /// A request is being submitted. If `waits`, it is a reserve, whose answer may take long.
     Asking { waits: bool },
     /// The machine polls for the answer to a request. If `waits`, it is a reserve.
     Polling { waits: bool },
-    /// The line is being read while a reserve waits.
+    /// The connection is being read while a reserve waits.
     ReadingOn,
     /// The end of the client's input is being submitted.
     TellingEnd,
@@ -74,7 +74,7 @@ enum Stage {
     Leaving(LineEnd),
 }
 
-/// The state machine of a seat, which serves one connection at a time, line after line.
+/// The state machine of a seat, which serves one connection after another.
 #[derive(Drop)]
 pub struct SeatMachine {
     reader: RequestReader,
@@ -96,7 +96,7 @@ impl SeatMachine {
     ghost use Rattle.bq_wire.specs.Standing.{Stands};
     ghost use Rattle.bq_seat.specs.SeatStands.{awaited, kept_bytes};
 
-    /// Returns a machine that waits for its first line. It rejects bodies of more than
+    /// Returns a machine that waits for its first connection. It rejects bodies of more than
     /// `max_job_size` bytes, which must be 1 to 1,048,576. Everything except bodies is allocated
     /// here; returns `NoMemory` if that fails.
     pub fn new(alloc: Global, max_job_size: u32) -> Result<SeatMachine, NoMemory>
@@ -114,8 +114,8 @@ impl SeatMachine {
         })
     }
 
-    /// Returns true if a request waits for its answer while the line is read. A blocking read would
-    /// then keep the answer from the client.
+    /// Returns true if a request waits for its answer while the connection is read. A blocking read
+    /// would then keep the answer from the client.
     #[tactic(auto, using(crate::proofs::OutstandingLemmas::reads_alone, crate::proofs::OutstandingLemmas::reads_with_one))]
     pub fn has_outstanding(&self) -> bool
         ensures { ReadsWith result self.now }
@@ -221,7 +221,7 @@ impl SeatMachine {
         }
     }
 
-    /// A read of the line failed.
+    /// A read of the connection failed.
     pub fn read_fault(&mut self, next: &mut Action)
         ensures { IsMove self.old Event.ReadFault next.new self.new }
     {
@@ -233,7 +233,7 @@ impl SeatMachine {
     }
 
     /// An answer came. It must already be in `next` as a `Write`; if it is to be written, it stays
-    /// there. If it ends the line, the memory for a body that did not come whole is freed.
+    /// there. If it ends the connection, the memory for a body that did not come whole is freed.
     pub fn mail(&mut self, next: &mut Action)
         ensures moved { (answer : Answer) → next.old ≡ Action.Write answer
             → IsMove self.old (Event.Mail answer) next.new self.new }
@@ -257,7 +257,7 @@ impl SeatMachine {
         }
     }
 
-    /// A write to the line failed.
+    /// A write to the connection failed.
     pub fn write_fault(&mut self, next: &mut Action)
         ensures { IsMove self.old Event.WriteFault next.new self.new }
     {
@@ -268,7 +268,7 @@ impl SeatMachine {
     }
 
     // No answer is outstanding: submits the next request in the kept bytes. If they contain none,
-    // it reads more, or closes the line if the client sends no more.
+    // it reads more, or closes the connection if the client sends no more.
     fn go_on(&mut self, alloc: Global, next: &mut Action)
         ensures { GoesOn self.old next.new self.new }
     {
@@ -330,14 +330,14 @@ impl SeatMachine {
         *next = Action::PollMail;
     }
 
-    // Returns true if the line is read while an answer is outstanding.
+    // Returns true if the connection is read while an answer is outstanding.
     fn reads_on(&self, waits: bool) -> bool
         ensures { result ≡ reads_on waits self.now }
     {
         waits && !self.end_told && self.kept.is_empty()
     }
 
-    // No answer has come yet. While a reserve waits, the line is read if no bytes are kept.
+    // No answer has come yet. While a reserve waits, the connection is read if no bytes are kept.
     fn no_mail_yet(&mut self, waits: bool, next: &mut Action)
         ensures action { next.new
             ≡ (if reads_on waits self.old then Action.Read else Action.PollMail) }
@@ -368,8 +368,8 @@ impl SeatMachine {
         *next = Action::PollMail;
     }
 
-    // The answer to the close ends the line. Other mail is dropped. A body that did not come whole
-    // is freed here, since the next connection may come much later.
+    // The answer to the close ends the connection. Other mail is dropped. A body that did not come
+    // whole is freed here, since the next connection may come much later.
     fn mail_after_close(&mut self, end: LineEnd, next: &mut Action)
         ensures action { (answer : Answer) → next.old ≡ Action.Write answer
             → next.new ≡ (if is_closed_answer answer then Action.LineOver end else Action.PollMail) }

@@ -1,11 +1,11 @@
-//! Serving clients over lines of bytes: everything that a caller needs, in one place.
+//! Serving clients over connections: everything that a caller needs, in one place.
 //!
-//! There are four runs. [`run_one`] serves one line on one thread, [`run_sessions`] serves many
-//! doors with a thread for each, [`run_event_loop`] serves them all on one thread, and
-//! [`run_locked`] has a thread for each door around one lock. This crate also exports the lines,
-//! doors and clocks that they use, and the work of each thread of `run_sessions` as a function.
-//! Each part is defined in a crate of its own, so that a crate that uses one part does not wait for
-//! the proofs of the others.
+//! There are four runs. [`run_one`] serves one connection on one thread, [`run_sessions`] serves
+//! many doors with a thread for each, [`run_event_loop`] serves them all on one thread, and
+//! [`run_locked`] has a thread for each door around one lock. This crate also exports the
+//! connections, doors and clocks that they use, and the work of each thread of `run_sessions` as a
+//! function. Each part is defined in a crate of its own, so that a crate that uses one part does
+//! not wait for the proofs of the others.
 #![tactic(auto)]
 
 pub use bq_core::{Config, Core, CoreFault, Outs};

@@ -17,13 +17,13 @@ use std::alloc::Global;
 use std::sync::Wait;
 use std::thread::Threads;
 
-/// A run over doors that has ended: the doors with their lines, the clock and the control line as
-/// they were left, the core, and the links between them.
+/// A run over doors that has ended: the doors with their connections, the clock and the control
+/// line as they were left, the core, and the links between them.
 pub type Run<D, C, I> = bq_run::Run<D, C, I, Core>;
 
-/// Serves the lines of all doors, each at a seat and in a thread of its own, until no more lines
-/// come at any of them. Another thread runs the core with its clock. The calling thread reads the
-/// control line, where each line `drain` starts draining.
+/// Serves the connections of all doors, each at a seat and in a thread of its own, until no more
+/// connections come at any of them. Another thread runs the core with its clock. The calling thread
+/// reads the control line, where each line `drain` starts draining.
 ///
 /// The error is `BadConfiguration` if the configuration is out of its ranges or the number of doors
 /// is not the number of seats. Otherwise it is `NoMemory` if an allocation failed, or
@@ -43,13 +43,13 @@ pub fn run_sessions<
     clock: C,
     control: I,
 ) -> Result<Run<D, C, I>, RunFault>
-    // No door has a line that is open or was served, and no door is at its end.
+    // No door has a connection that is open or was served, and no door is at its end.
     requires new { All
         (λ door. IsNewDoor (door_seen D.is_out D.is_at_end D.lines_over door)) doors.items }
     // There is one history of the steps of all clients and of the control line, each at the moment
-    // of a reading of the clock. The one-list machine takes this history, the core represents the
-    // machine after it, and each line received exactly the bytes that the history prescribes for
-    // it. The ends of the links submitted these steps and took these answers.
+    // of a reading of the clock. The one-list model takes this history, the core represents the
+    // model after it, and each connection received exactly the bytes that the history prescribes
+    // for it. The ends of the links submitted these steps and took these answers.
     ensures served { IfOk result (IsRunOf C.given D.lines_over I.remaining I.may_fail ⟦<Core as QueueCore>⟧.machine
         ⟦<Core as QueueCore>⟧.comparisons config clock control) }
     // Along this history, each job that is handed out is the least one that the client may have. An

@@ -1,14 +1,14 @@
-//! Lines that fail while other lines are served without damage.
+//! Connections that fail while other connections are served without damage.
 
 use crate::doors::{CountedDoor, is_left_so};
 use bq_job::LineEnd;
 use bq_scenes::clients::{Client, INSERTED, PUTS, RESERVED, ROOM};
 
-/// A client that waits and whose line fails, and a client that puts a job.
+/// A client that waits and whose connection fails, and a client that puts a job.
 pub const BROKEN: &[&[Client]] = &[&[("reserve~ + fails", ROOM)], &[(PUTS, ROOM)]];
 
-// Returns true if the door's one line failed while it waited, and received its whole answer or
-// nothing.
+// Returns true if the door's one connection failed while it waited, and received its whole answer
+// or nothing.
 fn is_broken_off(door: &CountedDoor) -> bool {
     match door.door.over() {
         [(line, end)] => {
@@ -19,7 +19,7 @@ fn is_broken_off(door: &CountedDoor) -> bool {
     }
 }
 
-/// Returns true if the first line failed and the second was served without damage.
+/// Returns true if the first connection failed and the second was served without damage.
 pub fn is_other_unhurt(doors: &[CountedDoor]) -> bool {
     match doors {
         [broken, other] => {
@@ -29,7 +29,7 @@ pub fn is_other_unhurt(doors: &[CountedDoor]) -> bool {
     }
 }
 
-// Returns true if the door's one line received as much of the text as it had room for.
+// Returns true if the door's one connection received as much of the text as it had room for.
 fn is_cut_off(door: &CountedDoor, text: &str, room: usize) -> bool {
     match door.door.over() {
         [(line, end)] => {

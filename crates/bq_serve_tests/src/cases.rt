@@ -13,12 +13,12 @@ use bq_scenes::worked::{examples, opens_of};
 /// The wanted result of a run.
 #[derive(Clone, Copy)]
 pub enum Wanted {
-    /// These lines have ended, in this order.
+    /// These connections have ended, in this order.
     Lines(&'static [&'static [Outcome<'static>]]),
-    /// The line of the first client, which waits, has failed; the other one has not.
+    /// The connection of the first client, which waits, has failed; the other one has not.
     OneBroken,
-    /// The line of the client that waits and that of the client that puts a job were each cut off
-    /// after the room for it.
+    /// The connection of the client that waits and that of the client that puts a job were each cut
+    /// off after the room for it.
     CutOff,
     /// The doors were served.
     Served,
@@ -55,7 +55,7 @@ pub struct Case {
     /// If true, the journal has to be complete, and is replayed.
     pub is_replayed: bool,
     pub wanted: Wanted,
-    /// The lines that have ended if a command was skipped.
+    /// The connections that have ended if a command was skipped.
     pub left_out: &'static [&'static [Outcome<'static>]],
 }
 
@@ -119,9 +119,9 @@ impl Case {
 pub enum Group {
     /// Each example whose result was worked out by hand, many times.
     Worked,
-    /// One of two lines is cut off after each number of bytes.
+    /// One of two connections is cut off after each number of bytes.
     CutOff,
-    /// The line of a client that waits fails.
+    /// The connection of a client that waits fails.
     Broken,
     /// One door without clients, with each of the control lines.
     Drained,
@@ -157,7 +157,7 @@ fn worked(number: usize) -> Option<Case> {
     }
 }
 
-/// How many runs there are in which a line is cut off: two for each number of bytes.
+/// How many runs there are in which a connection is cut off: two for each number of bytes.
 const CUT_OFF: usize = 40;
 
 static BOTH: &[&[Client]] = &[&[(WAITS, ROOM)], &[(PUTS, ROOM)]];

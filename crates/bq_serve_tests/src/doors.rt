@@ -125,7 +125,7 @@ pub fn doors<'c>(
     Ok(doors)
 }
 
-/// Returns true if the door has served these lines, in this order, and has none left.
+/// Returns true if the door has served these connections, in this order, and has none left.
 pub fn is_left_so(door: &CountedDoor, outcomes: &[Outcome]) -> bool {
     let over = door.door.over();
     if over.len() != outcomes.len() || door.door.left() != 0 {

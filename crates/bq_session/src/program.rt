@@ -24,8 +24,8 @@ pub fn run_bq<R: AllocGlobal + Env + Wait + Clock + Print + Eprint, S: Duplex + 
     stream: S,
 ) -> u8
     // The status follows from what came of the client. A client that was served has the promise of `serve_client`, with a
-    // new clock and over this stream: its line read what the stream gave, and the stream took what the line wrote. If
-    // the stream may not fail, the line met no fault.
+    // new clock and over this stream: its connection read what the stream gave, and the stream took what the connection
+    // wrote. If the stream may not fail, the connection met no fault.
     ensures { (clock : AClock (Bor R)) × (clock.given ≡ []) × (came : Result (Served S (Bor R)) Stop)
         × IfOk came (λ served. IsForBq served.options)
         × IfOk came (λ served. IsSession served.options clock served.clock

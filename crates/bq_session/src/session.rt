@@ -1,4 +1,4 @@
-//! Serves the client of `bq` on any stream: from the options to the end of the client's line.
+//! Serves the client of `bq` on any stream: from the options to the end of the client's connection.
 ghost use Rattle.std.specs.Prelude.{◌≡◌, IfErr, IfOk};
 ghost use Rattle.bq_program.specs.Ranges.{IsForBq};
 ghost use Rattle.bq_session.specs.Sessions.{IsSession, settings_of_bq};
@@ -14,21 +14,24 @@ use std::alloc::Global;
 use std::rt;
 use std::sync::Wait;
 
-/// A client that was served until its line ended, with the options and the clock that were used.
+/// A client that was served until its connection ended, with the options and the clock that were
+/// used.
 #[derive(Drop)]
 pub struct Served<S, K> {
-    /// The line, with what was read from it and written to it.
+    /// The connection, with what was read from it and written to it.
     pub line: IoLine<S>,
-    /// How the line ended.
+    /// How the connection ended.
     pub end: LineEnd,
     /// The options by which it was served.
     pub options: BqOptions,
-    /// The machine's clock, as the session left it. If the options say so, a clock that stands still was read instead.
+    /// The computer's clock, as the session left it. If the options say so, a clock that stands still was read
+    /// instead.
     pub clock: MachineClock<K>,
 }
 
-/// Serves the client at the other end of the stream by these options until its line ends. It reads this clock, unless
-/// the options ask for one that always reads 0. On error the stream was neither read nor written, and is dropped.
+/// Serves the client at the other end of the stream by these options until its connection ends. It reads this clock,
+/// unless the options ask for one that always reads 0. On error the stream was neither read nor written, and is
+/// dropped.
 pub fn serve_client<R: Wait, S: Duplex + Drop, K: rt::Clock + Drop>(
     rt: &R,
     alloc: Global,
@@ -39,10 +42,10 @@ pub fn serve_client<R: Wait, S: Duplex + Drop, K: rt::Clock + Drop>(
     requires { IsForBq options.now }
     ensures options { IfOk result (λ served. served.options ≡ options.now) }
     // There is one history of the client's steps by these options and the clock that they choose, and the one-list
-    // machine takes it. The client received exactly the bytes that this history prescribes.
+    // model takes it. The client received exactly the bytes that this history prescribes.
     ensures served { IfOk result (λ served. IsSession options.now clock served.clock
         (⟦<IoLine<S> as Line>⟧.seen served.line) served.end) }
-    // The line is over this stream. If the stream may not fail, it met no fault.
+    // The connection is over this stream. If the stream may not fail, it met no fault.
     ensures over { IfOk result
         (λ served. ⟦<IoLine<S> as Line>⟧.lies_over
         (record { left = S.remaining stream; held = S.contents stream; may_fail = S.may_fail stream })

@@ -5,8 +5,8 @@ use bq_job::Moment;
 use bq_line::clock::{Clock, MachineClock};
 use std::rt;
 
-/// The clock of a session: the machine's, or one that always reads 0. It keeps the machine's clock in both cases, so that
-/// the caller gets it back.
+/// The clock of a session: the computer's, or one that always reads 0. It keeps the computer's
+/// clock in both cases, so that the caller gets it back.
 #[derive(Drop)]
 pub struct SessionClock<K> {
     pub machine: MachineClock<K>,

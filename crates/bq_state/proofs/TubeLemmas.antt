@@ -1,4 +1,4 @@
--- What is kept of tubes: the entries and the machine's records of them.
+-- What is kept of tubes: the entries and the model's records of them.
 use Rattle.std.proofs.Common.{Bool, List, None, Option, [], arith, false, if◌then◌else◌, inl, inr, is_some, length, map, not, refl, rules}
 use Rattle.std.proofs.{Common.{true, ℕ, ◌&&◌, ◌<◌, ◌∷◌, ◌≡◌}, lemmas.{Bool.{and_left, cases_Bool, or_cases, or_parts}, Grind.common_steps}}
 use Rattle.std.{proofs.lemmas.List.Sums.prefix_len-le-length, specs.Cmp.Lexicographic.bytes_decides}

@@ -1,4 +1,4 @@
--- The machine that a core represents.
+-- The model that a core represents.
 use Rattle.std.specs.{Global.Global, Prelude.{Bool, List, Some, Vec, count_by, map, ℕ, ◌≡◌}}
 use Rattle.bq_job.specs.{declared.{job.Job.Job, settings.Settings.Settings}, machine.{SeatRecord, seat_with, tube_after_timers, watching}}
 use Rattle.bq_job.specs.machine.{Machine.Machine, with_seat}
@@ -60,7 +60,7 @@ machine_held h = record {
 abbrev pub machine_of : CoreParts → Machine
 machine_of s = machine_held (held s)
 
--- the machine after the pauses that are over have ended
+-- the model after the pauses that are over have ended
 abbrev pub with_pauses_ended : Machine → Machine
 with_pauses_ended m = record m { tubes = map (tube_after_timers m.moment) m.tubes }
 

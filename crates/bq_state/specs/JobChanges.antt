@@ -31,7 +31,7 @@ abbrev pub ttr_held_by : ℕ → Option Job → Option ℕ
 ttr_held_by seat None = None
 ttr_held_by seat (Some j) = if is_held_by seat j then Some j.ttr else None
 
--- the machine after the job, if there is one, was deleted
+-- the model after the job, if there is one, was deleted
 abbrev pub once_deleted : Option Job → Machine → Machine
 once_deleted None m = m
 once_deleted (Some j) m = after_delete m j

@@ -13,7 +13,7 @@ pub record Soundness (jobs : List Job) (seats : List SeatRecord) (tubes : KeptTu
   pub entries : AreEntries jobs seats tubes.entries
   -- Seats are numbered in order.
   pub numbered : AreNumbered seats
-  -- The machine drains before the ids run out.
+  -- The model drains before the ids run out.
   pub next : draining ≡ false → next_id ≤ last_id
   -- Each id was given out once.
   pub ids : AreIdsWithin 1 jobs next_id

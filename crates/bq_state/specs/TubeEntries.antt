@@ -6,11 +6,11 @@ use Rattle.bq_job.specs.{declared.job.Job.Job, machine.{with_delete, with_pause,
 use Rattle.bq_job.specs.machine.{Pause as PauseRecord, SeatRecord, TubeRecord, default_tube, fresh_tube, is_name_before, is_seated_at}
 use Rattle.bq_state.specs.declared.tubes.entry.TubeChange.{TubeChange, TheVariants.{CountDelete, CountPut, Pause}}
 
--- something was counted in the tube, so the machine has a record of it
+-- something was counted in the tube, so the model has a record of it
 abbrev pub is_counted : TubeRecord → Bool
 is_counted t = not (t.puts == 0 && t.deletes == 0 && t.pauses == 0)
 
--- the machine's records of these entries
+-- the model's records of these entries
 abbrev pub counted : List TubeRecord → List TubeRecord
 counted entries = filter is_counted entries
 

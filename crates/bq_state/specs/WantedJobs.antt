@@ -42,7 +42,7 @@ abbrev pub wanted_after_tube : List ℕ → TubeChange → Wanted → Wanted
 wanted_after_tube name (Pause seconds moment) wanted = if seconds == 0 then with_wanted name wanted else wanted
 wanted_after_tube name _ wanted = wanted
 
--- the tube is paused, according to the machine's records
+-- the tube is paused, according to the model's records
 abbrev pub is_paused_by : List TubeRecord → List ℕ → Bool
 is_paused_by tubes name = is_some (unwrap_or (find (λ t. is_same_name name t.name) tubes) (fresh_tube name)).pause
 

@@ -106,8 +106,8 @@ impl CoreParts {
         job_store::time_to_run(&mut self.jobs, id, seat)
     }
 
-    /// Returns another reference to the body of the job with this id, or `NoMemory` if its
-    /// allocation fails; None if there is no such job.
+    /// Returns another reference to the body of the job with this id, or `NoMemory` if it is
+    /// refused; None if there is no such job.
     #[tactic(auto, using(crate::proofs::PartsLemmas::compared_sound))]
     pub fn share(&mut self, id: JobId) -> Option<Result<Body, NoMemory>>
         ensures none { is_some result ≡ is_some (job_with id (machine_of self.old).jobs) }

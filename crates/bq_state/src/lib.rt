@@ -1,7 +1,7 @@
 //! The state of a core: the jobs, the seats, the tubes, and what is known of them without a search.
 //!
-//! A [`core_parts::CoreParts`] represents the one-list machine that `bq_job` defines, and the
-//! contract of each operation says how it changes that machine. `bq_core` decides when they are
+//! A [`core_parts::CoreParts`] represents the one-list model that `bq_job` defines, and the
+//! contract of each operation says how it changes that model. `bq_core` decides when they are
 //! called.
 #![tactic(auto)]
 

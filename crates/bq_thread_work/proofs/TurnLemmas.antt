@@ -133,7 +133,7 @@ on_passed given machine compared old t true order ready none over ticked =
     on_ticked given machine compared old t order ready none (ticked refl)
 on_passed given machine compared old t false order ready none over ticked = on_over given machine compared old t order ready (over refl)
 
--- If no step was taken, the machine is the same.
+-- If no step was taken, the model is the same.
 pub still_over : {C K : Type 0} (given : Gives C) (machine : K → Machine) (compared : K → ℕ) (old t : TimedCore C K)
     → PassesOver given machine compared old t → machine t.core ≡ machine old.core
 still_over {C} {K} given machine compared old t (looked, l, rest) = elim rest [

@@ -28,15 +28,15 @@ use std::sync::Wait;
 use std::thread;
 use std::time::Duration;
 
-/// How long a seat sleeps, in milliseconds, when its line had no bytes or no room and the call did
-/// not wait for any.
+/// How long a seat sleeps, in milliseconds, when its connection had no bytes or no room and the
+/// call did not wait for any.
 const LINE_REST: u64 = 10;
 
 /// How long a seat sleeps, in milliseconds, when the intake was full. It soon has room again.
 const INTAKE_REST: u64 = 1;
 
-/// Serves the lines of a door one after another, until no more come. Steps are submitted at an end
-/// of the links, which also delivers their answers.
+/// Serves the connections of a door one after another, until no more come. Steps are submitted at
+/// an end of the links, which also delivers their answers.
 pub fn seat_work<R: Wait, L: Line + Drop, D: Door<Line = L> + Drop>(
     rt: &R,
     alloc: Global,
@@ -50,8 +50,8 @@ pub fn seat_work<R: Wait, L: Line + Drop, D: Door<Line = L> + Drop>(
     requires machine { awaited machine ≡ Awaited.ALine }
     requires door { IsNewDoor (door_seen D.is_out D.is_at_end D.lines_over door) }
     ensures end { IsSameSeat end result.0 }
-    // The steps submitted and the answers taken at the end are what the door's lines asked for and
-    // received.
+    // The steps submitted and the answers taken at the end are what the door's connections asked
+    // for and received.
     ensures served { let at = door_seen D.is_out D.is_at_end D.lines_over in
         IsDoorServed machine.reader.max_job_size (at result.1) result.0.submitted result.0.taken }
     // It is still the same door.
@@ -97,7 +97,7 @@ fn pause_after(progress: Progress, awaits_line: bool) -> u64 {
 }
 
 // The same if no bytes have come. If an answer is outstanding, the seat does not only await its
-// line, and polls its mail next.
+// connection, and polls its mail next.
 fn rest_without_bytes(awaits_line: bool) -> u64 {
     if awaits_line { LINE_REST } else { 0 }
 }
@@ -110,8 +110,9 @@ fn pause<R: Wait>(rt: &R, intake: &Intake<NoTicks>, end: &mut SeatEnd, most: u64
     }
 }
 
-/// The first sleep of a seat whose answer has not arrived, in milliseconds. After it, the line of a
-/// seat with a waiting reserve is read again, to notice that its client has disconnected.
+/// The first sleep of a seat whose answer has not arrived, in milliseconds. After it, the
+/// connection of a seat with a waiting reserve is read again, to notice that its client has
+/// disconnected.
 const FIRST_REST: u64 = 100;
 
 /// The longest sleep, in milliseconds. Each sleep is twice as long as the one before: a client that
@@ -173,8 +174,8 @@ pub struct Pace {
     // How many times it polls.
     looks: u32,
     // Whether it sleeps and polls once more if it found nothing. After a reserve, whose answer may
-    // take long, it does not: the miss is returned at once, so that bytes that the line holds back
-    // are written first.
+    // take long, it does not: the miss is returned at once, so that bytes that the connection holds
+    // back are written first.
     sleeps: bool,
     // How the last answer came.
     last: Arrival,

@@ -1,4 +1,4 @@
--- The number at the beginning of a line.
+-- The number at the beginning of a command line.
 use Rattle.std.proofs.Common.{◌≡◌, ◌<◌, ◌≤◌, ℕ, ◌^◌, ◌+◌, ◌-◌, suc, true, List, [], ◌∷◌, ◌==◌, Option, Some, None, zero, add-one}
 use Rattle.std.proofs.Common.{sym, refl, arith, length, take, drop, get_or}
 use Rattle.std.proofs.lemmas.Bool.Decides.{nat_tests}

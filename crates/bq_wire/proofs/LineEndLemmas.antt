@@ -1,4 +1,4 @@
--- Where lines end.
+-- Where command lines end.
 use Rattle.std.proofs.Common.{◌≡◌, ◌<◌, ◌≤◌, ℕ, ◌+◌, ◌-◌, zero, suc, Bool, true, false, ◌&&◌}
 use Rattle.std.proofs.Common.{◌==◌, List, [], ◌∷◌, ◌++◌, ◌⊎◌, inl, inr, Option, Some, None, add-one}
 use Rattle.std.proofs.Common.{refl, sym, ap, arith, length, length-append, take, drop, get_or, MatchOption, option_map, if◌then◌else◌}
@@ -32,7 +32,7 @@ one_more true k o = refl
 one_more false k None = refl
 one_more false k (Some n) = ap Some (omega arith)
 
--- the first LF ends a line if it follows a CR; otherwise the search continues after it
+-- the first LF ends a command line if it follows a CR; otherwise the search continues after it
 pub line_end_at : (c : Bool) (bytes : List ℕ) (k : ℕ) → k < length bytes → (get_or bytes k 0 == 10) ≡ true
     → ((j : ℕ) → j < k → (get_or bytes j 0 == 10) ≡ true → ⊥)
     → line_end_after c bytes ≡ (if last_is_cr c (take k bytes) then Some (suc k) else option_map (λ n. suc k + n)
@@ -61,7 +61,7 @@ last_is_cr_last c [] some = absurd (omega arith)
 last_is_cr_last c (b ∷ []) some = refl
 last_is_cr_last c (b ∷ d ∷ bytes) some = grind (arith, common_steps, last_is_cr_last (b == 13) (d ∷ bytes) (omega arith))
 
--- a line ends at the first byte, or later
+-- a command line ends at the first byte, or later
 pub end_cases : (t : Bool) (o : Option ℕ) (e : ℕ) → (if t then Some 1 else option_map suc o) ≡ Some e
     → ((t ≡ true) × (e ≡ 1)) ⊎ ((n : ℕ) × (t ≡ false) × (o ≡ Some n) × (e ≡ suc n))
 end_cases true o e h = inl (refl, cc)
@@ -81,13 +81,13 @@ line_end_within c (b ∷ bytes) e h =
       | inr a ↦ let more = line_end_within (b == 13) bytes a.0 a.2 in (omega (arith, a.3), omega (arith, a.3, more.1))
     ]
 
--- a line that ends with the first byte follows a CR
+-- a command line that ends with the first byte follows a CR
 pub line_end_one : (c : Bool) (bytes : List ℕ) → line_end_after c bytes ≡ Some 1 → c ≡ true
 line_end_one c [] h = cc
 line_end_one true (b ∷ bytes) h = refl
 line_end_one false (b ∷ bytes) h = grind (arith, common_steps, end_cases, line_end_within)
 
--- the bytes up to a line's end have the same line end
+-- the bytes up to a command line's end have the same line end
 pub line_end-take : (c : Bool) (bytes : List ℕ) (e : ℕ) → line_end_after c bytes ≡ Some e → line_end_after c (take e bytes) ≡ Some e
 line_end-take c [] e h = cc
 line_end-take c (b ∷ bytes) e h =

@@ -28,7 +28,7 @@ use Rattle.bq_wire.specs.declared.reader.ReaderPlace.TheVariants.{InLine, InLong
 use Rattle.bq_wire.specs.declared.reader.ReaderState.{ReaderState}
 use Rattle.bq_wire.proofs.LineEndLemmas.{goes_on, ends_there, line_end_within, line_end_one, last_is_cr-append}
 
--- a text without a line does not begin with a unit
+-- a text without a command line does not begin with a unit
 pub no_line_no_unit : (m : ℕ) (text : List ℕ) → first_line text ≡ None → BeginsNoUnit m text
 no_line_no_unit m text none = no_first_unit m text (rw none refl)
 
@@ -95,7 +95,7 @@ begun_whole m old new text bytes r begun put takes whole request =
     let long : length (begun.after ++ bytes) ≡ new.put.bytes + 2 = sym so_far.taken_is ∙ whole in
     (rw (line, read) (long, is), put_no_quit m (put_line_of new.put) (begun.after ++ bytes) r is)
 
--- a line that is a complete request is a unit
+-- a command line that is a complete request is a unit
 pub line_unit : (m : ℕ) (text bytes : List ℕ) (r : Request) → EndsLineAsking (line_read.Whole r) bytes text → IsUnit m (text ++ bytes) r
 line_unit m text bytes r line = rw (line.first_line_is, line.read_is) (refl, refl)
 
@@ -133,7 +133,7 @@ feeds_behind new text piece rest end taken r within is fed = go r fed
     }
     go (Some request) fed = record { unit = rw parts at fed.unit; next = fed.next }
 
--- a line that is too long stays too long
+-- a command line that is too long stays too long
 pub long_more : (text piece : List ℕ) → longest_line < length_beside_cr text → longest_line < length_beside_cr (text ++ piece)
 long_more text [] long = rw append-nil long
 long_more text (b ∷ piece) long = go (last_is_cr false text) (last_is_cr false (text ++ b ∷ piece)) long
@@ -144,7 +144,7 @@ long_more text (b ∷ piece) long = go (last_is_cr false text) (last_is_cr false
     go false true long = omega (arith, length-append text (b ∷ piece))
     go false false long = omega (arith, length-append text (b ∷ piece))
 
--- a line that is too long is BAD_FORMAT when it ends
+-- a command line that is too long is BAD_FORMAT when it ends
 pub long_line_read : (text piece : List ℕ) (e : ℕ) → first_line text ≡ None → longest_line < length_beside_cr text
     → line_end_after (last_is_cr false text) piece ≡ Some e
     → EndsLineAsking line_read.bad_format (take e piece) text
@@ -184,7 +184,7 @@ pub hands_out : (m : ℕ) (kept text piece : List ℕ) (taken : ℕ) (r : Reques
     → is_quit r ≡ false → HandsRequest (in_line m kept) text piece taken r
 hands_out m kept text piece taken r nothing unit no_quit = record { unit = unit; next = rw no_quit (sym nothing, refl) }
 
--- a line that does not fit is too long
+-- a command line that does not fit is too long
 pub keep_long : (kept piece : List ℕ) (room : ℕ) (last : Bool) → room + length kept ≡ 223 → last_is_cr false (kept ++ piece) ≡ last
     → room ≤ length piece → (length piece ≡ room → last ≡ false) → longest_line < length_beside_cr (kept ++ piece)
 keep_long kept piece room true most is long exact = rw is (omega (arith, length-append kept piece, go))
@@ -193,7 +193,7 @@ keep_long kept piece room true most is long exact = rw is (omega (arith, length-
     go e = let no = exact e in cc
 keep_long kept piece room false most is long exact = rw is (omega (arith, length-append kept piece))
 
--- what represents a line that goes on
+-- what represents a command line that goes on
 pub kept_stands : (m : ℕ) (old new : List ℕ) (place : ReaderPlace) (text piece : List ℕ) → text ≡ old → first_line text ≡ None
     → line_end_after (last_is_cr false old) piece ≡ None → Keeps old new place piece
     → StandsAt (record { max_job_size = m; kept = new; place = place }) place (text ++ piece)
@@ -208,7 +208,7 @@ pub kept_line : (old text piece : List ℕ) (e : ℕ) (asked : line_read.LineRea
     → EndsLineAsking asked (take e piece) text
 kept_line old text piece e asked is none here read = grind (arith, common_steps, ends_there, none, read)
 
--- what represents a line that is too long and goes on
+-- what represents a command line that is too long and goes on
 pub long_stands : (m : ℕ) (kept text piece : List ℕ) (last after_cr : Bool) → kept ≡ [] → first_line text ≡ None
     → last_is_cr false text ≡ after_cr
     → longest_line < length_beside_cr text → line_end_after after_cr piece ≡ None → last ≡ last_is_cr after_cr piece
@@ -216,7 +216,7 @@ pub long_stands : (m : ℕ) (kept text piece : List ℕ) (last after_cr : Bool) 
 long_stands m kept text piece last after_cr nothing none cr long more last_is =
     (nothing, goes_on text piece none (rw cr more), rw (last_is_cr-append false text piece, cr) (sym last_is), long_more text piece long)
 
--- a line that ends has at least one byte before its LF
+-- a command line that ends has at least one byte before its LF
 pub some_byte : (old piece : List ℕ) (e : ℕ) → line_end_after (last_is_cr false old) piece ≡ Some e
     → 0 < length old + length (take (e - 1) piece)
 some_byte old piece zero here = absurd (omega (arith, (line_end_within (last_is_cr false old) piece 0 here).0))

@@ -1,4 +1,4 @@
--- The first word of a line.
+-- The first word of a command line.
 use Rattle.std.proofs.Common.{◌≡◌, ◌<◌, ℕ, ◌+◌, ◌-◌, zero, suc, true, false, List, [], ◌∷◌}
 use Rattle.std.proofs.Common.{Option, Some, None, add-one, refl, arith, length, take, drop, get_or, MatchOption, ◌==◌}
 use Rattle.std.proofs.lemmas.Bool.Decides.{nat_tests}

@@ -1,4 +1,4 @@
--- Where a line ends in bytes that arrive in pieces.
+-- Where a command line ends in bytes that arrive in pieces.
 use Rattle.std.specs.Prelude.{ℕ, suc, ◌+◌, Bool, ◌&&◌, ◌==◌, List, [], ◌∷◌, Option, Some, None, option_map, if◌then◌else◌}
 
 -- How many bytes there are up to and including the first LF that follows a CR. `after_cr` says

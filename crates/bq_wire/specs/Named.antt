@@ -1,4 +1,4 @@
--- The command that a line's first word names, and what the words after it request.
+-- The command that the first word of a command line names, and what the words after it request.
 use Rattle.std.specs.Prelude.{ℕ, ◌≡◌, Bool, List, Option, Some, None, find, length, option_map}
 use Rattle.std.specs.List.{filter}
 use Rattle.bq_job.specs.declared.request.Request.{Request}

@@ -11,7 +11,7 @@ begins_line_end (a ∷ []) = a == 13
 begins_line_end (a ∷ b ∷ []) = a == 13 && b == 10
 begins_line_end (a ∷ b ∷ c ∷ bytes) = false
 
--- these bytes have arrived after the line of the put
+-- these bytes have arrived after the command line of the put
 pub record IsBodySoFar (body : PutBody) (after : List ℕ) : Type 0 where
   pub taken_is : body.taken ≡ length after
   pub stored : IfSome body.store (λ s. s.bytes ≡ take body.put.bytes after)
@@ -26,7 +26,7 @@ pub record HasBodyRoom (body : PutBody) : Type 0 where
 abbrev pub TakesBytes : PutBody → PutBody → List ℕ → Type 0
 TakesBytes old new bytes = (after : List ℕ) → IsBodySoFar old after → IsBodySoFar new (after ++ bytes)
 
--- these bytes were appended to a store, if there is one
+-- these bytes were appended to a store, if there is one, or the store was given up
 abbrev pub Stores : Option BodySoFar → Option BodySoFar → List ℕ → Type 0
 Stores None new bytes = new ≡ None
 Stores (Some old) new bytes = IsSomeAnd new (λ s. (s.bytes ≡ old.bytes ++ bytes) × (old.room ≤ s.room + length bytes))

@@ -13,11 +13,11 @@ use Rattle.bq_wire.specs.declared.reader.ReaderPlace.{ReaderPlace}
 use Rattle.bq_wire.specs.declared.reader.ReaderPlace.TheVariants.{InLine, InLongLine, InBody, Over}
 use Rattle.bq_wire.specs.declared.reader.ReaderState.{ReaderState}
 
--- the length of an unfinished line without a CR at its end, which may be that of its CR LF
+-- the length of an unfinished command line without a CR at its end, which may be that of its CR LF
 abbrev pub length_beside_cr : List ℕ → ℕ
 length_beside_cr text = length text - (if last_is_cr false text then 1 else 0)
 
--- the text is the line of this put with its CR LF, and as much of its body as has arrived
+-- the text is the command line of this put with its CR LF, and as much of its body as has arrived
 pub record IsPutBegun (body : PutBody) (text : List ℕ) : Type 0 where
   pub line : List ℕ
   pub after : List ℕ
@@ -26,9 +26,9 @@ pub record IsPutBegun (body : PutBody) (text : List ℕ) : Type 0 where
   pub so_far : IsBodySoFar body after
   pub less : length after < body.put.bytes + 2
 
--- In a line, the kept text, which has no CR LF. In a line that is too long, any text without CR LF
--- that is too long for a line. In a body, the line of the put and fewer bytes than it wants. After
--- a quit, none.
+-- In a command line, the kept text, which has no CR LF. In one that is too long, any text without
+-- CR LF that is too long for a command line. In a body, the command line of the put and fewer bytes
+-- than it wants. After a quit, none.
 abbrev pub StandsAt : ReaderState → ReaderPlace → List ℕ → Type 0
 StandsAt state InLine text = (text ≡ state.kept) × (first_line text ≡ None)
 StandsAt state (InLongLine after_cr) text =
@@ -79,7 +79,7 @@ abbrev pub IsFed : ReaderState → ReaderState → List ℕ → ℕ → Option R
 IsFed old new piece taken request =
     IsSoundReader new × (taken ≤ length piece) × IfSome request (λ asked. 0 < taken) × (new.max_job_size ≡ old.max_job_size)
 
--- the text and these bytes are one line with its CR LF, which requests this
+-- the text and these bytes are one command line with its CR LF, which requests this
 pub record EndsLineAsking (asked : line_read.LineRead) (bytes text : List ℕ) : Type 0 where
   pub line : List ℕ
   pub first_line_is : first_line (text ++ bytes) ≡ Some (line, [])
@@ -89,7 +89,7 @@ pub record EndsLineAsking (asked : line_read.LineRead) (bytes text : List ℕ) :
 abbrev pub but_last : List ℕ → List ℕ
 but_last bytes = take (length bytes - 1) bytes
 
--- more bytes of a line are kept, or it is too long
+-- more bytes of a command line are kept, or it is too long
 abbrev pub Keeps : List ℕ → List ℕ → ReaderPlace → List ℕ → Type 0
 Keeps old new InLine piece = new ≡ old ++ piece
 Keeps old new (InLongLine after_cr) piece =

@@ -11,8 +11,8 @@ use std::alloc::Global;
 impl RequestReader {
     /// Takes bytes up to and including the last byte of the first complete request, or all of them.
     /// Returns how many bytes it took, and the request. After a quit it takes none until `restart`.
-    /// It allocates only the body of a put, when the put's line is complete; if that fails, the put
-    /// becomes a rejected request.
+    /// It allocates only the body of a put, when the put's command line is complete; if that fails,
+    /// the put becomes a rejected request.
     pub fn feed(&mut self, alloc: Global, piece: &[u8]) -> (usize, Option<Request>)
         ensures within { result.0 ≤ length piece.now }
         ensures progress { IfSome result.1 (λ _. 0 < result.0) }

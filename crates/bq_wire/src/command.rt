@@ -1,7 +1,7 @@
 //! The commands of a client, one branch each: the command's word, the words that must follow it,
 //! and the request that they make. The branches are grouped by the length of the command's word, so
-//! that a line's first word is compared with only a few. After them come the functions that read
-//! the words of a command.
+//! that the first word of a command line is compared with only a few. After them come the functions
+//! that read the words of a command.
 ghost use Rattle.std.specs.Prelude.{◌≡◌, ◌==◌, ◌&&◌, [], ◌∷◌, nat_le, option_map, IfSome, IfNone, Option, Some, ℕ, List};
 ghost use Rattle.bq_job.specs.reading.CommandWords as spec_words;
 ghost use Rattle.bq_job.specs.reading.CommandWords.{command_named};

@@ -15,13 +15,13 @@ use bq_job::{JobId, Pri, Refusal, Request};
 use memchr::memchr;
 use std::marker::Model;
 
-/// The largest length of a line, in bytes, without its CR LF.
+/// The greatest length of a command line, in bytes, without its CR LF.
 pub const LONGEST_LINE: usize = 222;
 
 // A number up to this one fits in 64 bits with any further digit.
 const MOST_TO_EXTEND: u64 = 1_844_674_407_370_955_160;
 
-/// The numbers on the line of a put, as written.
+/// The numbers on the command line of a put, as written.
 #[derive(Clone, Copy)]
 pub struct PutLine {
     pub pri: Pri,
@@ -33,12 +33,12 @@ pub struct PutLine {
     pub bytes: u32,
 }
 
-/// What a line requests.
+/// What a command line requests.
 #[derive(Clone, Copy)]
 pub enum LineRead {
     /// A complete request, which is in the place that the caller passed.
     Whole,
-    /// A put whose body follows the line.
+    /// A put whose body follows the command line.
     PutWaits(PutLine),
 }
 
@@ -121,7 +121,7 @@ pub fn line_end_after(after_cr: bool, bytes: &[u8]) -> Option<usize>
     None
 }
 
-/// The remaining words of a line. The line is split at each space, so a word may be empty.
+/// The remaining words of a command line. The line is split at each space, so a word may be empty.
 #[derive(Drop)]
 pub struct Words<'a> {
     // The bytes after the last space, unless they were returned already.
@@ -139,7 +139,7 @@ impl<'a> Model for Words<'a> {
 }
 
 impl<'a> Words<'a> {
-    /// Returns the words of `line`.
+    /// Returns the words of the command line `line`.
     pub fn new(line: &'a [u8]) -> Words<'a>
         ensures { result ≡ words line.now }
     {
@@ -182,8 +182,9 @@ fn first_word(line: &[u8]) -> (&[u8], Option<&[u8]>)
     }
 }
 
-// Returns the number that the first bytes of a line denote, and how many bytes it has. It ends before
-// the first byte that is no digit, or before a digit that might make it too large for 64 bits.
+// Returns the number that the first bytes of a command line denote, and how many bytes it has. It
+// ends before the first byte that is no digit, or before a digit that might make it too large for 64
+// bits.
 #[tactic(auto, using(crate::proofs::LeadingLemmas::digits_more, crate::proofs::LeadingLemmas::value_more))]
 fn leading_digits(line: &[u8]) -> (u64, usize)
     ensures within { result.1 ≤ length line.now }
@@ -199,9 +200,9 @@ fn leading_digits(line: &[u8]) -> (u64, usize)
     (value, digits)
 }
 
-// Returns the job id that the first word of a line denotes, and the rest after the space that follows
-// it. The word is read once, and not searched for its end first. Returns None if it denotes no job
-// id, or one that is nearly too large.
+// Returns the job id that the first word of a command line denotes, and the rest after the space that
+// follows it. The word is read once, and not searched for its end first. Returns None if it denotes
+// no job id, or one that is nearly too large.
 #[tactic(auto, using(crate::proofs::LeadingLemmas::id_at_end, crate::proofs::LeadingLemmas::id_before_space))]
 fn leading_id(line: &[u8]) -> Option<(JobId, Option<&[u8]>)>
     ensures { IfSome result (λ found. IsNextId (words line.now) (words_left found.1) (Some found.0)) }

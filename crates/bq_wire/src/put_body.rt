@@ -11,11 +11,11 @@ use std::alloc::Global;
 /// The body of a put and the two bytes after it, as far as they have arrived.
 #[derive(Drop)]
 pub struct PutBody {
-    /// The numbers on the put's line.
+    /// The numbers on the put's command line.
     pub put: PutLine,
     /// How many bytes of the body and of the two after it were taken.
     pub taken: usize,
-    /// The body's bytes; `None` if the body is too big or its allocation failed.
+    /// The body's bytes; `None` if the body is too big or could not be kept.
     pub store: Option<BodyBuilder>,
     /// True as long as the bytes taken after the body are a beginning of CR LF.
     pub good_end: bool,
@@ -153,7 +153,8 @@ impl PutBody {
     }
 }
 
-// Appends bytes to a store, if there is one.
+// Appends bytes to a store, if there is one. If that fails, the store is given up, as if it had not
+// been allocated.
 fn store_bytes(store: &mut Option<BodyBuilder>, bytes: &[u8])
     requires { ForSome store.old (λ s. length bytes.now ≤ s.room) }
     ensures { Stores store.old store.new bytes.now }

@@ -22,7 +22,7 @@ use std::mem;
 pub struct ReaderState {
     /// The largest size of a body, in bytes.
     pub max_job_size: u32,
-    /// The bytes of an unfinished line.
+    /// The bytes of an unfinished command line.
     pub kept: KeptLine,
     pub place: ReaderPlace,
 }
@@ -30,9 +30,9 @@ pub struct ReaderState {
 /// What a reader is in the middle of.
 #[derive(Drop)]
 pub enum ReaderPlace {
-    /// A line whose bytes are kept.
+    /// A command line whose bytes are kept.
     InLine,
-    /// A line that is too long. Only whether its last byte is a CR is kept.
+    /// A command line that is too long. Only whether its last byte is a CR is kept.
     InLongLine(bool),
     /// The body of a put, or the two bytes after it.
     InBody(PutBody),
@@ -40,10 +40,10 @@ pub enum ReaderPlace {
     Over,
 }
 
-/// The largest number of bytes kept of a line: the longest line and a CR.
+/// The largest number of bytes kept of a command line: the longest command line and a CR.
 pub const MOST_KEPT: usize = LONGEST_LINE + 1;
 
-/// The bytes of an unfinished line. `new` allocates all the memory that it needs.
+/// The bytes of an unfinished command line. `new` allocates all the memory that it needs.
 #[derive(Drop)]
 pub struct KeptLine {
     bytes: Vec<u8, Global>,
@@ -122,7 +122,7 @@ impl Model for RequestReader {
 
 impl RequestReader {
     /// Returns a reader that has read nothing. Bodies of jobs may have at most `max_job_size`
-    /// bytes. Returns `NoMemory` if the allocation for lines fails.
+    /// bytes. Returns `NoMemory` if the allocation for command lines fails.
     pub fn new(alloc: Global, max_job_size: u32) -> Result<RequestReader, NoMemory>
         requires { (1 ≤ max_job_size) × (max_job_size ≤ LARGEST_BODY) }
         ensures stands { IfOk result (λ reader. Stands reader []) }
@@ -150,9 +150,10 @@ impl RequestReader {
     }
 
     /// Takes bytes up to and including the last byte of the first complete request, or all of them.
-    /// Returns how many bytes it took, and puts the request, or `None`, into `request`, whatever was
-    /// there. After a quit it takes none until `restart`. It allocates only the body of a put, when
-    /// the put's line is complete; if that fails, the put becomes a rejected request.
+    /// Returns how many bytes it took, and whether they complete a request, which is then in `place`.
+    /// Without one, the content of `place` has no meaning. After a quit it takes none until `restart`.
+    /// It allocates only the body of a put, when the put's command line is complete; if that fails,
+    /// the put becomes a rejected request.
     #[tactic(auto, using(crate::proofs::HasReadLemmas::reads_on))]
     pub fn take(&mut self, alloc: Global, piece: &[u8], request: &mut Option<Request>) -> usize
         ensures within { result ≤ length piece.now }
@@ -244,7 +245,7 @@ fn feed_line(
     }
 }
 
-// Keeps the bytes of an unfinished line, or none if the line is too long.
+// Keeps the bytes of an unfinished command line, or none if the line is too long.
 fn keep(kept: &mut KeptLine, piece: &[u8]) -> ReaderPlace
     ensures { Keeps kept.old kept.new result piece.now }
 {
@@ -282,8 +283,8 @@ fn whole_line(kept: &mut KeptLine, last: &[u8], place: &mut Option<Request>) -> 
     read
 }
 
-// Refuses a line that is too long. A separate function, because its caller would otherwise initialize
-// room for a request on every path.
+// Rejects a request. A separate function, because its caller would otherwise initialize room for a
+// request on every path.
 #[inline(never)]
 fn refuse_line(place: &mut Option<Request>)
     ensures { place.new ≡ Some (Request.Refused Refusal.BadFormat) }
@@ -291,7 +292,7 @@ fn refuse_line(place: &mut Option<Request>)
     *place = Some(bad_format());
 }
 
-// Continues after a complete line, which ends in the piece.
+// Continues after a complete command line, which ends in the piece.
 fn after_line(
     alloc: Global,
     state: &mut ReaderState,
@@ -346,7 +347,7 @@ fn place_behind(request: &Option<Request>) -> ReaderPlace
     }
 }
 
-// Feeds a line that is too long.
+// Feeds a command line that is too long.
 fn feed_long_line(
     state: &mut ReaderState,
     after_cr: bool,

@@ -1,4 +1,4 @@
--- A computed run as part of a history, and the lines of a door with their steps.
+-- A computed run as part of a history, and the connections of a door with their steps.
 use Rattle.std.proofs.Common.{◌≡◌, ℕ, suc, Bool, true, false, List, [], ◌∷◌, ◌++◌}
 use Rattle.std.proofs.Common.{map, length, Option, ◌⊎◌, refl, ap, inl, arith, rules, subst}
 use Rattle.std.proofs.lemmas.{Bool.cases_Bool, Grind.common_steps}
@@ -36,14 +36,14 @@ computed_IsRun settings readings history timed =
       timed = timed;
     }
 
--- What is computed over a history serves these doors if it gives each line what it is owed.
+-- What is computed over a history serves these doors if it gives each connection what it is owed.
 pub served_so : (history : List Entry) (doors : List (List LineOver)) (control : List ℕ)
     → IsTimedBy (readings_of history) history → AreDoorsOwed usual 0 doors history (given_over (seated (length doors)) history)
     → IsControlDone control false (steps_at (length doors) history) → AreSeatsUpTo (length doors) history
     → AreServedOver history doors control
 served_so history doors control timed owed done nobody = search (rules, computed_IsRun)
 
--- A line whose whole text was read as these requests; of these, `asked` were submitted.
+-- A connection whose whole text was read as these requests; of these, `asked` were submitted.
 pub line_so : (line : LineOver) (read asked : List Request) (given : List Answer)
     → reading usual line.seen.read ≡ (read, []) → IsOverBy (heard line.seen) line.over read asked → AreAllAnswered line.over asked given
     → IsWritten line.over asked given line.seen.written
@@ -54,7 +54,7 @@ line_so line read asked given is_read over answered written =
     grind (arith, common_steps) in
     record { steps = s; answered = answered; written = written }
 
--- one more line, in front of others
+-- one more connection, in front of others
 pub lines_so : (line : LineOver) (lines : List LineOver) (own more : List Step) (given later : List Answer)
     → IsLineOwed usual line own given → has_closed given ≡ false → AreLinesOwed usual lines more later
     → AreLinesOwed usual (line ∷ lines) (own ++ more) (given ++ answers.Closed ∷ later)
@@ -80,13 +80,13 @@ close_before [] ys h = absurd cc
 close_before (steps.Close ∷ xs) ys h = refl
 close_before (x ∷ xs) ys h = close_before xs ys h
 
--- if there is a line, there is a close
+-- if there is a connection, there is a close
 lines_are_shut : (size : ℕ) (lines : List LineOver) (own : List Step) (given : List Answer) → AreLinesOwed size lines own given
     → (own ≡ []) ⊎ (list_any is_close own ≡ true)
 lines_are_shut size [] own given h = inl h.0
 lines_are_shut size (line ∷ lines) own given h = grind (arith, common_steps, close_before)
 
--- no lines have these steps
+-- no connections have these steps
 pub dropped_none : (lines : List LineOver) (given : List Answer)
     → IsDoorOwed usual lines (steps.Connect ∷ steps.Ask Reserve ∷ steps.Gone ∷ []) given → ⊥
 dropped_none lines given h = grind (arith, common_steps, lines_are_shut, close_before)

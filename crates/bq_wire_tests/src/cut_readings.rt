@@ -1,4 +1,5 @@
-//! Worked readings, each cut at every byte, and cut in two at every place.
+//! Hostile bytes, each cut at every byte, and cut in two at every place. What each command line
+//! asks is in `lines`, and worked sessions are in `bq_cli_tests`.
 
 use crate::pieces::{has_requests, push_text, single_bytes, two_pieces};
 use std::alloc::Global;

@@ -1,5 +1,5 @@
-//! Worked examples of the definitions, and tests of values and texts of the protocol, of the machine
-//! of a connection, and of the links between seats and core. The tests use public calls only.
+//! Worked examples of the definitions, and tests of values and texts of the protocol, of the seat
+//! machine, and of the links between seats and core. The tests use public calls only.
 #![tactic(auto)]
 
 #[cfg(test)]

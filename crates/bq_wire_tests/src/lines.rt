@@ -1,14 +1,14 @@
-//! What the lines of all commands request.
+//! What the command lines of all commands request.
 
 use crate::pieces::has_requests;
 use std::alloc::Global;
 
-// Appends the bytes of a line.
+// Appends the bytes of a command line.
 fn push_line(bytes: &mut Vec<u8>, line: &str) -> bool {
     bytes.extend_from_slice(line.as_bytes()).is_ok() && bytes.extend_from_slice(b"\r\n").is_ok()
 }
 
-// Returns true if a line requests this, in short form.
+// Returns true if a command line requests this, in short form.
 fn asks(alloc: Global, line: &str, wanted: &str) -> bool {
     let mut bytes = Vec::new(alloc);
     if !push_line(&mut bytes, line) {
@@ -27,7 +27,7 @@ fn all_ask(alloc: Global, lines: &str, wanted: &str) -> bool {
     true
 }
 
-// Lines whose request in short form is the line itself.
+// Command lines whose request in short form is the line itself.
 const COMMANDS: &str = "reserve\n\
     reserve-with-timeout 7\n\
     reserve-job 18446744073709551615\n\
@@ -105,7 +105,7 @@ const UNKNOWN: &str = "\n\
     \x20quit\n\
     stats-jobs 1";
 
-// Returns true if each line requests what it says.
+// Returns true if each command line requests what it says.
 fn all_ask_the_same(alloc: Global, lines: &str) -> bool {
     for line in lines.split('\n') {
         let mut wanted = String::new(alloc);

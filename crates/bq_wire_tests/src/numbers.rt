@@ -1,4 +1,4 @@
-//! The numbers of refusals and faults.
+//! The numbers of refusals, of answers and of the fault.
 
 use bq_job::{Answer, NoMemory, Refusal};
 

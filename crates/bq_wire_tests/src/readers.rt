@@ -30,7 +30,7 @@ fn is_over_until_restarted(alloc: Global, reader: &mut RequestReader) -> bool {
     is_over && fed(alloc, reader, b"reserve\r\n") == (9, "reserve")
 }
 
-// A restart discards the beginning of a line.
+// A restart discards the beginning of a command line.
 fn is_forgotten(alloc: Global, reader: &mut RequestReader) -> bool {
     let is_begun = fed(alloc, reader, b"res") == (3, "nothing");
     reader.restart();

@@ -1,5 +1,6 @@
-//! What the machine does with whole lines, event by event. Between any two events it also gets
-//! every event that does not answer its last action. Each of these is stray and changes nothing.
+//! What a seat machine does with whole connections, event by event. Between any two events it also
+//! gets every event that does not answer its last action. Each of these is stray and changes
+//! nothing.
 
 ghost use Rattle.std.specs.Prelude.{IfSome};
 ghost use Rattle.bq_seat.specs.SeatMoves.{FitsPiece};
@@ -159,7 +160,7 @@ fn play_row(
     if next == wanted { Some(next) } else { None }
 }
 
-// Lines one after another. Each row has an event, and the action that answers it.
+// Connections one after another. Each row has an event, and the action that answers it.
 fn play_at(alloc: Global, machine: &mut SeatMachine, session: &str, is_in_place: bool) -> bool {
     let mut last = "over";
     for row in session.split('\n') {
@@ -182,8 +183,8 @@ fn play(alloc: Global, session: &str) -> bool {
     play_anew(alloc, session, false) && play_anew(alloc, session, true)
 }
 
-// A line with commands after a wait, and then one that comes in pieces, with a quit inside a body
-// first.
+// A connection with commands after a wait, and then one that comes in pieces, with a quit inside a
+// body first.
 const WAITS: &str = "opened|connect\n\
     submitted|read\n\
     nothing yet|read\n\
@@ -218,7 +219,7 @@ const WAITS: &str = "opened|connect\n\
     write done|quit\n\
     submitted|close";
 
-// Ends of input: during a wait the end is submitted, and the line is closed after the answer.
+// Ends of input: during a wait the end is submitted, and the connection is closed after the answer.
 const ENDS: &str = "opened|connect\n\
     submitted|read\n\
     bytes reserve~|reserve\n\
@@ -238,7 +239,7 @@ const ENDS: &str = "opened|connect\n\
     closed|over by end of input\n\
     opened|connect";
 
-// Faults: the line is closed after one, and the next line starts anew.
+// Faults: the connection is closed after one, and the next connection starts anew.
 const FAULTS: &str = "opened|connect\n\
     submitted|read\n\
     bytes reserve~|reserve\n\

@@ -1,4 +1,4 @@
-//! Runs of one line that are rejected.
+//! Runs of one connection that are rejected.
 
 use super::runs::{Client, ran_so};
 use bq_scenes::clients::{PUTS, ROOM};
@@ -7,8 +7,8 @@ use bq_scenes::settings::config;
 use std::alloc::Global;
 use std::sync::Wait;
 
-// A configuration for one line has one seat. If the run is not rejected, the limit of body sizes
-// is 1.
+// A configuration for one connection has one seat. If the run is not rejected, the limit of body
+// sizes is 1.
 fn is_refused<R: Wait>(rt: &R, alloc: Global, row: &Refused) -> bool {
     let client = Client {
         does: PUTS,

@@ -1,4 +1,4 @@
-//! Runs of one line.
+//! Runs of one connection.
 
 use bq_core_api::Config;
 use bq_host::RunFault;
@@ -12,8 +12,8 @@ use bq_scenes::rows::{column, is_end};
 use std::alloc::Global;
 use std::sync::Wait;
 
-/// A client, and the result of its session: what it does, what it receives, how its line ends, and
-/// its room. The texts are in the notation of `bq_serve_tests`.
+/// A client, and the result of its session: what it does, what it receives, how its connection
+/// ends, and its room. The texts are in the notation of `bq_serve_tests`.
 #[derive(Clone, Copy)]
 pub struct Client {
     pub does: &'static str,
@@ -52,8 +52,8 @@ fn is_left_so(alloc: Global, client: &Client, one: &One<MemLine, ScriptClock>) -
     }
 }
 
-/// Runs the line of a client, with a clock that gives these readings. Returns true if it has the
-/// result that the client says. All tests use this one call.
+/// Runs the connection of a client, with a clock that gives these readings. Returns true if it has
+/// the result that the client says. All tests use this one call.
 pub fn ran_so<R: Wait>(
     rt: &R,
     alloc: Global,

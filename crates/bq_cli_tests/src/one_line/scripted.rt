@@ -1,7 +1,7 @@
 //! Sessions in which the client does one thing after another, or the clock advances.
 
-/// The scripted sessions: what each shows, what the client does, what it receives, how its line
-/// ends, its room, and the readings of the clock.
+/// The scripted sessions: what each shows, what the client does, what it receives, how its
+/// connection ends, its room, and the readings of the clock.
 pub static SCRIPTED: &str = "timed_wait_by_the_clock: a wait of a second ends by the clock, \
     although another command is buffered\
     |reserve-with-timeout 1~list-tube-used~|TIMED_OUT~USING default~|end|1000\

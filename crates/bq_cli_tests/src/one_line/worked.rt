@@ -3,7 +3,7 @@
 //! still.
 
 /// The first worked sessions: what each shows, what the client sends, what it receives, and how its
-/// line ends.
+/// connection ends.
 pub static WORKED: &str = "first_cycle: a job from its put to its delete\
     |put 5 0 10 3~abc~reserve~delete 1~quit~\
     |INSERTED 1~RESERVED 1 3~abc~DELETED~|quit

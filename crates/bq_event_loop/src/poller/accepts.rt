@@ -26,8 +26,8 @@ fn at_most_rest(left: Duration) -> Duration
     if left < most { left } else { most }
 }
 
-/// What is known about connections that were not accepted yet. All doors share it, and one listener:
-/// a check that finds no client at one would hide those of another.
+/// What is known about connections that were not accepted yet. All doors share it, and one
+/// listener: a check that finds no client at one would hide those of another.
 #[derive(Drop)]
 pub struct Accepts {
     // True if a connection may have come since the last check that found none.

@@ -15,7 +15,7 @@ const IS_FILE: i32 = 1;
 /// reported that it would not.
 #[derive(Clone, Copy)]
 pub enum ControlWatch {
-    /// The system cannot report when there is more, so the line is read to its end at once.
+    /// The system cannot report when there is more, so the control line is read to its end at once.
     Whole,
     /// The system reports bytes or the end; `has_come` tells that it did.
     Watched { fd: RawFd, has_come: bool },
@@ -56,8 +56,7 @@ impl ControlWatch {
         }
     }
 
-    /// Returns how far the line is read in this round, if at all. Bytes that its reader held before
-    /// the run are read only once the system reports more, so it has to be handed in empty.
+    /// Returns how far the control line is read in this round, if at all.
     pub fn reads(&self, stands: ControlStands) -> Option<ControlReads>
         ensures { result ≡ None → IsControlStill self.now stands }
     {

@@ -23,7 +23,7 @@ const COMMAND: u32 = 2;
 /// A part of the visits of a round.
 #[derive(Clone, Copy)]
 pub enum Part {
-    /// Lines are read, each up to a step.
+    /// Connections are read, each up to a step.
     Reads,
     /// Steps are taken, each up to an answer.
     Steps,
@@ -86,13 +86,13 @@ impl Share {
 pub enum Pause {
     /// This part of the visit is done.
     PartDone,
-    /// Nothing moves until its line is ready or it has mail.
+    /// Nothing moves until its connection is ready or it has mail.
     Rests,
     /// It can act again at once.
     GoesOn,
-    /// Its line has ended, and it checks for the next one.
+    /// Its connection has ended, and it checks for the next one.
     IsFree,
-    /// No more lines come, and this was submitted.
+    /// No more connections come, and this was submitted.
     IsDone,
 }
 

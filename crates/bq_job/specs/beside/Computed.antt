@@ -1,12 +1,12 @@
--- The machine as a function: what a step does if no allocation fails. It computes, so that worked
--- examples are checked by evaluation. That it is a step of the machine is a law.
+-- The model as a function: what a step does if no allocation fails. It computes, so that worked
+-- examples are checked by evaluation. That it is a step of the model is a law.
 use Rattle.std.specs.Prelude.{false, ℕ, zero, suc, Option, Some, None, List, [], ◌∷◌, ◌++◌, count_by}
 use Rattle.bq_job.specs.declared.answer.Answer.TheVariants as answers
 use Rattle.bq_job.specs.Types.{Job, Step}
 use Rattle.bq_job.specs.machine.{GivenAnswer, Machine.Machine, Outcome, SeatRecord, addressed, after_hand_out, after_timers, at_moment}
 use Rattle.bq_job.specs.machine.{effect, end_of_wait, forgetting, is_waiting, next_end, next_job, next_seat, with_seat, without_wait}
 
--- a machine, and the answers given on the way to it
+-- a model, and the answers given on the way to it
 pub record Served : Type 0 where
   pub machine : Machine
   pub given : List GivenAnswer

@@ -10,7 +10,7 @@ put_request max_job_size put bytes =
     let read = put_with_body put bytes in
     if nat_lt max_job_size put.bytes then Refused JobTooBig else read
 
--- the request of a line and of the bytes after it, and what then remains
+-- the request of a command line and of the bytes after it, and what then remains
 abbrev pub unit_after : ℕ → LineRead → List ℕ → Option (Request × List ℕ)
 unit_after max_job_size (Whole request) after = Some (request, after)
 unit_after max_job_size (PutWaits put) after =

@@ -1,4 +1,4 @@
--- A run as a function: the steps that the machine takes over a history if no allocation fails. It
+-- A run as a function: the steps that the model takes over a history if no allocation fails. It
 -- computes, so that worked examples are checked by evaluation. That it is a run is a law.
 use Rattle.std.specs.Prelude.{List, [], ◌∷◌, ◌++◌}
 use Rattle.bq_job.specs.{beside.Computed.{after_act, after_dispatch, after_wait_ends, ample}, machine.after_timers}
@@ -34,7 +34,7 @@ abbrev pub transitions : Machine → List Entry → List Transition
 transitions m [] = []
 transitions m (e ∷ history) = let t = transition m e in t ∷ transitions t.last history
 
--- the machine after the history
+-- the model after the history
 abbrev pub machine_after : Machine → List Entry → Machine
 machine_after m [] = m
 machine_after m (e ∷ history) = machine_after (transition m e).last history

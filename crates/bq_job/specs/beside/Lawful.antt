@@ -1,4 +1,4 @@
--- What holds of the machine after every step: its invariant.
+-- What holds of the model after every step: its invariant.
 use Rattle.std.specs.Prelude.{ℕ, suc, Bool, true, false, ◌≡◌, ◌≤◌, ◌&&◌, ◌||◌, not, nat_le, None, List, [], ◌∷◌, map, IsTrue}
 use Rattle.std.specs.List.{list_all, list_any}
 use Rattle.bq_job.specs.machine.{Machine.Machine, SeatRecord, greatest, is_held_by, is_reserved, is_tube, is_waiting, last_id, next_end}
@@ -14,7 +14,7 @@ AreIdsWithin low (j ∷ jobs) next = (low ≤ j.id) × AreIdsWithin (suc j.id) j
 abbrev pub has_open_holder : Machine → Job → Bool
 has_open_holder m j = not (is_reserved j.state) || list_any (λ s. s.connected && is_held_by s.number j) m.seats
 
--- the counters that the machine keeps
+-- the counters that the model keeps
 abbrev pub counters : Machine → List ℕ
 counters m = m.timeouts ∷ m.puts ∷ m.connections ∷ m.burials ∷ m.tickets ∷ []
 
@@ -33,7 +33,7 @@ watches_once s = has_one s.watched && none_twice s.watched
 pub record IsLawful (m : Machine) : Type 0 where
   -- Each job has an id of its own, below the next id.
   pub ids : AreIdsWithin 1 m.jobs m.next_id
-  -- The machine drains before the ids run out.
+  -- The model drains before the ids run out.
   pub next : m.draining ≡ false → m.next_id ≤ last_id
   pub next_fits : m.next_id ≤ suc last_id
   -- A reserved job is held by the connection that its state names, and that connection is open.

@@ -11,7 +11,7 @@ entry_of e = record { moment = e.moment; seat = e.seat; what = e.step }
 abbrev pub outcome_of : JournalEntry → Outcome
 outcome_of e = record { left_out = e.left_out; unshared = false }
 
--- The steps of the journal, taken one after another from a new machine with the outcomes that their
--- entries record, give these answers and lead to this machine.
+-- The steps of the journal, taken one after another from a new model with the outcomes that their
+-- entries record, give these answers and lead to this model.
 abbrev pub Replay : Settings → List JournalEntry → List GivenAnswer → Machine → Type 0
 Replay settings journal given last = RunBy (new_machine settings) (map entry_of journal) (map outcome_of journal) given last

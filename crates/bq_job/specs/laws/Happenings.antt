@@ -1,5 +1,5 @@
--- What happens to jobs in a run: one ordered list of happenings, and the machine after each part of
--- a step.
+-- What happens to jobs in a run: one ordered list of happenings, and the model after each part of a
+-- step.
 use Rattle.std.specs.Prelude.{ℕ, ◌==◌, if◌then◌else◌, is_none, Option, Some, None, List, [], ◌∷◌, ◌++◌, map, filter, flat_map}
 use Rattle.bq_job.specs.machine.{GivenAnswer, Machine.Machine, after_timers, at_moment, forgetting, is_expired, job_with}
 use Rattle.bq_job.specs.{promise.Transition, Types.{Answer, Job, JobState, Step}}
@@ -74,7 +74,7 @@ changes what before after =
     flat_map (λ j. change_or_removal what j (job_with j.id after)) before
     ++ map put (filter (λ j. is_none (job_with j.id before)) after)
 
--- a part of a step: what happened to jobs in it, and the machine after it
+-- a part of a step: what happened to jobs in it, and the model after it
 pub record Part : Type 0 where
   pub happened : List Happening
   pub machine : Machine

@@ -1,5 +1,5 @@
--- The headline as a whole, for a run that left a history: the one run of the machine along it, the
--- bytes of each line, and what happened to jobs.
+-- The headline as a whole, for a run that left a history: the one run of the model along it, the
+-- bytes of each connection, and what happened to jobs.
 use Rattle.std.specs.{List.{list_all, list_any}, Prelude.{◌++◌, ◌==◌, ◌∷◌, ◌≡◌, ◌≤◌, Bool, Contains, IsTrue, List}}
 use Rattle.std.specs.Prelude.{Option, [], ℕ, count_by, false, flat_map, length, map}
 use Rattle.bq_job.specs.promise.{AreDoorsOwed, AreLinesOwed, AreSeatsUpTo, Entry, GoesBy, IsControlDone, IsRun, IsTimedBy, LineOver, Transition}
@@ -45,14 +45,14 @@ pub record HeadlineHolds (settings : Settings) (doors : List (List LineOver)) (c
   pub history : List Entry
   pub given : List GivenAnswer
   pub taken : List Transition
-  -- The machine takes it in one run, from a new machine to `last`, and gives these answers.
+  -- The model takes it in one run, from a new model to `last`, and gives these answers.
   pub goes : GoesBy (new_machine settings) taken last
   pub history_is : map (λ t. t.entry) taken ≡ history
   pub given_is : flat_map (λ t. t.given) taken ≡ given
   -- Each step has the moment of a clock reading of its own.
   pub timed : IsTimedBy readings history
-  -- There is a door at each seat. The history contains the steps of its lines, and each client
-  -- received exactly the bytes of the answers to it.
+  -- There is a door at each seat. The history contains the steps of its connections, and each
+  -- client received exactly the bytes of the answers to it.
   pub many : length doors ≡ settings.seats
   pub of_doors : AreDoorsOwed settings.max_job_size 0 doors history given
   -- The control line has the seat after those of the doors, and no other seat has a step.
@@ -60,7 +60,7 @@ pub record HeadlineHolds (settings : Settings) (doors : List (List LineOver)) (c
   pub of_nobody_else : AreSeatsUpTo settings.seats history
   pub jobs : AreJobsServed taken (happenings (parts_of_run taken))
 
--- The same for a lone line at a seat.
+-- The same for a lone connection at a seat.
 pub record LineHeadlineHolds (settings : Settings) (seat : ℕ) (line : LineOver) (readings : List (Option ℕ)) : Type 0 where
   pub history : List Entry
   pub given : List GivenAnswer

@@ -1,9 +1,9 @@
--- What a command may do: change the machine and give an answer.
+-- What a command may do: change the model and give an answer.
 use Rattle.std.specs.Prelude.{ℕ, Bool, if◌then◌else◌, Option, Some, None}
 use Rattle.bq_job.specs.{machine.{Changes.job_with, Machine.Machine}, Types.{Answer, Job}}
 use Rattle.bq_job.specs.declared.answer.Answer.TheVariants as answers
 
--- the machine after a command, and its answer if there is one
+-- the model after a command, and its answer if there is one
 pub record Effect : Type 0 where
   pub machine : Machine
   pub answer : Option Answer

@@ -1,4 +1,4 @@
--- Operations for reading and changing parts of the machine.
+-- Operations for reading and changing parts of the model.
 use Rattle.std.specs.Prelude.{ℕ, Bool, true, false, ◌&&◌, ◌||◌, ◌==◌, nat_lt, if◌then◌else◌, List}
 use Rattle.std.specs.Prelude.{Option, Some, None, is_some, map, fold, find}
 use Rattle.bq_job.specs.{machine.Machine.{Machine, SeatRecord}, Types.{Job, JobState}}

@@ -9,8 +9,8 @@ use Rattle.bq_job.specs.machine.{JobStates.{is_delayed, is_due_before, is_reserv
 use Rattle.bq_job.specs.machine.{Machine.{Machine, SeatRecord, TubeRecord}, Tubes.with_tube}
 use Rattle.bq_job.specs.{reading.TubeName.is_same_name, Types.{Counts, Job, JobState}}
 
--- The last id that is given out. The put that gets it makes the machine drain, so the next id
--- always fits.
+-- The last id that is given out. The put that gets it makes the model drain, so the next id always
+-- fits.
 abbrev pub last_id : ℕ
 last_id = 2 ^ 64 - 2
 
@@ -51,7 +51,7 @@ abbrev pub is_full : Option ℕ → List Job → Bool
 is_full None jobs = false
 is_full (Some most) jobs = nat_le most (length jobs)
 
--- a new job in the used tube, unless the machine is draining or the job limit is reached
+-- a new job in the used tube, unless the model is draining or the job limit is reached
 abbrev pub put_effect : ℕ → ℕ → ℕ → List ℕ → Machine → SeatRecord → Effect
 put_effect pri delay ttr body m s =
     if m.draining then telling answers.Draining m

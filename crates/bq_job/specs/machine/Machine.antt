@@ -1,4 +1,4 @@
--- The one-list machine: the state of a work queue server, without anything that only makes it fast.
+-- The one-list model: the state of a work queue server, without anything that only makes it fast.
 use Rattle.std.specs.Prelude.{ℕ, zero, suc, Bool, false, List, [], ◌∷◌, Option, None, codes, map}
 use Rattle.bq_job.specs.declared.job.Job.{Job}
 pub use Rattle.bq_job.specs.declared.settings.Settings.{Settings}
@@ -75,7 +75,7 @@ abbrev pub numbers : ℕ → ℕ → List ℕ
 numbers low zero = []
 numbers low (suc n) = low ∷ numbers (suc low) n
 
--- the machine of a new server
+-- the model of a new server
 abbrev pub new_machine : Settings → Machine
 new_machine settings = record {
   settings = settings;

@@ -1,5 +1,5 @@
 -- Statistics of a job, of a tube and of the server. They are counted anew over the lists of the
--- machine, next to the counters that the machine keeps.
+-- model, next to the counters that the model keeps.
 use Rattle.std.specs.Prelude.{ℕ, Bool, true, false, ◌&&◌, ◌-◌, ◌/◌, nat_lt, Option, Some, None, List}
 use Rattle.std.specs.Prelude.{[], ◌∷◌, ◌++◌, length, count_by, filter, codes}
 use Rattle.bq_job.specs.machine.{Changes.{is_ready, is_waiting}, JobStates.{is_buried, is_delayed, is_reserved}}

@@ -1,4 +1,4 @@
--- A step of the machine: its six parts, and what a lack of memory may change.
+-- A step of the model: its six parts, and what a lack of memory may change.
 use Rattle.std.specs.Prelude.{ℕ, Bool, true, false, ◌≡◌, ◌&&◌, ◌||◌, Option, Some, None, List, [], ◌∷◌, ◌++◌, IsTrue}
 use Rattle.std.specs.List.{list_any}
 use Rattle.bq_job.specs.machine.{Acts.{Effect, telling}, Asked.effect, Dispatch.{DispatchTurn, GivenAnswer, next_job}}
@@ -43,8 +43,8 @@ shares_body (Some (answers.Reserved id body)) = true
 shares_body (Some (answers.Found id body)) = true
 shares_body _ = false
 
--- An allocation can fail only in a command that allocates, and the allocation of a reference only
--- for an answer with a body.
+-- An allocation can fail only in a command that allocates, and a reference to a body can be refused
+-- only for an answer with a body.
 abbrev pub is_possible : Memory → Machine → ℕ → Step → Bool
 is_possible granted m seat what = true
 is_possible growth_refused m seat what = step_takes_memory what && may_be_left_out (effect m seat what).answer
@@ -65,7 +65,7 @@ abbrev pub is_out_of_memory : Answer → Bool
 is_out_of_memory answers.OutOfMemory = true
 is_out_of_memory _ = false
 
--- whether dispatch failed to allocate a reference to a body for one of these
+-- whether dispatch was refused a reference to a body for one of these
 abbrev pub has_refused_share : List GivenAnswer → Bool
 has_refused_share given = list_any (λ g. is_out_of_memory g.1) given
 

@@ -1,4 +1,4 @@
--- What the core did: starting from a new machine it took steps, each at the moment of a clock
+-- What the core did: starting from a new model it took steps, each at the moment of a clock
 -- reading, and gave answers. It does not refer to seats.
 use Rattle.std.specs.Prelude.{ℕ, List, Option}
 use Rattle.bq_job.specs.{machine.{GivenAnswer, Settings, new_machine, Machine.Machine}, promise.History.IsTimedBy}

@@ -5,8 +5,9 @@ use Rattle.bq_job.specs.{declared.step.Step.TheVariants.Gone, machine.{GivenAnsw
 use Rattle.bq_job.specs.promise.{ControlDid.IsControlDone, CoreDid.IsRun, History.{LineOver, steps_at, without_ticks}}
 use Rattle.bq_job.specs.{promise.{LineOwed.AreLinesOwed, Runs.{Entry, answers_to}}, Types.{Answer, Step}}
 
--- A door that is done. The steps at its seat are those of its lines, in the order in which they
--- ended, and then one that says that no more come. Each line is owed what its client received.
+-- A door that is done. The steps at its seat are those of its connections, in the order in which
+-- they ended, and then one that says that no more come. Each connection is owed what its client
+-- received.
 pub record IsDoorOwed (max_job_size : ℕ) (lines : List LineOver) (taken : List Step) (answers : List Answer) : Type 0 where
   pub own : List Step
   pub of_lines : AreLinesOwed max_job_size lines own answers
@@ -22,9 +23,9 @@ AreDoorsOwed max_job_size seat (lines ∷ doors) history given =
 abbrev pub AreSeatsUpTo : ℕ → List Entry → Type 0
 AreSeatsUpTo seat history = IsTrue (list_all (λ e. nat_le e.seat seat) (without_ticks history))
 
--- One history contains the steps of each door's lines, once and in order, and for the control line
--- its drains and its end. Each entry has a clock reading of its own. The machine runs over the
--- history from a new machine, and each client received exactly the bytes that the machine gives it
+-- One history contains the steps of each door's connections, once and in order, and for the control
+-- line its drains and its end. Each entry has a clock reading of its own. The model runs over the
+-- history from a new model, and each client received exactly the bytes that the model gives it
 -- there. There is a door at each seat.
 pub record IsHistoryOf (settings : Settings) (doors : List (List LineOver)) (control : List ℕ) (failed : Bool)
     (readings : List (Option ℕ)) (last : Machine) : Type 0 where
@@ -36,7 +37,7 @@ pub record IsHistoryOf (settings : Settings) (doors : List (List LineOver)) (con
   pub of_control : IsControlDone control failed (steps_at settings.seats history)
   pub of_nobody_else : AreSeatsUpTo settings.seats history
 
--- The same for a lone line at a seat: apart from ticks, the history contains only its steps.
+-- The same for a lone connection at a seat: apart from ticks, the history contains only its steps.
 pub record IsHistoryOfLine (settings : Settings) (seat : ℕ) (line : LineOver) (readings : List (Option ℕ)) : Type 0 where
   pub history : List Entry
   pub given : List GivenAnswer

@@ -3,7 +3,7 @@ use Rattle.std.specs.Prelude.{ℕ, Bool, true, false, ◌≡◌, ◌⊎◌, ◌=
 use Rattle.bq_job.specs.{promise.{LineSteps.LineSeen, Runs.Entry}, Types.{LineEnd, Step}}
 use Rattle.bq_job.specs.declared.step.Step.TheVariants as steps
 
--- a line that has ended, and how it ended
+-- a connection that has ended, and how it ended
 pub record LineOver : Type 0 where
   pub seen : LineSeen
   pub over : LineEnd

@@ -1,4 +1,4 @@
--- What a client's line does: its steps, and the bytes that the client receives.
+-- What a client's connection does: its steps, and the bytes that the client receives.
 use Rattle.std.specs.Prelude.{ℕ, Bool, true, false, ◌≡◌, ◌≢◌, ◌⊎◌, ◌+◌, not, IsTrue, List, []}
 use Rattle.std.specs.Prelude.{◌∷◌, ◌++◌, map, length, flat_map, Option, Some}
 use Rattle.bq_job.specs.{reading.Reading.{Reads, ends_by_quit}, texts.AnswerText.answer_text, Types.{Answer, LineEnd}}
@@ -8,15 +8,15 @@ use Rattle.bq_job.specs.declared.line_end.LineFault.TheVariants as faults
 use Rattle.bq_job.specs.declared.request.Request.TheVariants as requests
 use Rattle.bq_job.specs.declared.step.Step.TheVariants as steps
 
--- what the line itself reports: the bytes read and written, whether a read reported the end of the
--- input, and the first fault that a read or a write reported
+-- what the connection itself reports: the bytes read and written, whether a read reported the end
+-- of the input, and the first fault that a read or a write reported
 pub record LineSeen : Type 0 where
   pub read : List ℕ
   pub written : List ℕ
   pub ended : Bool
   pub fault : Option LineFault
 
--- the input of a line: all of that except the bytes written
+-- the input of a connection: all of that except the bytes written
 pub record LineHeard : Type 0 where
   pub read : List ℕ
   pub ended : Bool
@@ -36,10 +36,11 @@ ends_by_wait [] = false
 ends_by_wait (request ∷ []) = is_waiting_request request
 ends_by_wait (request ∷ next ∷ requests) = ends_by_wait (next ∷ requests)
 
--- Which of the requests that were read were submitted. A line that ended with a quit has it as its
--- last request. A line that ended with the end of its input has no quit, and reports the end. A
--- line that ended with a read fault reports it, and everything read before was submitted. A line
--- that ended with a write fault reports it, and a first part of what was read was submitted.
+-- Which of the requests that were read were submitted. A connection that ended with a quit has it
+-- as its last request. A connection that ended with the end of its input has no quit, and reports
+-- the end. A connection that ended with a read fault reports it, and everything read before was
+-- submitted. A connection that ended with a write fault reports it, and a first part of what was
+-- read was submitted.
 abbrev pub IsOverBy : LineHeard → LineEnd → List Request → List Request → Type 0
 IsOverBy line ends.Quit read asked = (asked ≡ read) × IsTrue (ends_by_quit read)
 IsOverBy line ends.EndOfInput read asked = (asked ≡ read) × IsTrue (not (ends_by_quit read)) × IsTrue line.ended
@@ -47,12 +48,13 @@ IsOverBy line ends.ReadFault read asked = (asked ≡ read) × IsTrue (not (ends_
 IsOverBy line ends.WriteFault read asked =
     (more : List Request) × (read ≡ asked ++ more) × (asked ≢ []) × IsTrue (not (ends_by_quit asked)) × (line.fault ≡ Some faults.Write)
 
--- An end may be submitted just before the close, if the last request may wait and the line reports
--- the end of its input.
+-- An end may be submitted just before the close, if the last request may wait and the connection
+-- reports the end of its input.
 abbrev pub MayTellEnd : LineHeard → List Request → List Step → Type 0
 MayTellEnd line asked end_steps = (end_steps ≡ []) ⊎ ((end_steps ≡ steps.End ∷ []) × IsTrue (ends_by_wait asked) × IsTrue line.ended)
 
--- The steps of a line that has ended: it connects, submits its requests in order, and is closed.
+-- The steps of a connection that has ended: it connects, submits its requests in order, and is
+-- closed.
 pub record IsStepsOfLine (max_job_size : ℕ) (line : LineHeard) (over : LineEnd) (taken : List Step) : Type 0 where
   pub requests : List Request
   pub rest : List ℕ
@@ -105,9 +107,9 @@ pub record IsLastUnwritten (asked : List Request) (answers : List Answer) (writt
   pub answers_are : answers ≡ first ++ last ∷ []
   pub written_is : written ≡ answers_text first
 
--- What is written to a line that has ended, of the answers that it is owed: all of them, to the
--- byte. After a write fault, all except the last, and a first part of that one. After a read fault,
--- the answer to a last request that may wait can be missing.
+-- What is written to a connection that has ended, of the answers that it is owed: all of them, to
+-- the byte. After a write fault, all except the last, and a first part of that one. After a read
+-- fault, the answer to a last request that may wait can be missing.
 abbrev pub IsWritten : LineEnd → List Request → List Answer → List ℕ → Type 0
 IsWritten ends.Quit asked answers written = written ≡ answers_text answers
 IsWritten ends.EndOfInput asked answers written = written ≡ answers_text answers

@@ -1,4 +1,4 @@
--- Runs of the machine over a history.
+-- Runs of the model over a history.
 use Rattle.std.specs.Prelude.{ℕ, ◌≡◌, ◌==◌, List, [], ◌∷◌, map, filter, flat_map}
 use Rattle.bq_job.specs.{machine.{GivenAnswer, IsStep, Memory, Outcome, Machine.Machine}, Types.{Answer, Step}}
 
@@ -8,7 +8,7 @@ pub record Entry : Type 0 where
   pub seat : ℕ
   pub what : Step
 
--- the parts of a step: the answers that each part gave, and the machines between the parts
+-- the parts of a step: the answers that each part gave, and the models between the parts
 pub record Parts : Type 0 where
   -- First jobs are dispatched and waits end.
   pub handed : List GivenAnswer
@@ -37,7 +37,7 @@ parts_of step = record {
   ended_then = step.ended_then;
 }
 
--- a step that was taken: the machines before, between and after its parts, its outcome, and its
+-- a step that was taken: the models before, between and after its parts, its outcome, and its
 -- answers
 pub record Transition : Type 0 where
   pub entry : Entry
@@ -47,19 +47,18 @@ pub record Transition : Type 0 where
   pub outcome : Outcome
   pub given : List GivenAnswer
 
--- The machine can take this step.
+-- The model can take this step.
 pub record IsTransition (t : Transition) : Type 0 where
   pub step : IsStep t.first t.entry.moment t.entry.seat t.entry.what t.outcome t.given t.last
   pub parts_are : t.parts ≡ parts_of step
 
--- These steps lead the machine from `first` to `last`, each from where the previous one ended.
+-- These steps lead the model from `first` to `last`, each from where the previous one ended.
 abbrev pub GoesBy : Machine → List Transition → Machine → Type 0
 GoesBy first [] last = last ≡ first
 GoesBy first (t ∷ taken) last = (t.first ≡ first) × IsTransition t × GoesBy t.last taken last
 
--- The machine takes the steps of the history, one after another, with these outcomes, and gives
--- these answers in this order. Laws about each step of the run are stated on the list of steps
--- taken.
+-- The model takes the steps of the history, one after another, with these outcomes, and gives these
+-- answers in this order. Laws about each step of the run are stated on the list of steps taken.
 pub record RunBy (first : Machine) (history : List Entry) (outcomes : List Outcome)
     (given : List GivenAnswer) (last : Machine) : Type 0 where
   pub taken : List Transition
@@ -68,7 +67,7 @@ pub record RunBy (first : Machine) (history : List Entry) (outcomes : List Outco
   pub outcomes_are : map (λ t. t.outcome) taken ≡ outcomes
   pub given_is : flat_map (λ t. t.given) taken ≡ given
 
--- The machine takes the steps of the history, whatever their outcomes.
+-- The model takes the steps of the history, whatever their outcomes.
 abbrev pub Run : Machine → List Entry → List GivenAnswer → Machine → Type 0
 Run first history given last = (outcomes : List Outcome) × RunBy first history outcomes given last
 

@@ -9,15 +9,16 @@ use Rattle.bq_job.specs.promise.{ControlDid.IsControlDone, CoreDid.IsRun, Headli
 use Rattle.bq_job.specs.promise.LineSteps.{IsBeginning, LineHeard, LineSeen, MayTellEnd, answers_text, heard}
 use Rattle.bq_job.specs.{promise.Runs.{Entry, answers_to}, reading.Reading.Reads, Types.{Answer, Request, Step}}
 
--- a door: its lines that have ended, the line that its seat serves, if there is one, and whether a
--- line was opened there that has not ended
+-- a door: its connections that have ended, the connection that its seat serves, if there is one,
+-- and whether a connection was opened there that has not ended
 pub record DoorSoFar : Type 0 where
   pub over : List LineOver
   pub out : Option LineSeen
   pub is_out : Bool
 
--- The steps of an open line are a beginning of those of a line that ends now: it connects, submits
--- the requests in a first part of the bytes that it has read, in order, and is closed.
+-- The steps of an open connection are a beginning of those of a connection that ends now: it
+-- connects, submits the requests in a first part of the bytes that it has read, in order, and is
+-- closed.
 pub record IsStepsSoFar (max_job_size : ℕ) (line : LineHeard) (taken : List Step) : Type 0 where
   pub first : List ℕ
   pub rest : List ℕ
@@ -29,21 +30,22 @@ pub record IsStepsSoFar (max_job_size : ℕ) (line : LineHeard) (taken : List St
   pub ends : MayTellEnd line asked end_steps
   pub begins : steps.Connect ∷ [] ++ map steps.Ask asked ++ end_steps ++ steps.Close ∷ [] ≡ taken ++ more
 
--- An open line. These are its steps so far, and its client has received a beginning of these
+-- An open connection. These are its steps so far, and its client has received a beginning of these
 -- answers.
 pub record IsLineOwedSoFar (max_job_size : ℕ) (line : LineSeen) (taken : List Step) (answers : List Answer) : Type 0 where
   pub of_steps : IsStepsSoFar max_job_size (heard line) taken
   pub written : IsBeginning line.written (answers_text answers)
 
--- The steps of the line that a seat serves. If it serves none, it has submitted nothing since the
--- last line, except perhaps that no more lines come.
+-- The steps of the connection that a seat serves. If it serves none, it has submitted nothing since
+-- the last connection, except perhaps that no more connections come.
 abbrev pub IsOutOwed : ℕ → Option LineSeen → List Step → List Answer → Type 0
 IsOutOwed max_job_size None taken answers = (taken ≡ []) ⊎ (taken ≡ steps.Gone ∷ [])
 IsOutOwed max_job_size (Some line) taken answers = IsLineOwedSoFar max_job_size line taken answers
 
--- A door. The steps at its seat are those of its lines, in the order in which they ended, and then
--- those of the open line. Each line that has ended is owed what its client received. The answers
--- after theirs are for the open line. A line that was opened and has not ended is at the seat.
+-- A door. The steps at its seat are those of its connections, in the order in which they ended, and
+-- then those of the open connection. Each connection that has ended is owed what its client
+-- received, as in the final promise. The answers after theirs are for the open connection. A
+-- connection that was opened and has not ended is at the seat.
 pub record IsDoorOwedSoFar (max_job_size : ℕ) (door : DoorSoFar) (taken : List Step) (answers : List Answer) : Type 0 where
   pub own : List Step
   pub current : List Step
@@ -66,9 +68,10 @@ AreDoorsOwedSoFar max_job_size seat (door ∷ doors) history given =
 abbrev pub IsControlSoFar : List ℕ → Bool → List Step → Type 0
 IsControlSoFar text failed submitted = (rest : List Step) × IsControlDone text failed (submitted ++ rest)
 
--- One history contains all steps so far, each with a clock reading of its own. The machine runs over
--- it from a new machine to `last`. Each client whose line has ended received exactly the bytes that
--- it is owed along this history. Each client whose line is open received a beginning of them.
+-- One history contains all steps so far, each with a clock reading of its own. The model runs over
+-- it from a new model to `last`. Each client whose connection has ended received exactly the bytes
+-- that it is owed along this history. Each client whose connection is open received a beginning of
+-- them.
 pub record IsHistorySoFar (settings : Settings) (doors : List DoorSoFar) (control : List ℕ) (failed : Bool)
     (readings : List (Option ℕ)) (last : Machine) : Type 0 where
   pub history : List Entry

@@ -1,7 +1,7 @@
--- The lines of a text.
+-- The command lines of a text.
 use Rattle.std.specs.Prelude.{ℕ, Bool, ◌&&◌, ◌==◌, List, [], ◌∷◌, Option, Some, None, option_map, if◌then◌else◌}
 
--- CR LF, the end of a line
+-- CR LF, the end of a command line
 abbrev pub line_end : List ℕ
 line_end = 13 ∷ 10 ∷ []
 

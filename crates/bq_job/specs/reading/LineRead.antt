@@ -1,18 +1,18 @@
--- What a line requests.
+-- What a command line requests.
 use Rattle.std.specs.Prelude.{ℕ, nat_lt, List, [], ◌∷◌, Option, Some, None, length, option_map, unwrap_or, if◌then◌else◌}
 use Rattle.bq_job.specs.declared.{refusal.Refusal.TheVariants.{BadFormat, UnknownCommand}, request.Request.Request}
 use Rattle.bq_job.specs.reading.{CommandWords.{Command, command_named}, Words.{job_id, number, tube_name, words}}
 use Rattle.bq_job.specs.declared.request.Request.TheVariants as requests
 
--- the numbers on the line of a put, as written: priority, delay, time to run, and the number of
--- bytes in the body
+-- the numbers on the command line of a put, as written: priority, delay, time to run, and the
+-- number of bytes in the body
 pub record PutLine : Type 0 where
   pub pri : ℕ
   pub delay : ℕ
   pub ttr : ℕ
   pub bytes : ℕ
 
--- a line is a complete request, or a put whose body follows
+-- a command line is a complete request, or a put whose body follows
 pub data LineRead : Type 0 where
   Whole : Request → LineRead
   PutWaits : PutLine → LineRead
@@ -95,11 +95,12 @@ abbrev pub read_line_words : List (List ℕ) → LineRead
 read_line_words [] = unknown_command
 read_line_words (first ∷ more) = read_command (command_named first) more
 
--- the largest length of a line, in bytes, without its CR LF
+-- the greatest length of a command line, in bytes, without its CR LF
 abbrev pub longest_line : ℕ
 longest_line = 222
 
--- What a line requests. A line that is too long is BAD_FORMAT, whatever it contains.
+-- What a command line requests. A command line that is too long is BAD_FORMAT, whatever it
+-- contains.
 abbrev pub read_line : List ℕ → LineRead
 read_line line =
     let read = read_line_words (words line) in

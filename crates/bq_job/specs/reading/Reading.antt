@@ -21,8 +21,8 @@ IsPutRequest max_job_size put bytes request =
     MatchBool (nat_lt max_job_size put.bytes) (request ≡ Refused JobTooBig)
     ((request ≡ Refused OutOfMemory) ⊎ (request ≡ put_with_body put bytes))
 
--- A unit consists of a line with its CR LF and what belongs to it: nothing if the line is a
--- complete request, the body and two more bytes if it is the line of a put.
+-- A unit consists of a command line with its CR LF and what belongs to it: nothing if the line is a
+-- complete request, the body and two more bytes if it begins a put.
 abbrev pub IsUnitAfter : ℕ → LineRead → List ℕ → Request → Type 0
 IsUnitAfter max_job_size (Whole asked) after request = (after ≡ []) × (request ≡ asked)
 IsUnitAfter max_job_size (PutWaits put) after request = (length after ≡ put.bytes + 2) × IsPutRequest max_job_size put after request

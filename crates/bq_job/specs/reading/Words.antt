@@ -1,9 +1,9 @@
--- The words of a line, and the numbers and names that they can denote.
+-- The words of a command line, and the numbers and names that they can denote.
 use Rattle.std.specs.{List.{list_all, slice_split}, Prelude.{◌&&◌, ◌*◌, ◌+◌, ◌-◌, ◌==◌, ◌^◌, if◌then◌else◌, Bool, List}}
 use Rattle.std.specs.Prelude.{None, Option, Some, ℕ, fold, length, nat_le, nat_lt}
 use Rattle.bq_job.specs.reading.TubeName.{is_tube_name}
 
--- a line split at each space; words may be empty
+-- a command line split at each space; words may be empty
 abbrev pub words : List ℕ → List (List ℕ)
 words line = slice_split (λ b. b == 32) line
 

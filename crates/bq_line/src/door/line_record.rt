@@ -6,8 +6,8 @@ use boxcar::tag::{Names, Tag};
 use bq_job::LineEnd;
 use std::marker::Model;
 
-/// The lines that have ended, in the order in which they were shut, for proofs: it takes no memory,
-/// and its methods do nothing at run time.
+/// The connections that have ended, in the order in which they were shut, for proofs: it takes no
+/// memory, and its methods do nothing at run time.
 #[derive(Drop)]
 pub struct LineRecord {
     tag: Tag,
@@ -24,14 +24,14 @@ impl Model for LineRecord {
 }
 
 impl LineRecord {
-    /// Returns a record without lines.
+    /// Returns a record without connections.
     pub fn new() -> LineRecord
         ensures { result ≡ [] }
     {
         LineRecord { tag: Tag::empty() }
     }
 
-    /// Adds a line and how it ended.
+    /// Adds a connection and how it ended.
     pub fn note<L: Line>(&mut self, line: &L, end: LineEnd)
         ensures { self.new ≡ self.old ++ record { seen = L.seen line.now; over = end } ∷ [] }
     {
@@ -41,7 +41,7 @@ impl LineRecord {
 
 const _: () = prove!(size_of::<LineRecord>() == 0);
 
-// A tag and one more line.
+// A tag and one more connection.
 #[derive(Drop)]
 struct Further<'a, L: Line> {
     tag: &'a Tag,

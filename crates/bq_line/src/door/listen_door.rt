@@ -31,7 +31,8 @@ pub struct ListenDoor<'l, R, T> {
     counted: Option<&'l OpenDoors>,
     // How many more connections come; `None` for no limit.
     left: Option<u32>,
-    // The read buffer of the next connection. It is lent to an open line, and comes back with it.
+    // The read buffer of the next connection. It is lent to an open connection, and comes back with
+    // it.
     buffer: Option<ReadBuffer>,
     is_out: bool,
     is_at_end: bool,
@@ -244,7 +245,7 @@ impl<'l, R: Wait + Clock + Eprint, S: Socket + Drop + Send, T: Listen<Stream = S
         ensures of_listener { OnErr result (T.may_fail self.old.listener.now ≡ true) }
         ensures fault { OnErr result (self.new.met_fault ≡ true) }
         ensures no_fault { OnOk result (self.new.met_fault ≡ self.old.met_fault) }
-        // There is no line if and only if all connections that may come were opened.
+        // There is no connection if and only if all connections that may come were opened.
         ensures none { IfOk result (λ line. IsNone line ↔ (self.old.left ≡ Some 0)) }
         ensures left { OnErr result (self.old.left ≡ Some 0 → ⊥) }
     {
@@ -290,7 +291,7 @@ impl<'l, R: Wait + Clock + Eprint, S: Socket + Drop + Send, T: Listen<Stream = S
         ensures of_listener { OnErr result (T.may_fail self.old.listener.now ≡ true) }
         ensures fault { OnErr result (self.new.met_fault ≡ true) }
         ensures no_fault { OnOk result (self.new.met_fault ≡ self.old.met_fault) }
-        // No more lines come if and only if all connections that may come were opened.
+        // No more connections come if and only if all connections that may come were opened.
         ensures none { IfOk result (λ opening. IsNoMore opening ↔ (self.old.left ≡ Some 0)) }
         ensures left { OnErr result (self.old.left ≡ Some 0 → ⊥) }
     {

@@ -13,13 +13,13 @@ use std::alloc::Global;
 use std::collections::VecDeque;
 use std::snapshot::Snapshot;
 
-/// The lines that were put in at a door, for proofs only.
+/// The connections that were put in at a door, for proofs only.
 #[derive(Drop)]
 struct PutIn {
     lines: Snapshot<VecDeque<MemLine, Global>>,
 }
 
-/// A door in memory, with lines that come one after another, and lines that have ended.
+/// A door in memory, with connections that come one after another, and connections that have ended.
 #[derive(Drop)]
 pub struct MemDoor {
     coming: VecDeque<MemLine, Global>,
@@ -27,19 +27,19 @@ pub struct MemDoor {
     is_out: bool,
     is_at_end: bool,
     put_in: PutIn,
-    // There is room for every line that is open or still to come.
+    // There is room for every connection that is open or still to come.
     ghost room: { vec_len over + (length coming.items + (if is_out then 1 else 0)) ≤ vec_capacity over },
     ghost fresh: { All IsFresh coming.items },
     ghost end: { is_at_end ≡ true → coming.items ≡ [] },
-    // All lines that were put in have ended, are open, or are still to come; those to come are the
-    // last of them.
+    // All connections that were put in have ended, are open, or are still to come; those to come
+    // are the last of them.
     ghost all: { vec_len over + (length coming.items + (if is_out then 1 else 0)) ≡ length put_in.lines.value.items },
     ghost last: { coming.items ≡ drop (length put_in.lines.value.items - length coming.items) put_in.lines.value.items },
 }
 
 impl MemDoor {
-    /// Returns a door at which these unused lines come, in this order. Returns `NoMemory` if the
-    /// allocation for ended lines fails.
+    /// Returns a door at which these unused connections come, in this order. Returns `NoMemory` if
+    /// the allocation for ended connections fails.
     pub fn new(alloc: Global, lines: VecDeque<MemLine, Global>) -> Result<MemDoor, NoMemory>
         requires { All IsFresh lines.items }
         ensures coming { IfOk result (λ door. door.coming ≡ lines) }
@@ -63,14 +63,15 @@ impl MemDoor {
         }
     }
 
-    /// Returns the lines that have ended, in the order in which they were shut, each with its end.
+    /// Returns the connections that have ended, in the order in which they were shut, each with its
+    /// end.
     pub fn over(&self) -> &[(MemLine, LineEnd)]
         ensures { result.now ≡ self.now.over.items }
     {
         self.over.as_slice()
     }
 
-    /// Returns how many lines are still to come; 0 if the door has ended.
+    /// Returns how many connections are still to come; 0 if the door has ended.
     pub fn left(&self) -> usize
         ensures left { result ≡ length self.now.coming.items }
         ensures end { self.now.is_at_end ≡ true → result ≡ 0 }
@@ -90,7 +91,7 @@ impl Door for MemDoor {
 
     ghost lines_over = { λ door. map line_over door.over.items };
 
-    // It is the door at which these lines were put in.
+    // It is the door at which these connections were put in.
     ghost same = { λ first last. last.put_in.lines.value ≡ first.put_in.lines.value };
 
     ghost same_self = { λ door. refl };
@@ -101,7 +102,7 @@ impl Door for MemDoor {
             self.new.is_out self.new.is_at_end result }
         ensures over { self.new.over ≡ self.old.over }
         ensures put_in { self.new.put_in ≡ self.old.put_in }
-        // The next line is opened; there is none only if none is left.
+        // The next connection is opened; there is none only if none is left.
         ensures next { IfOk result
             (λ line. self.old.coming.items ≡ option_to_list line ++ self.new.coming.items) }
         ensures last { IfOk result (λ line. IsNone line ↔ (self.old.coming.items ≡ [])) }
@@ -119,7 +120,7 @@ impl Door for MemDoor {
         }
     }
 
-    // Its lines are never waited for, so nothing is watched.
+    // Its connections are never waited for, so nothing is watched.
     fn look<W: Watcher>(
         &mut self,
         _may_have_come: bool,

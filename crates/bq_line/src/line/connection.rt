@@ -165,8 +165,8 @@ impl<S: Socket> Connection<S> {
 }
 
 // Each successful call was made on a stream that waits, or on one that does not, as the clause
-// `waits` says. The stream of a watched connection was set not to wait, and stays so, as the clauses
-// `quiet` say.
+// `waits` says. A watched connection stays watched, as the clauses `watched` say: its stream does
+// not wait, and a call is left out only if the system reports when it is worth making.
 impl<S: Socket> Duplex for Connection<S> {
     ghost use Rattle.bq_line.specs.Ready.{may_give, may_take};
 

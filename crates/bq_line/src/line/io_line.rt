@@ -11,8 +11,8 @@ use bq_job::LineFault;
 use std::marker::Model;
 use std::mem;
 
-/// A line over any stream. Besides the stream it keeps two flags, and records of the bytes that the
-/// stream's reads returned and its writes took; these records take no memory.
+/// A connection over any stream. Besides the stream it keeps two flags, and records of the bytes
+/// that the stream's reads returned and its writes took; these records take no memory.
 #[derive(Drop)]
 pub struct IoLine<S> {
     stream: S,
@@ -23,7 +23,7 @@ pub struct IoLine<S> {
 }
 
 impl<S: Duplex> IoLine<S> {
-    /// Returns an unused line over this stream.
+    /// Returns an unused connection over this stream.
     pub fn new(stream: S) -> IoLine<S>
         ensures new { result
             ≡ record { stream = stream; ended = false; fault = None; read = []; written = [] } }
@@ -91,7 +91,7 @@ impl<S: Duplex> IoLine<S> {
 }
 
 impl<S> IoLine<S> {
-    /// Returns the stream, whatever was done on the line.
+    /// Returns the stream, whatever was done on the connection.
     pub fn into_stream(self) -> S
         ensures { result ≡ self.stream }
     {
@@ -100,9 +100,9 @@ impl<S> IoLine<S> {
 }
 
 // The `stream` clauses tie each call to the stream: if the stream's remaining and written bytes are
-// known, a line that returns other bytes than its stream, or does not call it, violates them. The
-// `stays` clauses tie the whole line to the stream that it was made over, and its fault too: a line
-// that reports one without its stream violates them.
+// known, a connection that returns other bytes than its stream, or does not call it, violates them.
+// The `stays` clauses tie the whole connection to the stream that it was made over, and its fault
+// too: a connection that reports one without its stream violates them.
 impl<S: Duplex> Line for IoLine<S> {
     ghost use Rattle.std.specs.Prelude.{[]};
     ghost use Rattle.bq_line.specs.Streams.{LiesOver};
@@ -235,9 +235,9 @@ impl<S: Duplex> Line for IoLine<S> {
     }
 }
 
-/// A line over a stream that is read through a buffer of the line's own. Buffered bytes are lent to
-/// the caller, so that they need not be copied. The stream is read only if the buffer is empty, for
-/// as many bytes as fit. Writes go to the stream at once.
+/// A connection over a stream that is read through a buffer of the connection's own. Buffered bytes
+/// are lent to the caller, so that they need not be copied. The stream is read only if the buffer
+/// is empty, for as many bytes as fit. Writes go to the stream at once.
 #[derive(Drop)]
 pub struct BufferedLine<S> {
     line: IoLine<S>,
@@ -274,7 +274,7 @@ impl<S: Duplex> BufferedLine<S> {
 }
 
 impl<S> BufferedLine<S> {
-    /// Returns the buffer, whatever was done on the line, and drops the stream.
+    /// Returns the buffer, whatever was done on the connection, and drops the stream.
     pub fn into_buffer(self) -> ReadBuffer
     where
         S: Drop,
@@ -376,8 +376,8 @@ impl<S: Duplex> Line for BufferedLine<S> {
     }
 }
 
-/// The bytes that went over a line, for proofs: it takes no memory, and its methods do nothing at
-/// run time.
+/// The bytes that went over a connection, for proofs: it takes no memory, and its methods do
+/// nothing at run time.
 #[derive(Drop)]
 pub struct ByteRecord {
     tag: Tag,
@@ -399,14 +399,14 @@ impl ByteRecord {
         ByteRecord { tag: Tag::empty() }
     }
 
-    /// Adds bytes that went over the line.
+    /// Adds bytes that went over the connection.
     pub fn note(&mut self, bytes: &[u8])
         ensures { self.new ≡ self.old ++ bytes.now }
     {
         self.tag = with_bytes(&self.tag, bytes);
     }
 
-    // Adds the first `count` bytes of three texts that went over the line.
+    // Adds the first `count` bytes of three texts that went over the connection.
     #[tactic(auto, using(crate::proofs::TogetherLemmas::taken_together))]
     fn note_together(&mut self, count: usize, first: &[u8], second: &[u8], third: &[u8])
         ensures { self.new ≡ self.old ++ take count (first.now ++ second.now ++ third.now) }

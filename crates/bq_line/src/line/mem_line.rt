@@ -16,12 +16,12 @@ pub enum Part {
     Bytes(Vec<u8, Global>),
     /// It sends no more until this many bytes were written to it.
     AfterWritten(usize),
-    /// Its line fails: one read returns a fault.
+    /// Its connection fails: one read returns a fault.
     Fault,
 }
 
-/// A line to a client in memory: a list of parts, after which the input ends, and room for the
-/// bytes that are written.
+/// A connection to a client in memory: a list of parts, after which the input ends, and room for
+/// the bytes that are written.
 #[derive(Drop)]
 pub struct MemLine {
     parts: Vec<Part, Global>,
@@ -41,8 +41,8 @@ pub struct MemLine {
 impl MemLine {
     ghost use Rattle.bq_line.specs.MemDoors.{KeepsPartsAndRoom};
 
-    /// Returns a line with these parts, to which `room` bytes can be written. Returns `NoMemory` if
-    /// the allocation of that room fails.
+    /// Returns a connection with these parts, to which `room` bytes can be written. Returns
+    /// `NoMemory` if the allocation of that room fails.
     #[tactic(auto, using(crate::proofs::PartLemmas::at_first))]
     pub fn new(alloc: Global, parts: Vec<Part, Global>, room: usize) -> Result<MemLine, NoMemory>
         ensures parts { IfOk result (λ line. line.parts ≡ parts) }
@@ -64,7 +64,7 @@ impl MemLine {
         }
     }
 
-    /// Returns the bytes that were written to the line.
+    /// Returns the bytes that were written to the connection.
     pub fn written(&self) -> &[u8]
         ensures { result.now ≡ self.now.written.items }
     {
@@ -220,7 +220,7 @@ impl Line for MemLine {
 }
 
 // Returns true if a part is done, given how many of its bytes were read and how many bytes were
-// written to the line.
+// written to the connection.
 fn is_over(part: &Part, offset: usize, written: usize) -> bool
     ensures { result ≡ is_over offset written part.now }
 {
@@ -231,7 +231,8 @@ fn is_over(part: &Part, offset: usize, written: usize) -> bool
     }
 }
 
-// Returns the place and the offset at which the line continues, after skipping parts that are done.
+// Returns the place and the offset at which the connection continues, after skipping parts that are
+// done.
 fn next_open(parts: &[Part], place: usize, offset: usize, written: usize) -> (usize, usize)
     ensures same { bytes_up_to parts.now result.0 result.1 ≡ bytes_up_to parts.now place offset }
     ensures open { IfSome (slice_get parts.now result.0)

@@ -1,4 +1,5 @@
-//! Streams in both directions: what a line is built on, and how a stream is read into a buffer.
+//! Streams in both directions: what a connection is built on, and how a stream is read into a
+//! buffer.
 ghost use Rattle.std.specs.Prelude.{◌≡◌, ℕ, [], Bool, OnErr, OnOk, List, None, Option, ◌++◌};
 ghost use Rattle.std.specs.Prelude.{drop, false, length, min, take, true};
 ghost use Rattle.std.specs.Io.{ReadsAtMost, WritesAtMost};

@@ -6,8 +6,8 @@ ghost use Rattle.bq_line.specs.LineCalls.{in_brief, is_nothing_yet, stream_error
 use std::io;
 use std::io::ErrorKind;
 
-/// Why a call of a stream or of a line moved no bytes. An error of the system has many more bytes,
-/// which each layer would copy.
+/// Why a call of a stream or of a connection moved no bytes. An error of the system has many more
+/// bytes, which each layer would copy.
 #[derive(Clone, Copy, Debug, PartialEq, Eq)]
 pub enum StreamError {
     /// There are no bytes yet, or there is no room yet. The system reports when that changes.

@@ -1,5 +1,5 @@
-//! The journal of a run around a lock. A separate core takes its entries one by one, and each line
-//! has to have received what that core answers.
+//! The journal of a run around a lock. A separate core takes its entries one by one, and each
+//! connection has to have received what that core answers.
 ghost use Rattle.std.specs.Prelude.{◌≡◌, ◌<◌};
 
 use crate::cases::Case;
@@ -11,7 +11,7 @@ use bq_lock::Locked;
 use bq_wire::{HeadBuf, answer_body, answer_head, answer_tail};
 use std::alloc::Global;
 
-/// The byte that follows each line in the joined text of a seat. No answer contains it.
+/// The byte that follows each connection in the joined text of a seat. No answer contains it.
 const LINE_OVER: u8 = 0;
 
 // A separate core, and the text of its answers to one seat.
@@ -66,8 +66,8 @@ impl Alone {
     }
 }
 
-// Appends the text of an answer. A line that is closed is followed by its mark. Returns false if an
-// allocation fails.
+// Appends the text of an answer. A connection that is closed is followed by its mark. Returns false
+// if an allocation fails.
 fn adds_answer(text: &mut Vec<u8, Global>, answer: &Answer) -> bool {
     if let Answer::Closed = answer {
         return text.push(LINE_OVER).is_ok();
@@ -79,8 +79,8 @@ fn adds_answer(text: &mut Vec<u8, Global>, answer: &Answer) -> bool {
         && text.extend_from_slice(answer_tail(answer)).is_ok()
 }
 
-// Appends what the lines of a door received, each followed by the mark of its end. Returns false if
-// an allocation fails.
+// Appends what the connections of a door received, each followed by the mark of its end. Returns
+// false if an allocation fails.
 fn adds_written(text: &mut Vec<u8, Global>, door: &CountedDoor) -> bool {
     for over in door.door.over() {
         if text.extend_from_slice(over.0.written()).is_err() || text.push(LINE_OVER).is_err() {
@@ -90,7 +90,7 @@ fn adds_written(text: &mut Vec<u8, Global>, door: &CountedDoor) -> bool {
     true
 }
 
-// Returns true if one of the door's lines ended in this way.
+// Returns true if one of the door's connections ended in this way.
 fn has_ended_by(door: &CountedDoor, end: LineEnd) -> bool {
     for over in door.door.over() {
         if over.1 == end {
@@ -100,8 +100,8 @@ fn has_ended_by(door: &CountedDoor, end: LineEnd) -> bool {
     false
 }
 
-// Returns true if the text lacks only the answer with the last reserved job. The mark of the line's
-// end follows.
+// Returns true if the text lacks only the answer with the last reserved job. The mark of the
+// connection's end follows.
 fn lacks_last_job(text: &[u8], wanted: &[u8]) -> bool {
     let Some((_, before)) = text.split_last() else {
         return false;
@@ -112,9 +112,9 @@ fn lacks_last_job(text: &[u8], wanted: &[u8]) -> bool {
     }
 }
 
-// Returns true if the text is what the door should have received. A line that had no room for all
-// of its answers is cut off. If a line fails while its client waits for a job, it may have the
-// answer with the job or not: the fault may be noticed before or after the answer.
+// Returns true if the text is what the door should have received. A connection that had no room for
+// all of its answers is cut off. If a connection fails while its client waits for a job, it may
+// have the answer with the job or not: the fault may be noticed before or after the answer.
 fn is_due(door: &CountedDoor, text: &[u8], wanted: &[u8]) -> bool {
     text == wanted
         || has_ended_by(door, LineEnd::WriteFault)

@@ -1,4 +1,4 @@
-//! Runs of one line. If an allocation fails, either the run is refused, or one command is.
+//! Runs of one connection. If an allocation fails, either the run is refused, or one command is.
 
 use super::outcome::Outcome;
 use bq_host::RunFault;

@@ -1,4 +1,4 @@
--- Short words for worked examples: steps of clients, settings and machines.
+-- Short words for worked examples: steps of clients, settings and models.
 use Rattle.std.specs.Prelude.{ℕ, None}
 use Rattle.bq_job.specs.machine.{new_machine, Machine.Machine}
 use Rattle.bq_job.specs.promise.{Entry}
@@ -32,6 +32,6 @@ at moment e = record e { moment = moment }
 abbrev pub plain : ℕ → ℕ → Settings
 plain seats max_job_size = record { seats = seats; max_job_size = max_job_size; max_jobs = None; requeue_delay = 0 }
 
--- a machine with this many seats and no client
+-- a model with this many seats and no client
 abbrev pub server : ℕ → ℕ → Machine
 server seats max_job_size = new_machine (plain seats max_job_size)

@@ -1,4 +1,4 @@
--- Short words for worked examples of histories: lines that have ended, and the steps of all
+-- Short words for worked examples of histories: connections that have ended, and the steps of all
 -- clients.
 use Rattle.std.specs.Prelude.{ℕ, true, false, List, map, length, flat_map, Option, Some, None}
 use Rattle.bq_job.specs.declared.line_end.LineEnd.TheVariants as ends
@@ -15,24 +15,25 @@ usual = 65535
 abbrev pub seated : ℕ → Settings
 seated seats = plain seats usual
 
--- a line on which these bytes were read and written, and which ended with the end of its input
+-- a connection on which these bytes were read and written, and which ended with the end of its
+-- input
 abbrev pub ended_line : List ℕ → List ℕ → LineOver
 ended_line read written = record { seen = record { read = read; written = written; ended = true; fault = None }; over = ends.EndOfInput }
 
--- a line that claims the end of its input, although no read reported it
+-- a connection that claims the end of its input, although no read reported it
 abbrev pub shut_line : List ℕ → List ℕ → LineOver
 shut_line read written = record { seen = record { read = read; written = written; ended = false; fault = None }; over = ends.EndOfInput }
 
--- a line that ended with a quit
+-- a connection that ended with a quit
 abbrev pub quit_line : List ℕ → List ℕ → LineOver
 quit_line read written = record { seen = record { read = read; written = written; ended = false; fault = None }; over = ends.Quit }
 
--- a line that ended with a read fault
+-- a connection that ended with a read fault
 abbrev pub unread_line : List ℕ → List ℕ → LineOver
 unread_line read written =
     record { seen = record { read = read; written = written; ended = false; fault = Some faults.Read }; over = ends.ReadFault }
 
--- a line that ended with a write fault
+-- a connection that ended with a write fault
 abbrev pub unwritten_line : List ℕ → List ℕ → LineOver
 unwritten_line read written =
     record { seen = record { read = read; written = written; ended = false; fault = Some faults.Write }; over = ends.WriteFault }
@@ -49,11 +50,11 @@ drain_at seat = event seat steps.Drain
 abbrev pub readings_of : List Entry → List (Option ℕ)
 readings_of history = map (λ e. Some e.moment) history
 
--- the answers that the machine gives over the history
+-- the answers that the model gives over the history
 abbrev pub given_over : Settings → List Entry → List GivenAnswer
 given_over settings history = flat_map (λ t. t.given) (transitions (new_machine settings) history)
 
--- These doors and this control line have a history that leads to the same machine as this one.
+-- These doors and this control line have a history that leads to the same model as this one.
 abbrev pub AreServedOver : List Entry → List (List LineOver) → List ℕ → Type 0
 AreServedOver history doors control =
     let settings = seated (length doors) in

@@ -15,8 +15,8 @@ ghost use Rattle.std.specs.Prelude.{ℕ, Bool, false, ◌≡◌, List, [], ◌�
 
 /// Histories of doors that were served. In the first, a put answers the reserve of the other door's
 /// client. In the second, the job that a door's first client held goes to its second client, whose
-/// line ends with a quit. In the third, a write breaks off within INSERTED, and then a read fails
-/// while a reserve waits for the delayed job.
+/// connection ends with a quit. In the third, a write breaks off within INSERTED, and then a read
+/// fails while a reserve waits for the delayed job.
 fn doors_are_served()
     ensures a_put_answers_a_reserve { AreServedOver
         (connect 0 ∷ connect 1 ∷ ask 0 Reserve ∷ ask 1 (Put 5 0 10 (codes "abc")) ∷ drain_at 2
@@ -51,9 +51,9 @@ fn moments_never_fall()
     ensures used_twice { IsTimedBy (Some 5 ∷ []) (at 5 (connect 0) ∷ at 5 (close 0) ∷ []) → ⊥ }
 {}
 
-/// Records that no line can leave: the steps lack a command that the client sent; the end of a line
-/// was not read; a client that is owed INSERTED received another client's answer; a line was opened
-/// at a door and never closed.
+/// Records that no connection can leave: the steps lack a command that the client sent; a
+/// connection has ended though the end of its input was not read; a client that is owed INSERTED
+/// received another client's answer; a connection was opened at a door and never closed.
 fn no_line_is_owed_so()
     ensures command_missing { (written : List ℕ) (given : List Answer)
         → IsLineOwed usual (ended_line (codes "delete 1\r\nreserve\r\n") written) (Connect ∷ Ask Reserve ∷ Close ∷ []) given → ⊥ }

@@ -38,8 +38,8 @@ impl<'m> GuestDoor<'m> {
         }
     }
 
-    /// Returns true if the client has received an answer, the last one or another, and its line has
-    /// ended.
+    /// Returns true if the client has received an answer, the last one or another, and its
+    /// connection has ended.
     pub fn is_served(self, is_last: bool) -> bool {
         let GuestDoor {
             seat: _,

@@ -2,7 +2,7 @@ use Rattle.std.proofs.Common.{◌≡◌, ◌≤◌, ◌-◌, length, drop}
 use Rattle.bq_wire.specs.LineEnds as spec
 use Rattle.bq_wire.proofs.line_read.line_end_after.Given as goal
 
--- no line ends in the bytes that were passed
+-- no command line ends in the bytes that were passed
 abbrev pub invariant-loop-feed : goal.invariant-loop-feed
 invariant-loop-feed l = record {
   within : l.passed ≤ length l.bytes;

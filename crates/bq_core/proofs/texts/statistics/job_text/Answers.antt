@@ -1,4 +1,4 @@
--- The lines are those of the definition, for a machine at this moment.
+-- The lines are those of the definition, for a model at this moment.
 use Rattle.std.proofs.{Common.◌∙◌, lemmas.Result.IfOk-weaker}
 use Rattle.bq_core.proofs.texts.statistics.job_text.Goals as goal
 

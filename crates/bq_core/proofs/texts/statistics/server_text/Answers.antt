@@ -1,4 +1,4 @@
--- The lines are those of the definition, for a machine with these numbers.
+-- The lines are those of the definition, for a model with these numbers.
 use Rattle.std.proofs.{Common.◌∙◌, lemmas.Result.IfOk-weaker}
 use Rattle.bq_core.proofs.texts.statistics.server_text.Goals as goal
 
