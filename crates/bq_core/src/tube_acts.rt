@@ -35,8 +35,15 @@ pub(crate) fn use_tube(
     };
     let change = SeatChange::Use(Tube::new(tube, number));
     changes::change_seat(state, seat, &change);
-    *answer = Answer::Using(*tube);
+    tell_used(tube, answer);
     Reply::Told
+}
+
+// Answers with the tube that is used. A separate function: the answer that was there is dropped in it.
+fn tell_used(tube: &TubeName, answer: &mut Answer)
+    ensures { answer.new ≡ Answer.Using tube.now }
+{
+    *answer = Answer::Using(*tube);
 }
 
 /// Answers with the tube that the client's jobs go into.

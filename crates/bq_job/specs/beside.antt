@@ -2,13 +2,16 @@
 -- use.
 pub mod BodySoFar
 pub mod ClientGets
+pub mod Closings
 pub mod Codes
 pub mod Computed
 pub mod ComputedReading
 pub mod ComputedRuns
+pub mod KeptBytes
 pub mod Lawful
 pub mod NameOrder
 pub mod NextDue
+pub mod NumberedBytes
 pub mod Refusals
 pub mod Replay
 pub mod SameRequests
@@ -16,6 +19,7 @@ pub mod SeatDid
 pub mod StepBody
 pub mod Ties
 pub use ClientGets.{owing, GetsWhatWaits, GetsAnswer, GetsAtMost, GetsClosed, GivesClient}
+pub use Closings.{closes, closings}
 pub use Codes.{refusal_code, answer_code}
 pub use Computed.{Served, unserved, after_given, handed_to, handed_out, dispatched, ended_at, wait_ended, waiting_count, after_dispatch}
 pub use Computed.{after_wait_ends, after_serving, after_act, ample, stepped}

@@ -1,23 +1,23 @@
-ghost use Rattle.std.specs.Prelude.{◌≡◌, ◌≤◌, ◌+◌, ◌++◌, [], IfOk, length};
+ghost use Rattle.std.specs.Prelude.{◌≡◌, ◌≤◌, ◌+◌, ◌++◌, [], IfOk, OnOk, length};
 
 use super::NoMemory;
+use super::bytes::Bytes;
 use std::alloc::Global;
 use std::marker::Model;
-use std::sync::Arc;
 
 /// The bytes of a job. Several answers can share them.
 #[derive(Debug, Drop)]
 pub struct Body {
-    bytes: Arc<Vec<u8, Global>, Global>,
+    bytes: Bytes,
 }
 
 impl Model for Body {
     ghost use Rattle.std.specs.Prelude.{List, ℕ};
-    ghost use Rattle.std.specs.Arc.{arc_value};
+    ghost use Rattle.bq_job.specs.beside.KeptBytes.{bytes_in};
 
     ghost Value = { List ℕ };
 
-    ghost view = { λ b. (arc_value b.bytes).items };
+    ghost view = { λ b. bytes_in b.bytes };
 }
 
 impl Body {
@@ -25,21 +25,9 @@ impl Body {
     pub fn new(alloc: Global, bytes: &[u8]) -> Result<Body, NoMemory>
         ensures { IfOk result (λ body. body ≡ bytes.now) }
     {
-        let Ok(copy) = Vec::from_slice(alloc, bytes) else {
-            return Err(NoMemory);
-        };
-        Body::from_vec(alloc, copy)
-    }
-
-    /// Makes a body of a vector without copying its bytes. Returns `NoMemory` if the allocation of
-    /// the shared reference fails.
-    pub fn from_vec(alloc: Global, bytes: Vec<u8, Global>) -> Result<Body, NoMemory>
-        ensures { IfOk result (λ body. body ≡ bytes.items) }
-    {
-        match Arc::new(alloc, bytes) {
-            Ok(bytes) => Ok(Body { bytes }),
-            Err(_) => Err(NoMemory),
-        }
+        let mut builder = BodyBuilder::new(alloc, bytes.len())?;
+        builder.push_slice(bytes)?;
+        Ok(builder.finish())
     }
 
     /// Returns another reference to the same bytes. It allocates nothing, and fails only if `Arc`
@@ -47,10 +35,8 @@ impl Body {
     pub fn share(&self) -> Result<Body, NoMemory>
         ensures { IfOk result (λ body. body ≡ self.now) }
     {
-        match Arc::try_clone(&self.bytes) {
-            Ok(bytes) => Ok(Body { bytes }),
-            Err(_) => Err(NoMemory),
-        }
+        let bytes = self.bytes.share()?;
+        Ok(Body { bytes })
     }
 
     /// Returns the bytes.
@@ -61,22 +47,61 @@ impl Body {
     }
 }
 
+/// A body and a number that its owner keeps with it. It takes no more memory than the body.
+#[derive(Debug, Drop)]
+pub struct NumberedBody {
+    bytes: Bytes,
+}
+
+impl Model for NumberedBody {
+    ghost use Rattle.bq_job.specs.beside.KeptBytes.{bytes_in, note_in};
+    ghost use Rattle.bq_job.specs.beside.NumberedBytes.{NumberedBytes};
+
+    ghost Value = { NumberedBytes };
+
+    ghost view = { λ b. record { bytes = bytes_in b.bytes; number = note_in b.bytes } };
+}
+
+impl NumberedBody {
+    /// Joins a body and a number.
+    pub fn new(body: Body, number: u32) -> NumberedBody
+        ensures bytes { result.bytes ≡ body }
+        ensures number { result.number ≡ number }
+    {
+        let bytes = body.bytes.with_note(number);
+        NumberedBody { bytes }
+    }
+
+    /// Returns the number.
+    pub fn number(&self) -> u32
+        ensures { result ≡ self.now.number }
+    {
+        self.bytes.note()
+    }
+
+    /// Returns another reference to the body. It allocates nothing, and fails only if `Arc` refuses
+    /// another reference.
+    pub fn share(&self) -> Result<Body, NoMemory>
+        ensures { IfOk result (λ body. body ≡ self.now.bytes) }
+    {
+        let bytes = self.bytes.share()?;
+        Ok(Body { bytes })
+    }
+}
+
 /// A body that is being filled. `new` allocates everything that it needs.
 #[derive(Debug, Drop)]
 pub struct BodyBuilder {
-    bytes: Vec<u8, Global>,
-    // Empty until `finish` moves the bytes into it.
-    owner: Arc<Vec<u8, Global>, Global>,
+    bytes: Bytes,
 }
 
 impl Model for BodyBuilder {
-    ghost use Rattle.std.specs.Prelude.{◌-◌, vec_len};
-    ghost use Rattle.std.specs.Vec.{vec_capacity};
     ghost use Rattle.bq_job.specs.beside.BodySoFar.{BodySoFar};
+    ghost use Rattle.bq_job.specs.beside.KeptBytes.{bytes_in, room_in};
 
     ghost Value = { BodySoFar };
 
-    ghost view = { λ b. record { bytes = b.bytes.items; room = vec_capacity b.bytes - vec_len b.bytes } };
+    ghost view = { λ b. record { bytes = bytes_in b.bytes; room = room_in b.bytes } };
 }
 
 impl BodyBuilder {
@@ -86,34 +111,24 @@ impl BodyBuilder {
         ensures empty { IfOk result (λ b. b.bytes ≡ []) }
         ensures room { IfOk result (λ b. size ≤ b.room) }
     {
-        let Ok(bytes) = Vec::with_capacity(alloc, size) else {
-            return Err(NoMemory);
-        };
-        match Arc::new(alloc, Vec::new(alloc)) {
-            Ok(owner) => Ok(BodyBuilder { bytes, owner }),
-            Err(_) => Err(NoMemory),
-        }
+        let bytes = Bytes::with_room(alloc, size)?;
+        Ok(BodyBuilder { bytes })
     }
 
-    /// Appends these bytes. It allocates nothing; the caller ensures that they fit.
-    pub fn push_slice(&mut self, bytes: &[u8])
+    /// Appends these bytes. It allocates nothing; the caller ensures that they fit. It fails only
+    /// if `Arc` does not give access to its only owner, and then the builder is of no more use.
+    pub fn push_slice(&mut self, bytes: &[u8]) -> Result<(), NoMemory>
         requires { length bytes.now ≤ self.old.room }
-        ensures bytes { self.new.bytes ≡ self.old.bytes ++ bytes.now }
-        ensures room { self.old.room ≤ self.new.room + length bytes.now }
+        ensures bytes { OnOk result (self.new.bytes ≡ self.old.bytes ++ bytes.now) }
+        ensures room { OnOk result (self.old.room ≤ self.new.room + length bytes.now) }
     {
-        let _fits = self.bytes.extend_from_slice(bytes);
+        self.bytes.append(bytes)
     }
 
-    /// Returns the body of the bytes so far. It allocates nothing, and fails only if `Arc` does not
-    /// give access to its only owner.
-    pub fn finish(self) -> Result<Body, NoMemory>
-        ensures { IfOk result (λ body. body ≡ self.bytes) }
+    /// Returns the body of the bytes so far. It allocates nothing.
+    pub fn finish(self) -> Body
+        ensures { result ≡ self.bytes }
     {
-        let mut owner = self.owner;
-        let Some(place) = Arc::get_mut(&mut owner) else {
-            return Err(NoMemory);
-        };
-        *place = self.bytes;
-        Ok(Body { bytes: owner })
+        Body { bytes: self.bytes }
     }
 }

@@ -6,7 +6,7 @@
 #![tactic(auto)]
 
 pub use answer::Answer;
-pub use body::{Body, BodyBuilder};
+pub use body::{Body, BodyBuilder, NumberedBody};
 pub use fault::NoMemory;
 pub use job::{Counts, Job, JobState};
 pub use journal::Entry;
@@ -34,6 +34,7 @@ pub use tube_name::TubeName;
 
 mod answer;
 mod body;
+mod bytes;
 mod fault;
 mod job;
 mod journal;

@@ -4,6 +4,7 @@ use denote.Param.Send.{AllSend, IsSend, sendable, recorded_send, struct_send}
 use denote.Struct.Declared.{fields, shape}
 use denote.Struct.Struct.{Struct}
 use Rattle.bq_core.proofs.SendLemmas.{core_sends}
+use Rattle.bq_job.proofs.SendLemmas.{body_sends}
 use Rattle.bq_host.proofs.SendLemmas.{heard_clock_sends, journal_sends}
 use Rattle.bq_lock.specs.contracts.locked.Locked as Locked
 use Rattle.bq_lock.specs.contracts.locked.outboxes.Outboxes as Outboxes
@@ -12,7 +13,7 @@ use Rattle.bq_core_api.proofs.SendLemmas.{outs_sends}
 use Rattle.std.proofs.Crossing as Crossing
 
 outboxes_sends : IsSend (Outboxes.the_field).row
-outboxes_sends = search (Crossing.crosses, sendable) depth 60 fits 20000
+outboxes_sends = search (body_sends, Crossing.crosses, sendable) depth 60 fits 20000
 
 locked_sends : IsSend (Locked.the_field).row
 locked_sends = search (core_sends, outs_sends, outboxes_sends, journal_sends, Crossing.crosses, sendable) depth 60 fits 20000
