@@ -23,9 +23,10 @@ use super::places::{self, Group, Timer};
 use super::timers::Timers;
 use super::tubes::TubeNumber;
 use bq_index::{BoxSource, Edit, Shelf, Test};
-use bq_job::{Body, Counts, Job, JobId, JobState, Moment, NoMemory, Pri, Seat};
+use bq_job::{Body, Counts, Job, JobId, JobState, Moment, NoMemory, NumberedBody, Pri, Seat};
 use std::alloc::Global;
 use std::marker::Model;
+use std::mem::size_of;
 use std::snapshot::Snapshot;
 
 /// The kind of a job's state, without its data.
@@ -47,17 +48,16 @@ pub enum Stage {
 pub struct Row {
     /// The tube of its put. It never changes.
     pub tube: TubeNumber,
-    /// The moment or the number that belongs to its state, if the state has one.
-    at: u64,
     pub pri: Pri,
     /// The delay of its put or of its last release, in seconds.
     pub delay: u32,
-    /// How long a client may hold it, in seconds, at least 1.
-    pub ttr: u32,
     /// The client that holds it, if it is reserved.
     seat: Seat,
     stage: Stage,
-    pub body: Body,
+    /// The moment or the number that belongs to its state, if the state has one.
+    at: u64,
+    /// The body, and how long a client may hold the job, in seconds, at least 1.
+    body: NumberedBody,
     /// The moment at which its put was accepted.
     pub put_at: Moment,
     pub counts: Counts,
@@ -65,6 +65,8 @@ pub struct Row {
     /// again.
     pub id: Snapshot<JobId>,
 }
+
+const _: () = prove!(size_of::<Row>() == 88);
 
 impl Model for Row {
     ghost use Rattle.bq_job.specs.declared.job.Job.{Job};
@@ -77,8 +79,8 @@ impl Model for Row {
       tube = r.tube;
       pri = r.pri;
       delay = r.delay;
-      ttr = r.ttr;
-      body = r.body;
+      ttr = r.body.number;
+      body = r.body.bytes;
       put_at = r.put_at;
       counts = r.counts;
       state = state_of r.stage r.seat r.at;
@@ -96,6 +98,20 @@ impl Row {
             Stage::Reserved => JobState::Reserved(self.seat, self.at),
             Stage::Buried => JobState::Buried(self.at),
         }
+    }
+
+    /// Returns how long a client may hold it, in seconds, at least 1.
+    pub fn ttr(&self) -> u32
+        ensures { result ≡ self.now.ttr }
+    {
+        self.body.number()
+    }
+
+    /// Returns another reference to its body, or `NoMemory` if `Arc` refuses one.
+    pub fn share_body(&self) -> Result<Body, NoMemory>
+        ensures { IfOk result (λ body. body ≡ self.now.body) }
+    {
+        self.body.share()
     }
 
     /// Sets its state.
@@ -126,15 +142,15 @@ pub(crate) fn row_of(job: Job, number: TubeNumber) -> Row
     ensures { result ≡ record job { tube = number } }
 {
     let (stage, seat, at) = parts_of(job.state);
+    let body = NumberedBody::new(job.body, job.ttr);
     Row {
         tube: number,
-        at,
         pri: job.pri,
         delay: job.delay,
-        ttr: job.ttr,
         seat,
         stage,
-        body: job.body,
+        at,
+        body,
         put_at: job.put_at,
         counts: job.counts,
         id: Snapshot::of(&job.id),
@@ -416,7 +432,7 @@ impl Rows {
     {
         match self.get(id) {
             None => None,
-            Some(row) => Some((row.tube, row.body.share())),
+            Some(row) => Some((row.tube, row.share_body())),
         }
     }
 
@@ -427,7 +443,7 @@ impl Rows {
     {
         match self.get(id) {
             None => None,
-            Some(row) => Some(row.body.share()),
+            Some(row) => Some(row.share_body()),
         }
     }
 

@@ -68,7 +68,7 @@ fn fire_timers(job: &mut Row, moment: Moment)
 fn hand_out(job: &mut Row, seat: Seat, moment: Moment)
     ensures { job.new ≡ reserved_by moment seat job.old }
 {
-    job.set_state(JobState::Reserved(seat, later(moment, job.ttr)));
+    job.set_state(JobState::Reserved(seat, later(moment, job.ttr())));
     job.counts.reserves = job.counts.reserves.saturating_add(1);
 }
 
@@ -240,7 +240,7 @@ pub(crate) fn time_to_run(jobs: &mut NumberedJobs, id: JobId, seat: Seat) -> Opt
     match jobs.get(id) {
         None => None,
         Some(job) => if is_held_by(job, seat) {
-            Some(job.ttr)
+            Some(job.ttr())
         } else {
             None
         },

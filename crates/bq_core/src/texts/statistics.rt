@@ -116,7 +116,7 @@ pub(crate) fn job_text(
         number(b"pri", u64::from(job.pri)),
         number(b"age", seconds_between(job.put_at, moment)),
         number(b"delay", u64::from(job.delay)),
-        number(b"ttr", u64::from(job.ttr)),
+        number(b"ttr", u64::from(job.ttr())),
         number(b"time-left", time_left(moment, job.state())),
         number(b"reserves", job.counts.reserves),
         number(b"timeouts", job.counts.timeouts),
