@@ -21,17 +21,17 @@ use Rattle.bq_job.proofs.{LawfulLemmas.{step_is_lawful}, ReplyLemmas.{replies_ac
 use Rattle.bq_job.proofs.ReplyLemmas.{stays_acted, told, told_elsewhere}
 
 -- the parts of a step, as one client sees them
-record Parts (client : ℕ) (first last : Machine) (seat : ℕ) (what : Step) (given : List GivenAnswer) : Type 0 where
-  memory : Memory
-  before : Machine
-  early : List GivenAnswer
-  late : List GivenAnswer
-  comes : Passes client first.seats before.seats early
-  possible : IsTrue (is_possible memory before seat what)
-  goes : Passes client ((acted memory before seat what).machine).seats last.seats late
-  given_is : given ≡ early ++ (addressed seat (acted memory before seat what).answer ++ late)
+pub record Parts (client : ℕ) (first last : Machine) (seat : ℕ) (what : Step) (given : List GivenAnswer) : Type 0 where
+  pub memory : Memory
+  pub before : Machine
+  pub early : List GivenAnswer
+  pub late : List GivenAnswer
+  pub comes : Passes client first.seats before.seats early
+  pub possible : IsTrue (is_possible memory before seat what)
+  pub goes : Passes client ((acted memory before seat what).machine).seats last.seats late
+  pub given_is : given ≡ early ++ (addressed seat (acted memory before seat what).answer ++ late)
 
-parts_of : (client : ℕ) (first last : Machine) (at seat : ℕ) (what : Step) (outcome : Outcome) (given : List GivenAnswer)
+pub parts_of : (client : ℕ) (first last : Machine) (at seat : ℕ) (what : Step) (outcome : Outcome) (given : List GivenAnswer)
     → IsStep first at seat what outcome given last → Parts client first last seat what given
 parts_of client first last at seat what outcome given s = record {
   memory = s.memory;
@@ -77,7 +77,7 @@ no_length : (xs : List Answer) → length xs ≡ 0 → xs ≡ []
 no_length xs h = grind (arith, common_steps, cases_Bool)
 
 -- the answers to the client that takes the step
-answers_of_parts : (seat : ℕ) (o : Option Answer) (early late given : List GivenAnswer) → given ≡ early ++ (addressed seat o ++ late)
+pub answers_of_parts : (seat : ℕ) (o : Option Answer) (early late given : List GivenAnswer) → given ≡ early ++ (addressed seat o ++ late)
     → answers_to seat given ≡ answers_to seat early ++ (told o ++ answers_to seat late)
 answers_of_parts seat o early late given e = grind (arith, common_steps, answers_append)
 

@@ -18,7 +18,7 @@ use Rattle.bq_job.proofs.{OneClientLemmas.unclosed_append, RunLemmas.{run_first,
 abbrev pub is_here : ℕ → Entry → Bool
 is_here t e = not (is_tick e.what) && e.seat == t
 
-first_here : (t : ℕ) (e : Entry) (history : List Entry) → is_here t e ≡ true → steps_at t (e ∷ history) ≡ e.what ∷ steps_at t history
+pub first_here : (t : ℕ) (e : Entry) (history : List Entry) → is_here t e ≡ true → steps_at t (e ∷ history) ≡ e.what ∷ steps_at t history
 first_here t e history h = grind (arith, common_steps, and_parts, cases_Bool)
 
 -- the model serves this seat
@@ -244,12 +244,17 @@ nothing_behind t m last (e ∷ history) given s none r gone =
     gone_gives steps.Gone outcome now next step h = step_gives_client m next e.moment t steps.Gone outcome now s.lawful s.within step
     gone_gives what outcome now next step h = absurd (both_ways false refl h)
 
--- The answers, line by line: each part is at most this long, and ends with `Closed`.
-abbrev pub AreParts : List ℕ → List Answer → Type 0
-AreParts [] given = given ≡ []
-AreParts (most ∷ mosts) given =
+-- The answers, connection by connection: each part is at most this long, and ends with `Closed`.
+-- What comes after the last part has this property.
+abbrev pub ArePartsBefore : (List Answer → Type 0) → List ℕ → List Answer → Type 0
+ArePartsBefore P [] given = P given
+ArePartsBefore P (most ∷ mosts) given =
     (part later : List Answer) × (has_closed part ≡ false) × (length part ≤ most) × (given ≡ part ++ answers.Closed ∷ later)
-    × AreParts mosts later
+    × ArePartsBefore P mosts later
+
+-- nothing comes after the last part
+abbrev pub AreParts : List ℕ → List Answer → Type 0
+AreParts mosts given = ArePartsBefore (λ later. later ≡ []) mosts given
 
 abbrev pub most_of_lines : (size : ℕ) (lines : List LineOver) (own : List Step) (taken : List Answer)
     → AreLinesServed size lines own taken → List ℕ
@@ -273,14 +278,24 @@ line_wants : (seen : LineHeard) (asked : List Request) (told : List Step) → Ma
     → wanted (map steps.Ask asked ++ told) ≡ answered_count asked
 line_wants seen asked told e = omega (arith, wanted_append (map steps.Ask asked) told, told_wants seen asked told e)
 
-pub gives_parts : (t : ℕ) (size : ℕ) (lines : List LineOver) (own : List Step) (taken : List Answer)
+-- What the run gives after the connections of a seat: no client is connected then, none waits, and
+-- these are the steps that follow.
+abbrev pub GivesAfter : (List Answer → Type 0) → ℕ → List Step → Machine → Type 0
+GivesAfter P t tail last = (m : Machine) (history : List Entry) (given : List GivenAnswer) → Serves t m → owing t m ≡ 0
+    → Run m history given last → steps_at t history ≡ tail → P (answers_to t given)
+
+-- nothing, if the steps only report that no more come
+pub gives_nothing : (t : ℕ) (tail : List Step) (last : Machine) → are_gone tail ≡ true → GivesAfter (λ later. later ≡ []) t tail last
+gives_nothing t tail last gone m history given s none r is = nothing_behind t m last history given s none r (ap are_gone is ∙ gone)
+
+pub gives_parts : (P : List Answer → Type 0) (t : ℕ) (size : ℕ) (lines : List LineOver) (own : List Step) (taken : List Answer)
     (h : AreLinesServed size lines own taken)
     → (m last : Machine) (history : List Entry) (given : List GivenAnswer) → Serves t m → is_connected_at t m ≡ false → owing t m ≡ 0
-    → (tail : List Step) → are_gone tail ≡ true → Run m history given last → steps_at t history ≡ own ++ tail
-    → AreParts (most_of_lines size lines own taken h) (answers_to t given)
-gives_parts t size [] own taken h m last history given s free none tail gone r is =
-    nothing_behind t m last history given s none r (ap are_gone (is ∙ ap (λ (xs : List Step). xs ++ tail) h.0) ∙ gone)
-gives_parts t size (line ∷ lines) own taken h m last history given s free none tail gone r is =
+    → (tail : List Step) → GivesAfter P t tail last → Run m history given last → steps_at t history ≡ own ++ tail
+    → ArePartsBefore P (most_of_lines size lines own taken h) (answers_to t given)
+gives_parts P t size [] own taken h m last history given s free none tail after r is =
+    after m history given s none r (is ∙ ap (λ (xs : List Step). xs ++ tail) h.0)
+gives_parts P t size (line ∷ lines) own taken h m last history given s free none tail after r is =
     let l = h.4.line_owed.steps in
     let ss = map steps.Ask l.asked ++ l.end_steps in
     let more = h.1 ++ tail in
@@ -289,12 +304,12 @@ gives_parts t size (line ∷ lines) own taken h m last history given s free none
     let e = line_ends t c.first last c.history c.rest ss more c.serves c.connected
     (grind (arith, common_steps, cases_Bool, within_asked)) c.runs c.steps_are in
     let g = e.goes in
-    let later = gives_parts t size lines h.1 h.3 h.7 g.first last g.history g.given g.serves g.free g.owes tail gone g.runs g.steps_are in (
+    let later = gives_parts P t size lines h.1 h.3 h.7 g.first last g.history g.given g.serves g.free g.owes tail after g.runs g.steps_are in (
       e.part,
       e.later,
       e.unclosed,
       (let a = e.few in let b = c.owes in let w = line_wants (heard line.seen) l.asked l.end_steps l.ends in omega arith),
       ◌∙◌ {c = e.part ++ answers.Closed ∷ e.later} c.answers_are e.given_is,
-      subst (λ (xs : List Answer). AreParts (most_of_lines size lines h.1 h.3 h.7) xs)
+      subst (λ (xs : List Answer). ArePartsBefore P (most_of_lines size lines h.1 h.3 h.7) xs)
           {x = answers_to t g.given} {y = e.later} g.answers_are later,
     )

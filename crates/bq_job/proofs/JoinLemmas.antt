@@ -1,18 +1,19 @@
 -- What the seats did fits what the core did.
 use Rattle.std.proofs.Common.{Option, ◌≡◌, ℕ, suc, ◌+◌, ◌≤◌, ◌<◌, Bool, true, false, ◌&&◌, List, [], ◌∷◌}
 use Rattle.std.proofs.Common.{◌++◌, map, length, refl, sym, ap, ◌∙◌, arith, subst, inl, inr, append-nil, append_assoc}
-use Rattle.std.proofs.lemmas.{Bool.and_right, Grind.common_steps, List.length-append}
+use Rattle.std.proofs.lemmas.{Bool.{and_right, or_parts}, Grind.common_steps, List.{Folds.list_any-append, length-append}}
 use Rattle.std.specs.{List.list_any, Prelude.{◌==◌, IsTrue}}
-use Rattle.bq_job.specs.machine.{GivenAnswer, Machine.Machine, SeatRecord, Settings, empty_seat, has_closed, is_connected_at, is_waiting}
+use Rattle.bq_job.specs.machine.{GivenAnswer, Machine.Machine, SeatRecord, Settings, empty_seat}
+use Rattle.bq_job.specs.machine.{has_closed, is_closed_answer, is_connected_at, is_waiting}
 use Rattle.bq_job.specs.promise.{AreAllAnswered, AreDoorsOwed, AreLinesOwed, Entry, IsHistoryOf, IsHistoryOfLine, IsLineOwed, IsWritten}
-use Rattle.bq_job.specs.beside.{AreLinesServed, AreTied, IsJoined, IsLineJoined, IsLineServed, IsNoneUnwritten, owing}
+use Rattle.bq_job.specs.beside.{AreLinesServed, AreTied, IsJoined, IsLineJoined, IsLineServed, IsNoneUnwritten, closes, owing}
 use Rattle.bq_job.specs.{machine.{new_machine, numbers}, promise.{LineOver, Run, answered_count, answers_text}}
 use Rattle.bq_job.specs.{promise.{answers_to, ends_by_wait, steps_at}, Types.{Answer, LineEnd, Request, Step}}
 use Rattle.bq_job.specs.declared.answer.Answer.TheVariants as answers
 use Rattle.bq_job.specs.declared.line_end.LineEnd.TheVariants as ends
 use Rattle.bq_job.specs.declared.step.Step.TheVariants as steps
-use Rattle.bq_job.proofs.CutLemmas.{closes, closes_append, closes_unclosed, lines_close, parts_close, same_cut}
-use Rattle.bq_job.proofs.GivenLemmas.{AreParts, Serves, are_gone, gives_parts, most_of_lines}
+use Rattle.bq_job.proofs.CutLemmas.{closes_append, closes_unclosed, lines_close, lines_number, parts_close, same_cut}
+use Rattle.bq_job.proofs.GivenLemmas.{AreParts, ArePartsBefore, Serves, are_gone, gives_nothing, gives_parts, most_of_lines}
 use Rattle.bq_job.proofs.{LawfulLemmas.new_is_lawful, OneClientLemmas.unclosed_append}
 use Rattle.std.proofs.lemmas.Bool.{cases_Bool}
 
@@ -51,8 +52,41 @@ line_owed size line own got part l is few =
     let done' = subst (λ (xs : List Answer). IsDone line.over l.line_owed.steps.asked xs line.seen.written) (sym is) done in
     record { steps = l.line_owed.steps; answered = done'.answered; written = done'.written_is }
 
--- Lines that took a first part of what they were given took all of it, and each is owed exactly
--- that.
+-- a connection's answers, its `Closed`, and what comes after
+around_closed : (xs ys zs : List Answer) → (xs ++ (ys ++ answers.Closed ∷ [])) ++ zs ≡ (xs ++ ys) ++ answers.Closed ∷ zs
+around_closed xs ys zs = ap (λ (us : List Answer). us ++ zs) (sym (append_assoc xs ys (answers.Closed ∷ [])))
+    ∙ append_assoc (xs ++ ys) (answers.Closed ∷ []) zs
+
+-- Connections that took a first part of what they were given, and no `Closed` but one each, are
+-- owed exactly what they took.
+first_lines_owed : (size : ℕ) (lines : List LineOver) (own : List Step) (taken more given : List Answer)
+    (h : AreLinesServed size lines own taken)
+    → ArePartsBefore (λ later. Unit {0}) (most_of_lines size lines own taken h) given → given ≡ taken ++ more
+    → closes taken ≤ length lines → AreLinesOwed size lines own taken
+first_lines_owed size [] own taken more given h parts is few = h
+first_lines_owed size (line ∷ lines) own taken more given h parts is few =
+    let l = h.4 in
+    let part = l.own ++ l.others in
+    let a : closes taken ≡ closes h.2 + closes h.3 = ap closes h.6 ∙ closes_append h.2 h.3 in
+    let b : closes h.2 ≡ closes l.own + closes (l.others ++ answers.Closed ∷ []) =
+    ap closes l.taken_is ∙ closes_append l.own (l.others ++ answers.Closed ∷ []) in
+    let c = closes_append l.others (answers.Closed ∷ []) in
+    let d = lines_close size lines h.1 h.3 h.7 in
+    let e = lines_number size lines h.1 h.3 h.7 in
+    let none : closes l.own ≡ 0 = omega arith in
+    let fewer : closes h.3 ≤ length lines = omega arith in
+    let unclosed : has_closed part ≡ false = unclosed_append l.own l.others (closes_unclosed l.own none) l.none_closed in
+    let took : taken ≡ part ++ answers.Closed ∷ h.3 =
+    h.6 ∙ ap (λ (xs : List Answer). xs ++ h.3) l.taken_is ∙ around_closed l.own l.others h.3 in
+    let whole : given ≡ part ++ answers.Closed ∷ (h.3 ++ more) =
+    is ∙ ap (λ (xs : List Answer). xs ++ more) took ∙ append_assoc part (answers.Closed ∷ h.3) more in
+    let cut = same_cut parts.0 part parts.1 (h.3 ++ more) parts.2 unclosed (sym parts.4 ∙ whole) in
+    let short : length part ≤ answered_count l.line_owed.steps.asked = let f = ap length cut.0 in let g = parts.3 in omega arith in
+    let rest = first_lines_owed size lines h.1 h.3 more parts.1 h.7 parts.5 cut.1 fewer in
+    (h.0, h.1, part, h.3, line_owed size line h.0 h.2 part l refl short, unclosed, h.5, took, rest)
+
+-- Connections that took a first part of what they were given took all of it, and each is owed
+-- exactly that.
 pub lines_owed : (size : ℕ) (lines : List LineOver) (own : List Step) (taken waiting given : List Answer)
     (h : AreLinesServed size lines own taken)
     → AreParts (most_of_lines size lines own taken h) given → given ≡ taken ++ waiting → AreLinesOwed size lines own given × (waiting ≡ [])
@@ -72,10 +106,6 @@ lines_owed size (line ∷ lines) own taken waiting given h parts is =
     let cut = same_cut parts.0 (l.own ++ l.others) parts.1 (h.3 ++ waiting) parts.2 unclosed (sym parts.4 ∙ whole) in
     let rest = lines_owed size lines h.1 h.3 waiting parts.1 h.7 parts.5 cut.1 in
     ((h.0, h.1, parts.0, parts.1, line_owed size line h.0 h.2 parts.0 l cut.0 parts.3, parts.2, h.5, parts.4, rest.0), rest.1)
-  where
-    shift : (xs ys zs : List Answer) → (xs ++ (ys ++ answers.Closed ∷ [])) ++ zs ≡ (xs ++ ys) ++ answers.Closed ∷ zs
-    shift xs ys zs = ap (λ (us : List Answer). us ++ zs) (sym (append_assoc xs ys (answers.Closed ∷ [])))
-        ∙ append_assoc (xs ++ ys) (answers.Closed ∷ []) zs
 
 -- In a new model no seat is taken, and no client waits.
 none_such : (t : ℕ) (q : SeatRecord → Bool) (xs : List ℕ) → ((n : ℕ) → q (empty_seat n) ≡ false)
@@ -97,9 +127,21 @@ pub seat_owed : (settings : Settings) (size : ℕ) (t : ℕ) (lines : List LineO
     → AreLinesOwed size lines own (answers_to t all)
 seat_owed settings size t lines own tail taken waiting history all last within gone runs steps_are answers_are served =
     let serves : Serves t (new_machine settings) = record { lawful = new_is_lawful settings; within = within } in
-    let parts = gives_parts t size lines own taken served (new_machine settings) last history all serves (starts_free t settings)
-    (starts_quiet t settings) tail gone runs steps_are in
+    let parts = gives_parts (λ later. later ≡ []) t size lines own taken served (new_machine settings) last history all serves
+    (starts_free t settings) (starts_quiet t settings) tail (gives_nothing t tail last gone) runs steps_are in
     (lines_owed size lines own taken waiting (answers_to t all) served parts answers_are).0
+
+-- The same of the connections that have ended at a seat that is open, or not yet gone.
+pub seat_owed_so_far : (settings : Settings) (size : ℕ) (t : ℕ) (lines : List LineOver) (own tail : List Step) (taken more : List Answer)
+    (history : List Entry) (all : List GivenAnswer) (last : Machine)
+    → t < settings.seats → Run (new_machine settings) history all last → steps_at t history ≡ own ++ tail
+    → answers_to t all ≡ taken ++ more → closes taken ≤ length lines → AreLinesServed size lines own taken
+    → AreLinesOwed size lines own taken
+seat_owed_so_far settings size t lines own tail taken more history all last within runs steps_are answers_are few served =
+    let serves : Serves t (new_machine settings) = record { lawful = new_is_lawful settings; within = within } in
+    let parts = gives_parts (λ later. Unit {0}) t size lines own taken served (new_machine settings) last history all serves
+    (starts_free t settings) (starts_quiet t settings) tail (λ m later given s none r is. tt) runs steps_are in
+    first_lines_owed size lines own taken more (answers_to t all) served parts answers_are few
 
 pub doors_owed : (settings : Settings) (size : ℕ) (seat : ℕ) (doors : List (List LineOver)) (submitted : ℕ → List Step)
     (taken waiting : ℕ → List Answer) (history : List Entry) (all : List GivenAnswer) (last : Machine)
@@ -160,4 +202,76 @@ lines_more size (first ∷ lines) line submitted more taken got h l = (
   ap (λ (xs : List Step). xs ++ more) h.5 ∙ append_assoc h.0 h.1 more,
   ap (λ (xs : List Answer). xs ++ got) h.6 ∙ append_assoc h.2 h.3 got,
   lines_more size lines line h.1 more h.3 got h.7 l,
+)
+
+-- ---- what is owed was served
+
+-- The answers that a connection is owed: those that it wrote, and others.
+record WroteOwn (over : LineEnd) (asked : List Request) (given : List Answer) (written : List ℕ) : Type 0 where
+  own : List Answer
+  others : List Answer
+  answered : AreAllAnswered over asked own
+  written_is : IsWritten over asked own written
+  none_unwritten : IsNoneUnwritten over own written
+  given_is : given ≡ own ++ others
+  none_closed : has_closed others ≡ false
+
+wrote_all : (over : LineEnd) (asked : List Request) (given : List Answer) (written : List ℕ) → AreAllAnswered over asked given
+    → IsWritten over asked given written → IsNoneUnwritten over given written → WroteOwn over asked given written
+wrote_all over asked given written a w none = record {
+  own = given;
+  others = [];
+  answered = a;
+  written_is = w;
+  none_unwritten = none;
+  given_is = sym (append-nil given);
+  none_closed = refl;
+}
+
+wrote_own : (over : LineEnd) (asked : List Request) (given : List Answer) (written : List ℕ) → AreAllAnswered over asked given
+    → IsWritten over asked given written → has_closed given ≡ false → WroteOwn over asked given written
+wrote_own ends.Quit asked given written a w unclosed = wrote_all ends.Quit asked given written a w tt
+wrote_own ends.EndOfInput asked given written a w unclosed = wrote_all ends.EndOfInput asked given written a w tt
+wrote_own ends.WriteFault asked given written a w unclosed = wrote_all ends.WriteFault asked given written a w tt
+wrote_own ends.ReadFault asked given written a (inl w) unclosed = wrote_all ends.ReadFault asked given written a (inl w) w
+wrote_own ends.ReadFault asked given written a (inr w) unclosed = record {
+  own = w.first;
+  others = w.last ∷ [];
+  answered = inr (
+    w.waits,
+    (let n = w.all in let e = ap length w.answers_are ∙ length-append w.first (w.last ∷ []) in omega arith),
+  );
+  written_is = inl w.written_is;
+  none_unwritten = w.written_is;
+  given_is = w.answers_are;
+  none_closed = (or_parts (has_closed w.first) (has_closed (w.last ∷ []))
+      (sym (list_any-append is_closed_answer w.first (w.last ∷ [])) ∙ ap has_closed (sym w.answers_are) ∙ unclosed)).1;
+}
+
+line_served : (size : ℕ) (line : LineOver) (own : List Step) (got : List Answer) → IsLineOwed size line own got → has_closed got ≡ false
+    → IsLineServed size line own (got ++ answers.Closed ∷ [])
+line_served size line own got o unclosed =
+    let w = wrote_own line.over o.steps.asked got line.seen.written o.answered o.written unclosed in
+    record {
+      own = w.own;
+      others = w.others;
+      line_owed = record { steps = o.steps; answered = w.answered; written = w.written_is };
+      none_unwritten = w.none_unwritten;
+      taken_is = ap (λ (xs : List Answer). xs ++ answers.Closed ∷ []) w.given_is ∙ append_assoc w.own w.others (answers.Closed ∷ []);
+      none_closed = w.none_closed;
+    }
+
+-- Connections that are owed these answers were served so.
+pub lines_served : (size : ℕ) (lines : List LineOver) (own : List Step) (got : List Answer) → AreLinesOwed size lines own got
+    → AreLinesServed size lines own got
+lines_served size [] own got h = h
+lines_served size (line ∷ lines) own got h = (
+  h.0,
+  h.1,
+  h.2 ++ answers.Closed ∷ [],
+  h.3,
+  line_served size line h.0 h.2 h.4 h.5,
+  h.6,
+  h.7 ∙ sym (append_assoc h.2 (answers.Closed ∷ []) h.3),
+  lines_served size lines h.1 h.3 h.8,
 )

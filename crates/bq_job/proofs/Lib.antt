@@ -38,10 +38,12 @@ pub mod ReplyLemmas
 pub mod ReplayLemmas
 pub mod RunLawLemmas
 pub mod RunLemmas
+pub mod SendLemmas
 pub mod SpentLemmas
 pub mod StepMoves
 pub mod UnitLemmas
 pub mod UnitsLemmas
+pub mod ClosedLemmas
 pub mod CutLemmas
 pub mod GivenLemmas
 pub mod JoinLemmas

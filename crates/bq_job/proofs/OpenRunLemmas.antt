@@ -4,14 +4,13 @@ use Rattle.std.proofs.Common.{map, length, replicate, ◌||◌, refl, sym, ap, �
 use Rattle.std.proofs.lemmas.Grind.{common_steps}
 use Rattle.std.proofs.lemmas.{Bool.{or_from, or_parts}, List.{Folds.list_any-append, length-map, map-append}}
 use Rattle.std.specs.List.{list_any}
-use Rattle.bq_job.specs.beside.{AreLinesServed}
 use Rattle.bq_job.specs.machine.{GivenAnswer, Machine.Machine, Settings, new_machine}
 use Rattle.bq_job.specs.promise.{AreAllGone, AreDoorsOwed, AreDoorsOwedSoFar, AreLinesOwed, ArePickedFrom, DoorSoFar, Entry}
 use Rattle.bq_job.specs.promise.{IsControlDone, IsControlSoFar, IsDoorOwedSoFar, IsHistoryOf, IsHistorySoFar, IsOutOwed, IsRun}
 use Rattle.bq_job.specs.promise.{LineHeard, LineOver, LineSeen, MayTellEnd, Run, answers_to, heard, is_gone, steps_at}
 use Rattle.bq_job.specs.{laws.LawsOfRuns.RunBegins, promise.moments_heard, Types.{Answer, Request, Step}}
 use Rattle.bq_job.specs.declared.step.Step.TheVariants as steps
-use Rattle.bq_job.proofs.{GivenLemmas.are_gone, JoinLemmas.seat_owed, ListLemmas.heads, RunLemmas.{run_first, run_from, run_none}}
+use Rattle.bq_job.proofs.{GivenLemmas.are_gone, JoinLemmas.{lines_served, seat_owed}, ListLemmas.heads, RunLemmas.{run_first, run_from, run_none}}
 
 -- ---- a line never says that no more lines come
 
@@ -30,15 +29,15 @@ line_goes_on : (line : LineHeard) (asked : List Request) (end_steps : List Step)
     → list_any is_gone (steps.Connect ∷ [] ++ map steps.Ask asked ++ end_steps ++ steps.Close ∷ []) ≡ false
 line_goes_on line asked end_steps h = grind (arith, common_steps, both_go_on, asks_go_on, end_goes_on)
 
-lines_go_on : (size : ℕ) (lines : List LineOver) (own : List Step) (got : List Answer) → AreLinesServed size lines own got
+lines_go_on : (size : ℕ) (lines : List LineOver) (own : List Step) (got : List Answer) → AreLinesOwed size lines own got
     → list_any is_gone own ≡ false
 lines_go_on size [] own got h = ap (λ (xs : List Step). list_any is_gone xs) h.0
 lines_go_on size (line ∷ lines) own got h =
-    let l = h.4.line_owed.steps in
-    ap (λ (xs : List Step). list_any is_gone xs) h.5
+    let l = h.4.steps in
+    ap (λ (xs : List Step). list_any is_gone xs) h.6
     ∙ both_go_on h.0 h.1
     (ap (λ (xs : List Step). list_any is_gone xs) l.steps_are ∙ line_goes_on (heard line.seen) l.asked l.end_steps l.ends)
-    (lines_go_on size lines h.1 h.3 h.7)
+    (lines_go_on size lines h.1 h.3 h.8)
 
 -- ---- a door that is gone
 
@@ -72,7 +71,7 @@ module _ (settings : Settings) (history : List Entry) (all : List GivenAnswer) (
       → AreLinesOwed settings.max_job_size door.over d.own (answers_to seat all)
   door_owed seat door within d gone =
       seat_owed settings settings.max_job_size seat door.over d.own d.current d.got d.later history all last within gone runs d.taken_is
-      d.answers_are d.of_lines
+      d.answers_are (lines_served settings.max_job_size door.over d.own d.got d.of_lines)
 
   pub idle_door_owed : (seat : ℕ) (door : DoorSoFar) → seat < settings.seats
       → IsDoorOwedSoFar settings.max_job_size door (steps_at seat history) (answers_to seat all) → door.out ≡ None

@@ -3,9 +3,10 @@
 use Rattle.std.specs.Prelude.{ℕ, suc, Bool, true, false, ◌≡◌, ◌⊎◌, ◌≤◌, ◌++◌, ◌∷◌, IsTrue, List, []}
 use Rattle.std.specs.Prelude.{length, map, Option, Some, None, is_some}
 use Rattle.std.specs.List.{list_any}
-use Rattle.bq_job.specs.{beside.SeatDid.AreLinesServed, machine.{GivenAnswer, Settings, Machine.Machine}}
+use Rattle.bq_job.specs.machine.{GivenAnswer, Settings, Machine.Machine}
 use Rattle.bq_job.specs.declared.step.Step.TheVariants as steps
 use Rattle.bq_job.specs.promise.{ControlDid.IsControlDone, CoreDid.IsRun, Headline.AreSeatsUpTo, History.{LineOver, steps_at}}
+use Rattle.bq_job.specs.promise.LineOwed.{AreLinesOwed}
 use Rattle.bq_job.specs.promise.LineSteps.{IsBeginning, LineHeard, LineSeen, MayTellEnd, answers_text, heard}
 use Rattle.bq_job.specs.{promise.Runs.{Entry, answers_to}, reading.Reading.Reads, Types.{Answer, Request, Step}}
 
@@ -51,7 +52,7 @@ pub record IsDoorOwedSoFar (max_job_size : ℕ) (door : DoorSoFar) (taken : List
   pub current : List Step
   pub got : List Answer
   pub later : List Answer
-  pub of_lines : AreLinesServed max_job_size door.over own got
+  pub of_lines : AreLinesOwed max_job_size door.over own got
   pub of_out : IsOutOwed max_job_size door.out current later
   pub taken_is : taken ≡ own ++ current
   pub answers_are : answers ≡ got ++ later
