@@ -4,5 +4,6 @@ pub mod LineEndLemmas
 pub mod LineReadLemmas
 pub mod NumberLemmas
 pub mod PutBodyLemmas
+pub mod PutLemmas
 pub mod ReaderLemmas
 pub mod WordLemmas

@@ -21,7 +21,7 @@ use Rattle.bq_wire.specs.Asked.{put_line_of}
 use Rattle.bq_wire.specs.LineEnds.{line_end_after, last_is_cr}
 use Rattle.bq_wire.specs.PutBodies.{IsBodySoFar, TakesBytes}
 use Rattle.bq_wire.specs.Standing.{Stands, StandsAt, IsPutBegun, EndsLineAsking, Waits}
-use Rattle.bq_wire.specs.Standing.{HandsRequest, FeedsText, length_beside_cr, but_last, Keeps}
+use Rattle.bq_wire.specs.Standing.{HandsRequest, FeedsText, TakesMissing, length_beside_cr, but_last, missing_at, Keeps}
 use Rattle.bq_wire.specs.declared.put_body.PutBody.{PutBody}
 use Rattle.bq_wire.specs.declared.reader.ReaderPlace.{ReaderPlace}
 use Rattle.bq_wire.specs.declared.reader.ReaderPlace.TheVariants.{InLine, InLongLine, InBody, Over}
@@ -66,6 +66,18 @@ put_no_quit m put bytes r h = go (nat_lt m put.bytes) h
     go false (inl e) = ap is_quit e
     go false (inr e) = ap is_quit e ∙ body (is_same_name (drop put.bytes bytes) line_end)
 
+-- nothing is missing outside a body
+pub none_missing : (place : ReaderPlace) (piece : List ℕ) (taken : ℕ) → missing_at place ≡ 0 → taken ≤ length piece
+    → TakesMissing place piece taken
+none_missing place piece taken none within low = omega (arith, none, within, low)
+
+-- no more came than was missing, and nothing is missing any more
+pub all_missing : (old new : PutBody) (piece : List ℕ) (taken : ℕ) → new.put ≡ old.put → new.taken ≡ old.taken + taken
+    → taken ≤ length piece → nat_le (new.put.bytes + 2) new.taken ≡ true → TakesMissing (InBody old) piece taken
+all_missing old new piece taken put more within whole low =
+    let enough : new.put.bytes + 2 ≤ new.taken = grind (arith, nat_tests, whole) in
+    omega (arith, ap (λ p. p.bytes) put, more, within, enough, low)
+
 -- more of a put's body arrived
 pub begun_more : (old new : PutBody) (text bytes : List ℕ) → IsPutBegun old text → new.put ≡ old.put → TakesBytes old new bytes
     → new.taken < new.put.bytes + 2
@@ -98,12 +110,6 @@ begun_whole m old new text bytes r begun put takes whole request =
 -- a command line that is a complete request is a unit
 pub line_unit : (m : ℕ) (text bytes : List ℕ) (r : Request) → EndsLineAsking (line_read.Whole r) bytes text → IsUnit m (text ++ bytes) r
 line_unit m text bytes r line = rw (line.first_line_is, line.read_is) (refl, refl)
-
--- the line of a put begins it
-pub line_begins : (body : PutBody) (text bytes : List ℕ) (asked : line_read.LineRead) → EndsLineAsking asked bytes text
-    → asked ≡ line_read.PutWaits (put_line_of body.put)
-    → IsBodySoFar body [] → IsPutBegun body (text ++ bytes)
-line_begins body text bytes asked line is so_far = grind (arith, common_steps)
 
 -- what was fed after the first bytes of a piece
 pub feeds_behind : (new : ReaderState) (text piece rest : List ℕ) (end taken : ℕ) (r : Option Request) → end ≤ length piece

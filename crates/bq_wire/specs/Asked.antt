@@ -1,5 +1,5 @@
--- What a line that was read requests.
-use Rattle.std.specs.Prelude.{ℕ, ◌≡◌, List, [], ◌∷◌, Option, Some, None, option_map}
+-- What a command line that was read requests.
+use Rattle.std.specs.Prelude.{ℕ, ◌≡◌, List, [], ◌∷◌, Option, None}
 use Rattle.bq_job.specs.reading.LineRead as spec
 use Rattle.bq_job.specs.reading.Words.{job_id, number}
 use Rattle.bq_job.specs.declared.request.Request.{Request}
@@ -16,10 +16,10 @@ only read (word ∷ next ∷ more) = None
 abbrev pub put_line_of : PutLine → spec.PutLine
 put_line_of put = record { pri = put.pri; delay = put.delay; ttr = put.ttr; bytes = put.bytes }
 
--- What a line requests. A complete request is the one in `place`.
-abbrev pub asked_by : LineRead → Option Request → Option spec.LineRead
-asked_by Whole place = option_map spec.Whole place
-asked_by (PutWaits put) place = Some (spec.PutWaits (put_line_of put))
+-- What a command line requests. A complete request is the one in `place`.
+abbrev pub asked_by : LineRead → Request → spec.LineRead
+asked_by Whole place = spec.Whole place
+asked_by (PutWaits put) place = spec.PutWaits (put_line_of put)
 
 -- the first word is removed, and this is what it denotes; or there is no word, or it denotes nothing
 abbrev pub IsNext : (List ℕ → Option ℕ) → List (List ℕ) → List (List ℕ) → Option ℕ → Type 0

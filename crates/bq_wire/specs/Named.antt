@@ -19,5 +19,5 @@ command_words (Some command) more = spec.read_words command more
 
 -- What is read, with the request in `place`, is what this command and the words after its name
 -- request.
-abbrev pub AsksFor : Option Command → List (List ℕ) → Option LineRead → Option Request → Type 0
-AsksFor command more read place = option_map (λ asked. asked_by asked place) read ≡ option_map Some (command_words command more)
+abbrev pub AsksFor : Option Command → List (List ℕ) → Option LineRead → Request → Type 0
+AsksFor command more read place = option_map (λ asked. asked_by asked place) read ≡ command_words command more

@@ -1,6 +1,6 @@
 -- The body of a put, as far as it has arrived.
 use Rattle.std.specs.Prelude.{ℕ, ◌≡◌, ◌≤◌, ◌+◌, Bool, true, false, ◌&&◌, ◌==◌, List, []}
-use Rattle.std.specs.Prelude.{◌∷◌, ◌++◌, length, take, drop, Option, Some, None, IfSome, IsSomeAnd}
+use Rattle.std.specs.Prelude.{◌∷◌, ◌++◌, length, take, drop, Option, Some, None, IfSome}
 use Rattle.bq_job.specs.beside.BodySoFar.{BodySoFar}
 use Rattle.bq_wire.specs.declared.put_body.PutBody.{PutBody}
 
@@ -29,4 +29,4 @@ TakesBytes old new bytes = (after : List ℕ) → IsBodySoFar old after → IsBo
 -- these bytes were appended to a store, if there is one, or the store was given up
 abbrev pub Stores : Option BodySoFar → Option BodySoFar → List ℕ → Type 0
 Stores None new bytes = new ≡ None
-Stores (Some old) new bytes = IsSomeAnd new (λ s. (s.bytes ≡ old.bytes ++ bytes) × (old.room ≤ s.room + length bytes))
+Stores (Some old) new bytes = IfSome new (λ s. (s.bytes ≡ old.bytes ++ bytes) × (old.room ≤ s.room + length bytes))

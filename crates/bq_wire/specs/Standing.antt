@@ -8,10 +8,12 @@ use Rattle.bq_job.specs.declared.request.Request.{Request}
 use Rattle.bq_wire.specs.Asked.{put_line_of}
 use Rattle.bq_wire.specs.LineEnds.{last_is_cr}
 use Rattle.bq_wire.specs.PutBodies.{IsBodySoFar, HasBodyRoom}
+use Rattle.bq_wire.specs.declared.line_read.PutLine.{PutLine}
 use Rattle.bq_wire.specs.declared.put_body.PutBody.{PutBody}
 use Rattle.bq_wire.specs.declared.reader.ReaderPlace.{ReaderPlace}
 use Rattle.bq_wire.specs.declared.reader.ReaderPlace.TheVariants.{InLine, InLongLine, InBody, Over}
 use Rattle.bq_wire.specs.declared.reader.ReaderState.{ReaderState}
+use Rattle.bq_wire.specs.declared.reader.Taken.{Taken}
 
 -- the length of an unfinished command line without a CR at its end, which may be that of its CR LF
 abbrev pub length_beside_cr : List ℕ → ℕ
@@ -38,6 +40,15 @@ StandsAt state Over text = ⊥
 
 abbrev pub Stands : ReaderState → List ℕ → Type 0
 Stands state text = StandsAt state state.place text
+
+-- how many bytes of a put have not arrived: of its body, and of the two bytes after it
+abbrev pub missing_at : ReaderPlace → ℕ
+missing_at (InBody body) = body.put.bytes + 2 - body.taken
+missing_at _ = 0
+
+-- a piece that is no longer than what is missing is taken whole
+abbrev pub TakesMissing : ReaderPlace → List ℕ → ℕ → Type 0
+TakesMissing place piece taken = length piece ≤ missing_at place → taken ≡ length piece
 
 -- a quit was read, and the reader was not restarted since
 abbrev pub IsOver : ReaderState → Type 0
@@ -66,6 +77,10 @@ pub record HandsRequest (new : ReaderState) (text piece : List ℕ) (taken : ℕ
   pub unit : IsUnit new.max_job_size (text ++ take taken piece) request
   pub next : MatchBool (is_quit request) (IsOver new) (Stands new [])
 
+-- the request in `place`, if the bytes taken complete one
+abbrev pub request_in : Taken → Request → Option Request
+request_in taken place = if taken.is_request then Some place else None
+
 abbrev pub FeedsText : ReaderState → List ℕ → List ℕ → ℕ → Option Request → Type 0
 FeedsText new text piece taken None = Waits new text piece taken
 FeedsText new text piece taken (Some request) = HandsRequest new text piece taken request
@@ -84,6 +99,12 @@ pub record EndsLineAsking (asked : line_read.LineRead) (bytes text : List ℕ) :
   pub line : List ℕ
   pub first_line_is : first_line (text ++ bytes) ≡ Some (line, [])
   pub read_is : line_read.read_line line ≡ asked
+
+-- the text is the command line of this put with its CR LF
+pub record IsPutLine (put : PutLine) (text : List ℕ) : Type 0 where
+  pub line : List ℕ
+  pub first_line_is : first_line text ≡ Some (line, [])
+  pub read_is : line_read.read_line line ≡ line_read.PutWaits (put_line_of put)
 
 -- all but the last byte
 abbrev pub but_last : List ℕ → List ℕ

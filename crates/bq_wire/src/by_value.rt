@@ -2,9 +2,9 @@
 //! instead, which copies no request.
 ghost use Rattle.std.specs.Prelude.{◌≡◌, ◌≤◌, ◌<◌, ℕ, List, None, IfSome, length};
 ghost use Rattle.bq_wire.specs.HasRead.{ReadsOn};
-ghost use Rattle.bq_wire.specs.Standing.{HandsRequest, IsOver, Stands, Waits};
+ghost use Rattle.bq_wire.specs.Standing.{HandsRequest, IsOver, Stands, Waits, request_in};
 
-use crate::reader::RequestReader;
+use crate::reader::{RequestReader, Taken};
 use bq_job::Request;
 use std::alloc::Global;
 
@@ -33,8 +33,15 @@ impl RequestReader {
             → (result.0 ≡ 0) × (result.1 ≡ None) × (self.new ≡ self.old) }
         ensures limit { self.new.max_job_size ≡ self.old.max_job_size }
     {
-        let mut request = None;
-        let taken = self.take(alloc, piece, &mut request);
-        (taken, request)
+        let mut place = Request::Quit;
+        let taken = self.take(alloc, piece, &mut place);
+        (taken.count, request_in(taken, place))
     }
+}
+
+// The request in `place`, if there is one.
+fn request_in(taken: Taken, place: Request) -> Option<Request>
+    ensures { result ≡ request_in taken place }
+{
+    if taken.is_request { Some(place) } else { None }
 }

@@ -15,9 +15,9 @@ ghost use Rattle.bq_wire.specs.Named.{AsksFor, named_where};
 use crate::line_read::{LineRead, PutLine, Words};
 use bq_job::{JobId, Refusal, Request, TubeName};
 
-/// Returns what a line with this first word requests, or None if the words after it do not fit the
-/// command. A complete request is put into `place`.
-pub fn read_command(word: &[u8], words: &mut Words, place: &mut Option<Request>) -> Option<LineRead>
+/// Returns what a command line with this first word requests, or None if the words after it do not
+/// fit the command. A complete request is put into `place`.
+pub fn read_command(word: &[u8], words: &mut Words, place: &mut Request) -> Option<LineRead>
     ensures { AsksFor (command_named word.now) words.old result place.new }
 {
     match word.len() {
@@ -31,14 +31,13 @@ pub fn read_command(word: &[u8], words: &mut Words, place: &mut Option<Request>)
 }
 
 // For a first word of at most 4 letters.
-fn up_to_4(word: &[u8], words: &mut Words, place: &mut Option<Request>) -> Option<LineRead>
+fn up_to_4(word: &[u8], words: &mut Words, place: &mut Request) -> Option<LineRead>
     ensures { AsksFor (named_where (λ n. nat_le n 4) word.now) words.old result place.new }
 {
     if is(word, b"put") {
         put_words(words)
     } else if is(word, b"use") {
-        let tube = tube_word(words)?;
-        whole(place, Request::Use { tube })
+        use_words(words, place)
     } else if is(word, b"bury") {
         bury_words(words, place)
     } else if is(word, b"kick") {
@@ -55,7 +54,7 @@ fn up_to_4(word: &[u8], words: &mut Words, place: &mut Option<Request>) -> Optio
 }
 
 // For a first word of 5 or 6 letters.
-fn up_to_6(word: &[u8], words: &mut Words, place: &mut Option<Request>) -> Option<LineRead>
+fn up_to_6(word: &[u8], words: &mut Words, place: &mut Request) -> Option<LineRead>
     ensures { AsksFor
         (named_where (λ n. nat_le 5 n && nat_le n 6) word.now) words.old result place.new }
 {
@@ -63,23 +62,21 @@ fn up_to_6(word: &[u8], words: &mut Words, place: &mut Option<Request>) -> Optio
         let id = id_word(words)?;
         whole(place, Request::Touch { id })
     } else if is(word, b"watch") {
-        let tube = tube_word(words)?;
-        whole(place, Request::Watch { tube })
+        watch_words(words, place)
     } else if is(word, b"stats") {
         no_words(words, place, Request::Stats)
     } else if is(word, b"delete") {
         let id = id_word(words)?;
         whole(place, Request::Delete { id })
     } else if is(word, b"ignore") {
-        let tube = tube_word(words)?;
-        whole(place, Request::Ignore { tube })
+        ignore_words(words, place)
     } else {
         unknown(place)
     }
 }
 
 // For a first word of 7 to 9 letters.
-fn up_to_9(word: &[u8], words: &mut Words, place: &mut Option<Request>) -> Option<LineRead>
+fn up_to_9(word: &[u8], words: &mut Words, place: &mut Request) -> Option<LineRead>
     ensures { AsksFor
         (named_where (λ n. nat_le 7 n && nat_le n 9) word.now) words.old result place.new }
 {
@@ -99,7 +96,7 @@ fn up_to_9(word: &[u8], words: &mut Words, place: &mut Option<Request>) -> Optio
 }
 
 // For a first word of 10 letters.
-fn of_10(word: &[u8], words: &mut Words, place: &mut Option<Request>) -> Option<LineRead>
+fn of_10(word: &[u8], words: &mut Words, place: &mut Request) -> Option<LineRead>
     ensures { AsksFor (named_where (λ n. n == 10) word.now) words.old result place.new }
 {
     if is(word, b"peek-ready") {
@@ -117,7 +114,7 @@ fn of_10(word: &[u8], words: &mut Words, place: &mut Option<Request>) -> Option<
 }
 
 // For a first word of 11 or 12 letters.
-fn up_to_12(word: &[u8], words: &mut Words, place: &mut Option<Request>) -> Option<LineRead>
+fn up_to_12(word: &[u8], words: &mut Words, place: &mut Request) -> Option<LineRead>
     ensures { AsksFor
         (named_where (λ n. nat_le 11 n && nat_le n 12) word.now) words.old result place.new }
 {
@@ -134,7 +131,7 @@ fn up_to_12(word: &[u8], words: &mut Words, place: &mut Option<Request>) -> Opti
 }
 
 // For a first word of 13 letters or more.
-fn from_13(word: &[u8], words: &mut Words, place: &mut Option<Request>) -> Option<LineRead>
+fn from_13(word: &[u8], words: &mut Words, place: &mut Request) -> Option<LineRead>
     ensures { AsksFor (named_where (λ n. nat_le 13 n) word.now) words.old result place.new }
 {
     if is(word, b"list-tube-used") {
@@ -149,16 +146,16 @@ fn from_13(word: &[u8], words: &mut Words, place: &mut Option<Request>) -> Optio
     }
 }
 
-// Returns true if the line's first word is this command's.
-fn is(word: &[u8], command: &[u8]) -> bool
-    ensures { result ≡ is_same_name word.now command.now }
+/// Returns true if both are the same bytes.
+pub fn is(word: &[u8], other: &[u8]) -> bool
+    ensures { result ≡ is_same_name word.now other.now }
 {
-    word == command
+    word == other
 }
 
-// What a line requests if its first word names no command.
-fn unknown(place: &mut Option<Request>) -> Option<LineRead>
-    ensures { option_map (λ read. asked_by read place.new) result ≡ Some (Some spec.unknown_command) }
+// What a command line requests if its first word names no command.
+fn unknown(place: &mut Request) -> Option<LineRead>
+    ensures { option_map (λ read. asked_by read place.new) result ≡ Some spec.unknown_command }
 {
     Some(refused(place, Refusal::UnknownCommand))
 }
@@ -212,11 +209,11 @@ fn tube_word(words: &mut Words) -> Option<TubeName>
 // Inlined, so that the request is made in `place`: even a short request takes as much room as the
 // longest tube name.
 #[inline(always)]
-fn whole(place: &mut Option<Request>, request: Request) -> Option<LineRead>
+fn whole(place: &mut Request, request: Request) -> Option<LineRead>
     ensures { option_map (λ read. asked_by read place.new) result
-        ≡ Some (Some (spec.Whole request)) }
+        ≡ Some (spec.Whole request) }
 {
-    *place = Some(request);
+    *place = request;
     Some(LineRead::Whole)
 }
 
@@ -233,18 +230,49 @@ fn no_more(words: &mut Words) -> Option<()>
 
 // What a command without further words requests.
 #[inline(always)]
-fn no_words(words: &mut Words, place: &mut Option<Request>, request: Request) -> Option<LineRead>
+fn no_words(words: &mut Words, place: &mut Request, request: Request) -> Option<LineRead>
     ensures { option_map (λ read. asked_by read place.new) result
-        ≡ option_map Some (spec.no_words request words.old) }
+        ≡ spec.no_words request words.old }
 {
     no_more(words)?;
     whole(place, request)
 }
 
+// What the words of a use request. This and the next two are separate functions, because their callers would
+// otherwise initialize room for a name on every path.
+#[inline(never)]
+fn use_words(words: &mut Words, place: &mut Request) -> Option<LineRead>
+    ensures { option_map (λ read. asked_by read place.new) result
+        ≡ spec.read_words spec_words.Command.Use words.old }
+{
+    let tube = tube_word(words)?;
+    whole(place, Request::Use { tube })
+}
+
+// What the words of a watch request.
+#[inline(never)]
+fn watch_words(words: &mut Words, place: &mut Request) -> Option<LineRead>
+    ensures { option_map (λ read. asked_by read place.new) result
+        ≡ spec.read_words spec_words.Command.Watch words.old }
+{
+    let tube = tube_word(words)?;
+    whole(place, Request::Watch { tube })
+}
+
+// What the words of an ignore request.
+#[inline(never)]
+fn ignore_words(words: &mut Words, place: &mut Request) -> Option<LineRead>
+    ensures { option_map (λ read. asked_by read place.new) result
+        ≡ spec.read_words spec_words.Command.Ignore words.old }
+{
+    let tube = tube_word(words)?;
+    whole(place, Request::Ignore { tube })
+}
+
 // What the words of a put request.
 fn put_words(words: &mut Words) -> Option<LineRead>
-    ensures { (place : Option Request) → option_map (λ read. asked_by read place) result
-        ≡ option_map Some (spec.put_words words.old) }
+    ensures { (place : Request) → option_map (λ read. asked_by read place) result
+        ≡ spec.put_words words.old }
 {
     let pri = next_number(words)?;
     let delay = next_number(words)?;
@@ -262,9 +290,9 @@ fn put_words(words: &mut Words) -> Option<LineRead>
 }
 
 // What the words of a release request.
-fn release_words(words: &mut Words, place: &mut Option<Request>) -> Option<LineRead>
+fn release_words(words: &mut Words, place: &mut Request) -> Option<LineRead>
     ensures { option_map (λ read. asked_by read place.new) result
-        ≡ option_map Some (spec.release_words words.old) }
+        ≡ spec.release_words words.old }
 {
     let id = words.next_id()?;
     let pri = next_number(words)?;
@@ -273,9 +301,9 @@ fn release_words(words: &mut Words, place: &mut Option<Request>) -> Option<LineR
 }
 
 // What the words of a bury request.
-fn bury_words(words: &mut Words, place: &mut Option<Request>) -> Option<LineRead>
+fn bury_words(words: &mut Words, place: &mut Request) -> Option<LineRead>
     ensures { option_map (λ read. asked_by read place.new) result
-        ≡ option_map Some (spec.read_words spec_words.Command.Bury words.old) }
+        ≡ spec.read_words spec_words.Command.Bury words.old }
 {
     let id = words.next_id()?;
     let pri = next_number(words)?;
@@ -283,9 +311,9 @@ fn bury_words(words: &mut Words, place: &mut Option<Request>) -> Option<LineRead
 }
 
 // What the words of a pause request.
-fn pause_words(words: &mut Words, place: &mut Option<Request>) -> Option<LineRead>
+fn pause_words(words: &mut Words, place: &mut Request) -> Option<LineRead>
     ensures { option_map (λ read. asked_by read place.new) result
-        ≡ option_map Some (spec.read_words spec_words.Command.PauseTube words.old) }
+        ≡ spec.read_words spec_words.Command.PauseTube words.old }
 {
     let tube = TubeName::new(words.next()?)?;
     let delay = next_number(words)?;
@@ -293,9 +321,9 @@ fn pause_words(words: &mut Words, place: &mut Option<Request>) -> Option<LineRea
 }
 
 /// Makes the line a rejected request, whatever its words are.
-pub fn refused(place: &mut Option<Request>, why: Refusal) -> LineRead
-    ensures { asked_by result place.new ≡ Some (spec.Whole (Request.Refused why)) }
+pub fn refused(place: &mut Request, why: Refusal) -> LineRead
+    ensures { asked_by result place.new ≡ spec.Whole (Request.Refused why) }
 {
-    *place = Some(Request::Refused(why));
+    *place = Request::Refused(why);
     LineRead::Whole
 }

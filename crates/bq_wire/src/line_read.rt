@@ -1,5 +1,5 @@
-//! Lines: where they end, their words, and what they request.
-ghost use Rattle.std.specs.Prelude.{◌≡◌, ◌<◌, ◌≤◌, ◌+◌, ◌^◌, [], ◌∷◌, IfSome, Some, None, MatchOption, length, drop, take, if◌then◌else◌, false, true};
+//! Command lines: where they end, their words, and what they request.
+ghost use Rattle.std.specs.Prelude.{◌≡◌, ◌<◌, ◌≤◌, ◌+◌, ◌^◌, [], ◌∷◌, IfSome, Some, None, MatchOption, length, drop, take, get_or, if◌then◌else◌, false, true};
 ghost use Rattle.std.specs.List.{list_all};
 ghost use Rattle.std.specs.Option.{SomeIff};
 ghost use Rattle.bq_job.specs.reading.CommandWords.{command_named};
@@ -8,7 +8,7 @@ ghost use Rattle.bq_job.specs.reading.Words as numbers;
 ghost use Rattle.bq_job.specs.reading.Words.{words};
 ghost use Rattle.bq_wire.specs.Asked.{asked_by, IsNextId};
 ghost use Rattle.bq_wire.specs.LineEnds as ends;
-ghost use Rattle.bq_wire.specs.WordsLeft.{words_left};
+ghost use Rattle.bq_wire.specs.WordsLeft.{is_letter, words_left};
 
 use crate::command::{read_command, refused};
 use bq_job::{JobId, Pri, Refusal, Request};
@@ -42,9 +42,10 @@ pub enum LineRead {
     PutWaits(PutLine),
 }
 
-/// Returns what a line requests, given without its CR LF. A complete request is put into `place`.
-pub fn read_line(line: &[u8], place: &mut Option<Request>) -> LineRead
-    ensures { asked_by result place.new ≡ Some (spec.read_line line.now) }
+/// Returns what a command line requests, given without its CR LF. A complete request is put into
+/// `place`.
+pub fn read_line(line: &[u8], place: &mut Request) -> LineRead
+    ensures { asked_by result place.new ≡ spec.read_line line.now }
 {
     if line.len() > LONGEST_LINE {
         return refused(place, Refusal::BadFormat);
@@ -58,9 +59,9 @@ pub fn read_line(line: &[u8], place: &mut Option<Request>) -> LineRead
 
 // What the first word and the words after it request.
 #[tactic(auto, using(crate::proofs::LineReadLemmas::named))]
-fn read_named(first: &[u8], words: &mut Words, place: &mut Option<Request>) -> LineRead
+fn read_named(first: &[u8], words: &mut Words, place: &mut Request) -> LineRead
     ensures { asked_by result place.new
-        ≡ Some (spec.read_command (command_named first.now) words.old) }
+        ≡ spec.read_command (command_named first.now) words.old }
 {
     match read_command(first, words, place) {
         Some(read) => read,
@@ -156,8 +157,16 @@ impl<'a> Words<'a> {
                 self.rest = more;
                 Some(id)
             }
-            None => job_id(self.next()?),
+            None => self.next_long_id(),
         }
+    }
+
+    // Does the same for a word that is no number, or nearly too large a one.
+    #[inline(never)]
+    fn next_long_id(&mut self) -> Option<JobId>
+        ensures { IsNextId self.old self.new result }
+    {
+        job_id(self.next()?)
     }
 
     /// Removes and returns the first of the remaining words.
@@ -171,15 +180,32 @@ impl<'a> Words<'a> {
     }
 }
 
-// The first word of a line, and the rest after the space that follows it.
-#[tactic(auto, using(crate::proofs::WordLemmas::words_first))]
+// The first word of a command line, and the rest after the space that follows it.
+#[tactic(auto, using(crate::proofs::WordLemmas::only_word, crate::proofs::WordLemmas::words_first))]
 fn first_word(line: &[u8]) -> (&[u8], Option<&[u8]>)
     ensures { words line.now ≡ result.0.now ∷ words_left result.1 }
 {
-    match memchr(b' ', line) {
-        Some(space) => (&line[..space], Some(&line[space + 1..])),
-        None => (line, None),
+    let letters = first_letters(line);
+    if letters == line.len() {
+        (line, None)
+    } else {
+        (&line[..letters], Some(&line[letters + 1..]))
     }
+}
+
+// Returns how many bytes there are before the first space. The words of commands are so short that
+// a search by many bytes at a time costs more.
+#[tactic(auto, using(crate::proofs::WordLemmas::letters_more))]
+fn first_letters(line: &[u8]) -> usize
+    ensures within { result ≤ length line.now }
+    ensures letters { list_all is_letter (take result line.now) ≡ true }
+    ensures space { result < length line.now → get_or line.now result 0 ≡ 32 }
+{
+    let mut letters = 0;
+    while letters < line.len() && line[letters] != b' ' {
+        letters += 1;
+    }
+    letters
 }
 
 // Returns the number that the first bytes of a command line denote, and how many bytes it has. It

@@ -1,4 +1,4 @@
-ghost use Rattle.std.specs.Prelude.{◌≡◌, ◌≤◌, ◌<◌, ◌+◌, ℕ, List, [], None, length, take, nat_le};
+ghost use Rattle.std.specs.Prelude.{◌≡◌, ◌≤◌, ◌<◌, ◌+◌, ℕ, List, [], None, length, take, nat_le, true, ◌-◌};
 ghost use Rattle.std.specs.Option.{ForSome};
 ghost use Rattle.bq_job.specs.reading.Reading.{IsPutRequest};
 ghost use Rattle.bq_wire.specs.Asked.{put_line_of};
@@ -113,6 +113,13 @@ impl PutBody {
         body + cr + lf
     }
 
+    /// Returns how many bytes of the body and of the two after it have not arrived.
+    pub fn missing(&self) -> usize
+        ensures { result ≡ self.now.put.bytes + 2 - self.now.taken }
+    {
+        (self.put.bytes as usize + 2).saturating_sub(self.taken)
+    }
+
     /// Returns true if the body and the two bytes after it have arrived.
     pub fn is_whole(&self) -> bool
         ensures { result ≡ nat_le (self.now.put.bytes + 2) self.now.taken }
@@ -141,14 +148,11 @@ impl PutBody {
         if !self.good_end {
             return refused(Refusal::ExpectedCrlf);
         }
-        match store.finish() {
-            Ok(body) => Request::Put {
-                pri: self.put.pri,
-                delay: self.put.delay,
-                ttr: self.put.ttr,
-                body,
-            },
-            Err(_) => refused(Refusal::OutOfMemory),
+        Request::Put {
+            pri: self.put.pri,
+            delay: self.put.delay,
+            ttr: self.put.ttr,
+            body: store.finish(),
         }
     }
 }
@@ -159,8 +163,23 @@ fn store_bytes(store: &mut Option<BodyBuilder>, bytes: &[u8])
     requires { ForSome store.old (λ s. length bytes.now ≤ s.room) }
     ensures { Stores store.old store.new bytes.now }
 {
-    if let Some(kept) = store {
-        kept.push_slice(bytes);
+    if !has_stored(store, bytes) {
+        *store = None;
+    }
+}
+
+// Does the same, but returns false if it failed.
+fn has_stored(store: &mut Option<BodyBuilder>, bytes: &[u8]) -> bool
+    requires { ForSome store.old (λ s. length bytes.now ≤ s.room) }
+    ensures none { store.old ≡ None → store.new ≡ None }
+    ensures stored { result ≡ true → Stores store.old store.new bytes.now }
+{
+    match store {
+        None => true,
+        Some(kept) => match kept.push_slice(bytes) {
+            Ok(()) => true,
+            Err(_) => false,
+        },
     }
 }
 

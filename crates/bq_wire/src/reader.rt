@@ -1,18 +1,19 @@
 //! The reader of requests: its state, and how it continues with more bytes.
-ghost use Rattle.std.specs.Prelude.{◌≡◌, ◌≤◌, ◌<◌, ◌+◌, ◌++◌, ℕ, List, [], length, take, IfOk, OnOk, IfSome, Some, None, if◌then◌else◌};
+ghost use Rattle.std.specs.Prelude.{◌≡◌, ◌≤◌, ◌<◌, ◌+◌, ◌++◌, ℕ, List, [], length, take, IfOk, OnOk, IfSome, None, false, true, if◌then◌else◌};
 ghost use Rattle.std.specs.List.{flat_map};
 ghost use Rattle.bq_job.specs.reading.LineRead as line_read;
-ghost use Rattle.bq_job.specs.reading.Reading.{Reads, is_quit};
-ghost use Rattle.bq_wire.specs.Asked.{asked_by};
+ghost use Rattle.bq_job.specs.reading.Reading.{IsPutRequest, Reads, is_quit};
+ghost use Rattle.bq_wire.specs.Asked.{asked_by, put_line_of};
 ghost use Rattle.bq_wire.specs.HasRead.{HasRead, HasReadText, ReadsOn};
 ghost use Rattle.bq_wire.specs.PutBodies.{HasBodyRoom, IsBodySoFar};
 ghost use Rattle.bq_wire.specs.Standing.{IsFed, IsOver, IsSoundPlace, IsSoundReader, Stands, StandsAt, Feeds};
-ghost use Rattle.bq_wire.specs.Standing.{Keeps, EndsLineAsking, Waits, HandsRequest, but_last};
+ghost use Rattle.bq_wire.specs.Standing.{Keeps, EndsLineAsking, IsPutLine, TakesMissing, Waits, HandsRequest, but_last, missing_at, request_in};
 ghost use Rattle.bq_wire.specs.declared.reader.ReaderPlace.TheVariants.{InLine, InLongLine, InBody, Over};
 
+use crate::command::is;
 use crate::line_read::{LONGEST_LINE, LineRead, PutLine, ends_in_cr, line_end_after, read_line};
 use crate::put_body::PutBody;
-use bq_job::{LARGEST_BODY, NoMemory, Refusal, Request};
+use bq_job::{Body, LARGEST_BODY, NoMemory, Refusal, Request};
 use std::alloc::Global;
 use std::marker::Model;
 use std::mem;
@@ -120,6 +121,15 @@ impl Model for RequestReader {
     ghost invariant = { λ r. IsSoundReader r.state };
 }
 
+/// How far a reader got in a piece of bytes.
+#[derive(Clone, Copy)]
+pub struct Taken {
+    /// How many bytes it took.
+    pub count: usize,
+    /// True if these bytes complete a request.
+    pub is_request: bool,
+}
+
 impl RequestReader {
     /// Returns a reader that has read nothing. Bodies of jobs may have at most `max_job_size`
     /// bytes. Returns `NoMemory` if the allocation for command lines fails.
@@ -149,98 +159,104 @@ impl RequestReader {
         self.state.place = ReaderPlace::InLine;
     }
 
+    /// Returns how many bytes the put that is being read still lacks: of its body, and of the two
+    /// bytes after it. Returns 0 if the reader is not in a body.
+    pub fn missing(&self) -> usize
+        ensures { result ≡ missing_at self.now.place }
+    {
+        match &self.state.place {
+            ReaderPlace::InBody(body) => body.missing(),
+            _ => 0,
+        }
+    }
+
     /// Takes bytes up to and including the last byte of the first complete request, or all of them.
     /// Returns how many bytes it took, and whether they complete a request, which is then in `place`.
     /// Without one, the content of `place` has no meaning. After a quit it takes none until `restart`.
     /// It allocates only the body of a put, when the put's command line is complete; if that fails,
     /// the put becomes a rejected request.
     #[tactic(auto, using(crate::proofs::HasReadLemmas::reads_on))]
-    pub fn take(&mut self, alloc: Global, piece: &[u8], request: &mut Option<Request>) -> usize
-        ensures within { result ≤ length piece.now }
-        ensures progress { IfSome request.new (λ _. 0 < result) }
+    pub fn take(&mut self, alloc: Global, piece: &[u8], place: &mut Request) -> Taken
+        ensures within { result.count ≤ length piece.now }
+        ensures progress { IfSome (request_in result place.new) (λ _. 0 < result.count) }
         // If there is no request: for every text that the reader represented, no first part of that
         // text and the piece is a request, the whole piece was taken, and the reader now represents
         // that text and the piece.
-        ensures waits { request.new ≡ None → (text : List ℕ)
-            → Stands self.old text → Waits self.new text piece.now result }
+        ensures waits { request_in result place.new ≡ None → (text : List ℕ)
+            → Stands self.old text → Waits self.new text piece.now result.count }
         // If there is a request: for every text that the reader represented, that text and the
         // bytes taken are this one request, and the reader now represents the empty text, or none
         // after a quit.
-        ensures hands_out { IfSome request.new
-            (λ asked. (text : List ℕ) → Stands self.old text → HandsRequest self.new text piece.now result asked) }
+        ensures hands_out { IfSome (request_in result place.new)
+            (λ asked. (text : List ℕ) → Stands self.old text → HandsRequest self.new text piece.now result.count asked) }
         // So from all bytes taken since it was made or restarted, the reader returns the requests,
         // whatever pieces the bytes came in.
-        ensures reads { ReadsOn self.old self.new piece.now result request.new }
+        ensures reads { ReadsOn self.old self.new piece.now result.count (request_in result place.new) }
         ensures over { IsOver self.old
-            → (result ≡ 0) × (request.new ≡ None) × (self.new ≡ self.old) }
+            → (result.count ≡ 0) × (request_in result place.new ≡ None) × (self.new ≡ self.old) }
+        // A piece with no more bytes than the put lacks is taken whole.
+        ensures missing { TakesMissing self.old.place piece.now result.count }
         ensures limit { self.new.max_job_size ≡ self.old.max_job_size }
     {
-        feed_state(alloc, &mut self.state, piece, request)
+        feed_state(alloc, &mut self.state, piece, place)
     }
 }
 
-fn feed_state(
-    alloc: Global,
-    state: &mut ReaderState,
-    piece: &[u8],
-    request: &mut Option<Request>,
-) -> usize
+fn feed_state(alloc: Global, state: &mut ReaderState, piece: &[u8], place: &mut Request) -> Taken
     requires { IsSoundReader state.old }
-    ensures fed { IsFed state.old state.new piece.now result request.new }
-    ensures feeds { Feeds (Stands state.old) state.new piece.now result request.new }
+    ensures fed { IsFed state.old state.new piece.now result.count (request_in result place.new) }
+    ensures feeds { Feeds (Stands state.old) state.new piece.now result.count (request_in result place.new) }
     ensures over { IsOver state.old
-        → (result ≡ 0) × (request.new ≡ None) × (state.new ≡ state.old) }
+        → (result.count ≡ 0) × (request_in result place.new ≡ None) × (state.new ≡ state.old) }
+    ensures missing { TakesMissing state.old.place piece.now result.count }
 {
     match state.place {
-        ReaderPlace::InLine => feed_line(alloc, state, piece, request),
-        _ => feed_taken(alloc, state, piece, request),
+        ReaderPlace::InLine => feed_line(alloc, state, piece, place),
+        _ => feed_taken(alloc, state, piece, place),
     }
 }
 
 // Takes what the reader is in the middle of out of it, and feeds that.
 #[inline(never)]
-fn feed_taken(
-    alloc: Global,
-    state: &mut ReaderState,
-    piece: &[u8],
-    request: &mut Option<Request>,
-) -> usize
+fn feed_taken(alloc: Global, state: &mut ReaderState, piece: &[u8], place: &mut Request) -> Taken
     requires { IsSoundReader state.old }
-    ensures fed { IsFed state.old state.new piece.now result request.new }
-    ensures feeds { Feeds (Stands state.old) state.new piece.now result request.new }
+    ensures fed { IsFed state.old state.new piece.now result.count (request_in result place.new) }
+    ensures feeds { Feeds (Stands state.old) state.new piece.now result.count (request_in result place.new) }
     ensures over { IsOver state.old
-        → (result ≡ 0) × (request.new ≡ None) × (state.new ≡ state.old) }
+        → (result.count ≡ 0) × (request_in result place.new ≡ None) × (state.new ≡ state.old) }
+    ensures missing { TakesMissing state.old.place piece.now result.count }
 {
-    match mem::replace(&mut state.place, ReaderPlace::Over) {
-        ReaderPlace::InLine => feed_line(alloc, state, piece, request),
-        ReaderPlace::InLongLine(after_cr) => feed_long_line(state, after_cr, piece, request),
-        ReaderPlace::InBody(body) => feed_body(state, body, piece, request),
+    match mem::replace(&mut state.place, ReaderPlace::InLine) {
+        ReaderPlace::InLine => feed_line(alloc, state, piece, place),
+        ReaderPlace::InLongLine(after_cr) => feed_long_line(state, after_cr, piece, place),
+        ReaderPlace::InBody(body) => feed_body(state, body, piece, place),
         ReaderPlace::Over => {
-            *request = None;
-            0
+            state.place = ReaderPlace::Over;
+            Taken {
+                count: 0,
+                is_request: false,
+            }
         }
     }
 }
 
-// Feeds a line whose bytes are kept.
-fn feed_line(
-    alloc: Global,
-    state: &mut ReaderState,
-    piece: &[u8],
-    request: &mut Option<Request>,
-) -> usize
-    ensures fed { IsFed state.old state.new piece.now result request.new }
-    ensures feeds { Feeds (StandsAt state.old InLine) state.new piece.now result request.new }
+// Feeds a command line whose bytes are kept.
+fn feed_line(alloc: Global, state: &mut ReaderState, piece: &[u8], place: &mut Request) -> Taken
+    requires { state.old.place ≡ InLine }
+    ensures fed { IsFed state.old state.new piece.now result.count (request_in result place.new) }
+    ensures feeds { Feeds (StandsAt state.old InLine) state.new piece.now result.count (request_in result place.new) }
 {
     match line_end_after(ends_in_cr(false, state.kept.as_slice()), piece) {
         None => {
             state.place = keep(&mut state.kept, piece);
-            *request = None;
-            piece.len()
+            Taken {
+                count: piece.len(),
+                is_request: false,
+            }
         }
         Some(end) => {
-            let read = whole_line(&mut state.kept, &piece[..end - 1], request);
-            after_line(alloc, state, read, piece, end, request)
+            let read = whole_line(&mut state.kept, &piece[..end - 1], place);
+            after_line(alloc, state, read, piece, end, place)
         }
     }
 }
@@ -262,18 +278,18 @@ fn keep(kept: &mut KeptLine, piece: &[u8]) -> ReaderPlace
 
 // Returns what the line that ends now requests. `last` is the line's last bytes without the LF. A
 // complete request is put into `place`.
-fn whole_line(kept: &mut KeptLine, last: &[u8], place: &mut Option<Request>) -> LineRead
+fn whole_line(kept: &mut KeptLine, last: &[u8], place: &mut Request) -> LineRead
     requires { 0 < length kept.old + length last.now }
     ensures cleared { kept.new ≡ [] }
     ensures read { asked_by result place.new
-        ≡ Some (line_read.read_line (but_last (kept.old ++ last.now))) }
+        ≡ line_read.read_line (but_last (kept.old ++ last.now)) }
 {
     if kept.as_slice().is_empty() {
         return read_line(&last[..last.len() - 1], place);
     }
     if last.len() > kept.room() {
         kept.clear();
-        refuse_line(place);
+        refuse(place, Refusal::BadFormat);
         return LineRead::Whole;
     }
     kept.push_slice(last);
@@ -286,10 +302,10 @@ fn whole_line(kept: &mut KeptLine, last: &[u8], place: &mut Option<Request>) -> 
 // Rejects a request. A separate function, because its caller would otherwise initialize room for a
 // request on every path.
 #[inline(never)]
-fn refuse_line(place: &mut Option<Request>)
-    ensures { place.new ≡ Some (Request.Refused Refusal.BadFormat) }
+fn refuse(place: &mut Request, why: Refusal)
+    ensures { place.new ≡ Request.Refused why }
 {
-    *place = Some(bad_format());
+    *place = Request::Refused(why);
 }
 
 // Continues after a complete command line, which ends in the piece.
@@ -299,28 +315,89 @@ fn after_line(
     read: LineRead,
     piece: &[u8],
     end: usize,
-    request: &mut Option<Request>,
-) -> usize
+    place: &mut Request,
+) -> Taken
+    requires place { state.old.place ≡ InLine }
     requires some { 0 < end }
     requires within { end ≤ length piece.now }
-    ensures fed { IsFed state.old state.new piece.now result request.new }
-    ensures feeds { (asked : line_read.LineRead) → asked_by read request.old ≡ Some asked → state.old.kept ≡ []
-        → Feeds (EndsLineAsking asked (take end piece.now)) state.new piece.now result request.new }
+    ensures fed { IsFed state.old state.new piece.now result.count (request_in result place.new) }
+    ensures feeds { (asked : line_read.LineRead) → asked_by read place.old ≡ asked → state.old.kept ≡ []
+        → Feeds (EndsLineAsking asked (take end piece.now)) state.new piece.now result.count (request_in result place.new) }
 {
     match read {
         LineRead::Whole => {
-            state.place = place_behind(request);
-            end
+            end_at_quit(&mut state.place, place);
+            Taken {
+                count: end,
+                is_request: true,
+            }
         }
         LineRead::PutWaits(put) => {
-            let body = begun_body(alloc, put, state.max_job_size);
-            let taken = feed_body(state, body, &piece[end..], request);
-            end + taken
+            let taken = feed_put(alloc, state, put, &piece[end..], place);
+            Taken {
+                count: end + taken.count,
+                is_request: taken.is_request,
+            }
         }
     }
 }
 
-// Returns the body of a put whose line is complete. Nothing is allocated if it is too big.
+// Continues after the command line of a put. Mostly the whole body came with it.
+fn feed_put(
+    alloc: Global,
+    state: &mut ReaderState,
+    put: PutLine,
+    piece: &[u8],
+    place: &mut Request,
+) -> Taken
+    requires { state.old.place ≡ InLine }
+    ensures fed { IsFed state.old state.new piece.now result.count (request_in result place.new) }
+    ensures feeds { state.old.kept ≡ []
+        → Feeds (IsPutLine put) state.new piece.now result.count (request_in result place.new) }
+{
+    if is_at_hand(put, state.max_job_size, piece) {
+        let size = put.bytes as usize;
+        whole_put(alloc, put, &piece[..size], &piece[size..size + 2], place);
+        return Taken {
+            count: size + 2,
+            is_request: true,
+        };
+    }
+    let body = begun_body(alloc, put, state.max_job_size);
+    feed_body(state, body, piece, place)
+}
+
+// Returns true if the body of a put is not too big, and is in the piece with its end.
+fn is_at_hand(put: PutLine, max_job_size: u32, piece: &[u8]) -> bool
+    ensures small { result ≡ true → put.bytes ≤ max_job_size }
+    ensures whole { result ≡ true → put.bytes + 2 ≤ length piece.now }
+{
+    put.bytes <= max_job_size && put.bytes as usize + 2 <= piece.len()
+}
+
+// Puts the request of a put into `place`, given its body and the two bytes after it. If the allocation
+// for the body fails, the answer is OUT_OF_MEMORY, whatever the bytes are.
+#[tactic(auto, using(crate::proofs::PutLemmas::put_good, crate::proofs::PutLemmas::put_bad, crate::proofs::PutLemmas::put_refused))]
+fn whole_put(alloc: Global, put: PutLine, body: &[u8], end: &[u8], place: &mut Request)
+    requires { length body.now ≡ put.bytes }
+    ensures { (max_job_size : ℕ) → put.bytes ≤ max_job_size
+        → IsPutRequest max_job_size (put_line_of put) (body.now ++ end.now) place.new }
+{
+    let Ok(stored) = Body::new(alloc, body) else {
+        return refuse(place, Refusal::OutOfMemory);
+    };
+    if !is(end, b"\r\n") {
+        return refuse(place, Refusal::ExpectedCrlf);
+    }
+    *place = Request::Put {
+        pri: put.pri,
+        delay: put.delay,
+        ttr: put.ttr,
+        body: stored,
+    };
+}
+
+// Returns the body of a put whose command line is complete. Nothing is allocated if it is too big.
 fn begun_body(alloc: Global, put: PutLine, max_job_size: u32) -> PutBody
     ensures put { result.put ≡ put }
     ensures nothing { IsBodySoFar result [] }
@@ -335,15 +412,14 @@ fn begun_body(alloc: Global, put: PutLine, max_job_size: u32) -> PutBody
     }
 }
 
-// The reader's place after a request of one line.
-fn place_behind(request: &Option<Request>) -> ReaderPlace
-    ensures sound { IsSoundPlace result }
-    ensures behind { IfSome request.now
-        (λ asked. result ≡ (if is_quit asked then Over else InLine)) }
+// No more is read after a quit.
+fn end_at_quit(place: &mut ReaderPlace, request: &Request)
+    requires { place.old ≡ InLine }
+    ensures sound { IsSoundPlace place.new }
+    ensures behind { place.new ≡ (if is_quit request.now then Over else InLine) }
 {
-    match request {
-        Some(Request::Quit) => ReaderPlace::Over,
-        _ => ReaderPlace::InLine,
+    if let Request::Quit = request {
+        *place = ReaderPlace::Over;
     }
 }
 
@@ -352,56 +428,56 @@ fn feed_long_line(
     state: &mut ReaderState,
     after_cr: bool,
     piece: &[u8],
-    request: &mut Option<Request>,
-) -> usize
-    ensures fed { IsFed state.old state.new piece.now result request.new }
+    place: &mut Request,
+) -> Taken
+    ensures fed { IsFed state.old state.new piece.now result.count (request_in result place.new) }
     ensures feeds { Feeds
-        (StandsAt state.old (InLongLine after_cr)) state.new piece.now result request.new }
+        (StandsAt state.old (InLongLine after_cr)) state.new piece.now result.count (request_in result place.new) }
 {
     match line_end_after(after_cr, piece) {
         None => {
             state.place = ReaderPlace::InLongLine(ends_in_cr(after_cr, piece));
-            *request = None;
-            piece.len()
+            Taken {
+                count: piece.len(),
+                is_request: false,
+            }
         }
         Some(end) => {
             state.place = ReaderPlace::InLine;
-            *request = Some(bad_format());
-            end
+            refuse(place, Refusal::BadFormat);
+            Taken {
+                count: end,
+                is_request: true,
+            }
         }
     }
 }
 
 // Feeds the body of a put.
-fn feed_body(
-    state: &mut ReaderState,
-    body: PutBody,
-    piece: &[u8],
-    request: &mut Option<Request>,
-) -> usize
+fn feed_body(state: &mut ReaderState, body: PutBody, piece: &[u8], place: &mut Request) -> Taken
     requires room { HasBodyRoom body }
     requires not_whole { body.taken < body.put.bytes + 2 }
-    ensures fed { IsFed state.old state.new piece.now result request.new }
+    ensures fed { IsFed state.old state.new piece.now result.count (request_in result place.new) }
     ensures feeds { Feeds
-        (StandsAt state.old (InBody body)) state.new piece.now result request.new }
+        (StandsAt state.old (InBody body)) state.new piece.now result.count (request_in result place.new) }
+    ensures missing { TakesMissing (InBody body) piece.now result.count }
 {
     let mut body = body;
     let taken = body.take(piece);
     if body.is_whole() {
         state.place = ReaderPlace::InLine;
-        *request = Some(body.into_request(state.max_job_size));
-        taken
+        *place = body.into_request(state.max_job_size);
+        Taken {
+            count: taken,
+            is_request: true,
+        }
     } else {
         state.place = ReaderPlace::InBody(body);
-        *request = None;
-        taken
+        Taken {
+            count: taken,
+            is_request: false,
+        }
     }
-}
-
-fn bad_format() -> Request
-    ensures { result ≡ Request.Refused Refusal.BadFormat }
-{
-    Request::Refused(Refusal::BadFormat)
 }
 
 /// Returns the requests of a text that arrives in these pieces: those of the whole text, however it

@@ -2,82 +2,66 @@ ghost use Rattle.std.specs.Prelude.{◌≡◌, ◌+◌, ◌≤◌, ◌++◌, len
 ghost use Rattle.bq_job.specs.texts.AnswerText as spec;
 ghost use Rattle.bq_job.specs.reading.Line.{line_end};
 
-use arrayvec::ArrayVec;
+use crate::head_buf::HeadBuf;
 use bq_job::Answer;
 use itoa::Buffer;
 
-/// The largest length of the head of an answer, in bytes.
-const HEAD_ROOM: usize = 256;
-
-/// A buffer for the head of an answer, in a fixed array. Contracts see its contents as items.
-pub type HeadBuf = ArrayVec<u8, HEAD_ROOM>;
-
-/// Appends bytes to the buffer. The caller ensures that there is room.
-pub fn push_bytes<const ROOM: usize>(buf: &mut ArrayVec<u8, ROOM>, more: &[u8])
-    requires { length buf.old.items + length more.now ≤ ROOM }
-    ensures { buf.new.items ≡ buf.old.items ++ more.now }
-{
-    let Ok(()) = buf.try_extend_from_slice(more) else {
-        unreachable!()
-    };
-}
-
 // Appends the decimal digits of a number to the head.
 fn push_number(head: &mut HeadBuf, n: u64)
-    requires { length head.old.items + 20 ≤ 256 }
-    ensures text { head.new.items ≡ head.old.items ++ decimal n }
-    ensures short { length head.new.items ≤ length head.old.items + 20 }
+    requires { length head.old + 20 ≤ 256 }
+    ensures text { head.new ≡ head.old ++ decimal n }
+    ensures short { length head.new ≤ length head.old + 20 }
 {
     let mut digits = Buffer::new();
-    push_bytes(head, digits.format(n).as_bytes());
+    head.push(digits.format(n).as_bytes());
 }
 
 // A word, a number and CR LF.
 fn number_head(head: &mut HeadBuf, word: &[u8], n: u64)
     requires { length word.now ≤ 16 }
-    ensures { head.new.items ≡ word.now ++ decimal n ++ line_end }
+    ensures { head.new ≡ word.now ++ decimal n ++ line_end }
 {
     head.clear();
-    push_bytes(head, word);
+    head.push(word);
     push_number(head, n);
-    push_bytes(head, b"\r\n");
+    head.push(b"\r\n");
 }
 
 // A word, the id of a job, the number of bytes in its body, and CR LF.
 fn job_head(head: &mut HeadBuf, word: &[u8], id: u64, size: usize)
     requires { length word.now ≤ 16 }
-    ensures { head.new.items ≡ word.now ++ decimal id ++ codes " " ++ decimal size ++ line_end }
+    ensures { head.new ≡ word.now ++ decimal id ++ codes " " ++ decimal size ++ line_end }
 {
     head.clear();
-    push_bytes(head, word);
+    head.push(word);
     push_number(head, id);
-    push_bytes(head, b" ");
+    head.push(b" ");
     push_number(head, size as u64);
-    push_bytes(head, b"\r\n");
+    head.push(b"\r\n");
 }
 
 // A word with its CR LF.
 fn word_head(head: &mut HeadBuf, line: &[u8])
     requires { length line.now ≤ 256 }
-    ensures { head.new.items ≡ line.now }
+    ensures { head.new ≡ line.now }
 {
     head.clear();
-    push_bytes(head, line);
+    head.push(line);
 }
 
 fn using_head(head: &mut HeadBuf, tube: &[u8])
     requires { length tube.now ≤ 200 }
-    ensures { head.new.items ≡ codes "USING " ++ tube.now ++ line_end }
+    ensures { head.new ≡ codes "USING " ++ tube.now ++ line_end }
 {
     head.clear();
-    push_bytes(head, b"USING ");
-    push_bytes(head, tube);
-    push_bytes(head, b"\r\n");
+    head.push(b"USING ");
+    head.push(tube);
+    head.push(b"\r\n");
 }
 
 /// Replaces the contents of `head` by the head of the answer. It allocates nothing.
 pub fn answer_head(answer: &Answer, head: &mut HeadBuf)
-    ensures { head.new.items ≡ spec.answer_head answer.now }
+    ensures { head.new ≡ spec.answer_head answer.now }
 {
     match answer {
         Answer::Inserted(id) => number_head(head, b"INSERTED ", *id),
