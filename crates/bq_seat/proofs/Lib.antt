@@ -6,6 +6,7 @@ pub mod MoveLemmas
 pub mod OpenLemmas
 pub mod OrderlyLemmas
 pub mod OutstandingLemmas
+pub mod PieceLemmas
 pub mod ReadingLemmas
 pub mod StepLemmas
 pub mod StepsSoFarLemmas

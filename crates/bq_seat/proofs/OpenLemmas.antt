@@ -19,7 +19,7 @@ use Rattle.bq_job.specs.machine.OneClient.{has_closed, is_closed_answer}
 use Rattle.bq_seat.specs.Past.{Past, with_action, with_mail, with_fault, first_past}
 use Rattle.bq_seat.specs.Served.{IsFaultOf, IsLastBroken, IsServed, IsServedToClose}
 use Rattle.bq_seat.specs.SeatStands.{IsClosing, IsOpen, IsWaiting, StandsInStage, end_if}
-use Rattle.bq_wire.specs.Standing.{Stands}
+use Rattle.bq_wire.specs.Standing.{Stands, Waits}
 use Rattle.bq_wire.specs.declared.reader.ReaderState.{ReaderState}
 use Rattle.bq_seat.specs.declared.machine.Action.TheVariants as actions
 use Rattle.bq_seat.specs.declared.machine.Stage.TheVariants as stages
@@ -51,6 +51,29 @@ pub handed_in_waiting : {r : ReaderState} {kept : List ℕ} {told waits : Bool} 
     → kept ≡ [] → told ≡ false → IsWaiting r more told waits (record p { bytes = p.bytes ++ more })
 unfolding handed_in
 handed_in_waiting more w none untold = (handed_in more w.0 none untold, w.1)
+
+-- A reader that has taken all bytes, without a request.
+pub waited : (r next : ReaderState) (kept : List ℕ) (n : ℕ) (p : Past) → IsOpen r kept false 0 p → next.max_job_size ≡ r.max_job_size
+    → ((text : List ℕ) → Stands r text → Waits next text kept n) → IsOpen next [] false 0 p
+waited r next kept n p o same waits = let w = waits o.read.begun o.read.stands in record {
+  asked = o.asked;
+  read = record {
+    units = o.read.units;
+    begun = o.read.begun ++ kept;
+    stands = w.stands;
+    no_unit = w.none;
+    are_units = subst (λ size. AreUnits size o.read.units o.asked) (sym same) o.read.are_units;
+    bytes_are = o.read.bytes_are ∙ ap (λ bytes. o.read.units ++ bytes) (sym (append-nil (o.read.begun ++ kept)));
+  };
+  stepped = record {
+    no_quit = o.stepped.no_quit;
+    steps_are = o.stepped.steps_are;
+    told_well = λ e. absurd cc;
+    closing_is = o.stepped.closing_is;
+    ended_is = o.stepped.ended_is;
+  };
+  handed = o.handed;
+}
 
 -- A reader that has taken a whole request. The end of the input was not submitted.
 module _ (r next : ReaderState) (kept : List ℕ) (n : ℕ) (q : Request) (p : Past) (o : IsOpen r kept false 0 p)

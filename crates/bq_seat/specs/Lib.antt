@@ -4,6 +4,7 @@ pub mod Lent
 pub mod Looks
 pub mod Outstanding
 pub mod Past
+pub mod Pieces
 pub mod SeatMoves
 pub mod SeatParts
 pub mod SeatStands

@@ -1,7 +1,8 @@
 -- What the parts of a seat machine's moves do, in terms of its fields.
-use Rattle.std.specs.Prelude.{ℕ, ◌≡◌, ◌==◌, ◌&&◌, Bool, true, false, not, if◌then◌else◌, List, length, Some}
+use Rattle.std.specs.Prelude.{ℕ, ◌≡◌, ◌==◌, ◌≤◌, ◌&&◌, Bool, true, false, not, if◌then◌else◌, List, length, Some, None, IfSome}
 use Rattle.bq_job.specs.declared.line_end.LineEnd.{LineEnd}
 use Rattle.bq_job.specs.declared.request.Request.{Request}
+use Rattle.bq_job.specs.declared.request.Request.TheVariants.{Quit}
 use Rattle.bq_job.specs.declared.step.Step.TheVariants as steps
 use Rattle.bq_job.specs.reading.Reading.{is_quit}
 use Rattle.bq_job.specs.promise.LineSteps.{is_waiting_request}
@@ -9,7 +10,9 @@ use Rattle.bq_seat.specs.Looks.{GoesFurther, LooksOn}
 use Rattle.bq_seat.specs.Past.{Past, answers, awaited_by, first_past, is_stray, past_after, with_action}
 use Rattle.bq_seat.specs.SeatStands.{AgreesWith, IsOpen, awaited}
 use Rattle.bq_seat.specs.Served.{IsServed}
+use Rattle.bq_wire.specs.Standing.{HandsRequest, Stands, TakesMissing, Waits, request_in}
 use Rattle.bq_wire.specs.declared.reader.ReaderState.{ReaderState}
+use Rattle.bq_wire.specs.declared.reader.Taken.{Taken}
 use Rattle.bq_seat.specs.declared.machine.Action.{Action}
 use Rattle.bq_seat.specs.declared.machine.Action.TheVariants as actions
 use Rattle.bq_seat.specs.declared.machine.Event.{Event}
@@ -80,3 +83,21 @@ pub record IsStagedMove (old : SeatMachine) (event : Event) (action : Action) (n
   pub past : (p : Past) → AgreesWith old p → AgreesWith new (past_after event action p)
   pub over : IfLineOver action (ServesAll old event action)
   pub looks : is_stray action ≡ false → (p : Past) → AgreesWith old p → LooksOn (awaited old) old.kept event p action
+
+-- The reader took these bytes, and this is the request if they complete one.
+pub record IsTaken (old new : ReaderState) (bytes : List ℕ) (taken : Taken) (place : Request) : Type 0 where
+  pub within : taken.count ≤ length bytes
+  pub waits : request_in taken place ≡ None → (text : List ℕ) → Stands old text → Waits new text bytes taken.count
+  pub hands_out : IfSome (request_in taken place) (λ asked. (text : List ℕ) → Stands old text → HandsRequest new text bytes taken.count asked)
+  pub missing : TakesMissing old.place bytes taken.count
+  pub limit : new.max_job_size ≡ old.max_job_size
+
+-- the request that an action submits; of no account for other actions
+abbrev pub request_of : Action → Request
+request_of (actions.Submit (steps.Ask request)) = request
+request_of _ = Quit
+
+-- The request is submitted if it is one; otherwise the connection is read.
+abbrev pub AsksOrReads : Bool → Request → SeatMachine → Action → SeatMachine → Type 0
+AsksOrReads true request old action new = (action ≡ actions.Submit (steps.Ask request)) × (new ≡ in_stage (asking_stage request) old)
+AsksOrReads false request old action new = (action ≡ actions.Read) × (new ≡ in_stage stages.Reading old)

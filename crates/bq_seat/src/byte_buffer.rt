@@ -1,6 +1,6 @@
 //! A buffer of bytes that came and were not used yet.
 ghost use Rattle.std.specs.Borrow.{sem};
-ghost use Rattle.std.specs.Prelude.{◌≡◌, ◌==◌, ◌≤◌, [], ◌++◌, length, take, drop, IfOk};
+ghost use Rattle.std.specs.Prelude.{◌≡◌, ◌==◌, ◌+◌, ◌≤◌, [], ◌++◌, length, take, drop, IfOk};
 ghost use Rattle.std.specs.Vec.{vec_capacity};
 
 use bq_job::NoMemory;
@@ -96,10 +96,13 @@ impl<const ROOM: usize> ByteBuffer<ROOM> {
 
     /// Replaces the bytes with this piece without its first `n` bytes.
     pub fn replace_by_rest(&mut self, piece: &[u8], n: usize)
-        requires fits { length piece.now ≤ ROOM }
         requires within { n ≤ length piece.now }
+        requires fits { length piece.now ≤ ROOM + n }
         ensures { self.new ≡ drop n piece.now }
     {
+        if n == piece.len() {
+            return self.clear();
+        }
         self.replace(&piece[n..]);
     }
 

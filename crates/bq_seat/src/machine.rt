@@ -1,10 +1,12 @@
 //! The state machine of a connection.
-ghost use Rattle.std.specs.Prelude.{◌≡◌, ◌==◌, ◌≤◌, [], length, not, IfOk, if◌then◌else◌};
-ghost use Rattle.bq_seat.specs.SeatParts.{asking_stage};
+ghost use Rattle.std.specs.Prelude.{◌≡◌, ◌==◌, ◌≤◌, ℕ, List, [], None, false, length, not, true, IfOk, IfSome, if◌then◌else◌};
+ghost use Rattle.bq_job.specs.declared.request.Request.{Request};
+ghost use Rattle.bq_seat.specs.SeatParts.{AsksOrReads, asking_stage, request_of};
+ghost use Rattle.bq_wire.specs.Standing.{HandsRequest, Stands, TakesMissing, Waits, request_in};
 
 use crate::byte_buffer::ByteBuffer;
 use bq_job::{Answer, LARGEST_BODY, LineEnd, NoMemory, Request, Step};
-use bq_wire::RequestReader;
+use bq_wire::{RequestReader, Taken};
 use std::alloc::Global;
 
 /// What happened at a connection in answer to the machine's last action.
@@ -93,8 +95,8 @@ impl SeatMachine {
     ghost use Rattle.bq_seat.specs.SeatMoves.{IsMove};
     ghost use Rattle.bq_seat.specs.SeatParts.{GoesOn, asking_stage, between, holding, in_stage, reads_on, would_read};
     ghost use Rattle.bq_job.specs.declared.line_end.LineEnd.{LineEnd};
-    ghost use Rattle.bq_wire.specs.Standing.{Stands};
     ghost use Rattle.bq_seat.specs.SeatStands.{awaited, kept_bytes};
+    ghost use Rattle.bq_seat.specs.Pieces.{HasRoomFor, HasRoomIn, missing_in};
 
     /// Returns a machine that waits for its first connection. It rejects bodies of more than
     /// `max_job_size` bytes, which must be 1 to 1,048,576. Everything except bodies is allocated
@@ -144,9 +146,20 @@ impl SeatMachine {
         !self.kept.is_empty()
     }
 
-    /// A line was opened. Like the calls for the other events below, this writes the next action to
-    /// `next`, so that the action and what it carries are not copied. The previous content of `next`,
-    /// which may be the last action, is ignored.
+    /// Returns how many bytes the put that is being read still lacks, which can be passed to
+    /// `body_bytes` at once. Returns 0 if the machine does not read the body of a put.
+    pub fn missing(&self) -> usize
+        ensures { result ≡ missing_in self.now }
+    {
+        match self.stage {
+            Stage::Reading => self.reader.missing(),
+            _ => 0,
+        }
+    }
+
+    /// A connection was opened. Like the calls for the other events below, this writes the next
+    /// action to `next`, so that the action and what it carries are not copied. The previous
+    /// content of `next`, which may be the last action, is ignored.
     ///
     /// An event that does not answer the last action changes nothing, and `next` becomes `Stray`.
     pub fn opened(&mut self, next: &mut Action)
@@ -183,14 +196,41 @@ impl SeatMachine {
         requires { length bytes.now ≤ PIECE_ROOM }
         ensures { IsMove self.old (Event.Bytes bytes.entry) next.new self.new }
     {
+        self.came(alloc, bytes, next);
+    }
+
+    /// These bytes were read, at most as many as the put that is being read still lacks. So a long
+    /// body need not be passed in piece by piece.
+    pub fn body_bytes(&mut self, alloc: Global, bytes: &[u8], next: &mut Action)
+        requires { length bytes.now ≤ missing_in self.old }
+        ensures { IsMove self.old (Event.Bytes bytes.entry) next.new self.new }
+    {
+        self.came(alloc, bytes, next);
+    }
+
+    // These bytes were read.
+    #[inline(always)]
+    fn came(&mut self, alloc: Global, bytes: &[u8], next: &mut Action)
+        requires { HasRoomFor self.old (length bytes.now) }
+        ensures { IsMove self.old (Event.Bytes bytes.entry) next.new self.new }
+    {
         match self.stage {
             Stage::Reading => self.take_in(alloc, bytes, next),
-            Stage::ReadingOn => {
-                self.kept.replace(bytes);
-                self.poll(true, next)
-            }
+            Stage::ReadingOn => self.keep(bytes, next),
             _ => *next = Action::Stray,
         }
+    }
+
+    // These bytes came while a reserve waits. A separate function, so that its caller needs no room
+    // on the stack.
+    #[inline(never)]
+    fn keep(&mut self, bytes: &[u8], next: &mut Action)
+        requires { length bytes.now ≤ PIECE_ROOM }
+        ensures action { next.new ≡ Action.PollMail }
+        ensures after { self.new ≡ in_stage (Stage.Polling true) (holding bytes.now self.old) }
+    {
+        self.kept.replace(bytes);
+        self.poll(true, next);
     }
 
     /// There was nothing to read, or no mail.
@@ -278,30 +318,47 @@ impl SeatMachine {
         if self.kept.is_empty() {
             return self.read(next);
         }
-        let mut request = None;
-        let taken = self.reader.take(alloc, self.kept.as_slice(), &mut request);
-        self.kept.drop_front(taken);
-        match request {
-            None => self.read(next),
-            Some(request) => self.ask(request, next),
-        }
+        self.go_on_with_kept(alloc, next)
+    }
+
+    // Does the same if bytes are kept. A separate function, because its caller would otherwise
+    // initialize room for a request on every path.
+    #[inline(never)]
+    fn go_on_with_kept(&mut self, alloc: Global, next: &mut Action)
+        requires { self.old.end_told ≡ false }
+        ensures { GoesOn self.old next.new self.new }
+    {
+        let taken = take_to(alloc, &mut self.reader, self.kept.as_slice(), next);
+        self.kept.drop_front(taken.count);
+        self.ask_or_read(taken.is_request, next);
     }
 
     // Does the same if no bytes are kept and these bytes came. It parses the request directly from
     // `bytes`, and keeps only the bytes after it.
+    #[tactic(auto, using(crate::proofs::PieceLemmas::room_for_rest))]
     fn take_in(&mut self, alloc: Global, bytes: &[u8], next: &mut Action)
-        requires { length bytes.now ≤ PIECE_ROOM }
+        requires { HasRoomIn self.old.reader.place (length bytes.now) }
         ensures { GoesOn (holding bytes.now self.old) next.new self.new }
     {
         if self.end_told {
             return self.close(LineEnd::EndOfInput, next);
         }
-        let mut request = None;
-        let taken = self.reader.take(alloc, bytes, &mut request);
-        self.kept.replace_by_rest(bytes, taken);
-        match request {
-            None => self.read(next),
-            Some(request) => self.ask(request, next),
+        let taken = take_to(alloc, &mut self.reader, bytes, next);
+        self.kept.replace_by_rest(bytes, taken.count);
+        self.ask_or_read(taken.is_request, next);
+    }
+
+    // Submits the request in `next`, or reads the connection if there is none.
+    #[inline(always)]
+    fn ask_or_read(&mut self, is_request: bool, next: &mut Action)
+        ensures { (request : Request) → next.old ≡ Action.Submit (Step.Ask request)
+            → AsksOrReads is_request request self.old next.new self.new }
+    {
+        if !is_request {
+            return self.read(next);
+        }
+        if let Action::Submit(Step::Ask(request)) = next {
+            self.stage = stage_of(request);
         }
     }
 
@@ -311,15 +368,6 @@ impl SeatMachine {
     {
         self.stage = Stage::Reading;
         *next = Action::Read;
-    }
-
-    #[inline(always)]
-    fn ask(&mut self, request: Request, next: &mut Action)
-        ensures action { next.new ≡ Action.Submit (Step.Ask request) }
-        ensures after { self.new ≡ in_stage (asking_stage request) self.old }
-    {
-        self.stage = stage_of(&request);
-        *next = Action::Submit(Step::Ask(request));
     }
 
     fn poll(&mut self, waits: bool, next: &mut Action)
@@ -386,6 +434,42 @@ impl SeatMachine {
             }
             _ => *next = Action::PollMail,
         }
+    }
+}
+
+// Reads the next request from these bytes. It is made in `next`, as the step that submits it, so that
+// it is not copied.
+#[inline(always)]
+fn take_to(alloc: Global, reader: &mut RequestReader, bytes: &[u8], next: &mut Action) -> Taken
+    ensures asks { next.new ≡ Action.Submit (Step.Ask (request_of next.new)) }
+    ensures within { result.count ≤ length bytes.now }
+    ensures waits { request_in result (request_of next.new) ≡ None
+        → (text : List ℕ) → Stands reader.old text → Waits reader.new text bytes.now result.count }
+    ensures hands_out { IfSome (request_in result (request_of next.new)) (λ asked. (text : List ℕ)
+        → Stands reader.old text → HandsRequest reader.new text bytes.now result.count asked) }
+    ensures missing { TakesMissing reader.old.place bytes.now result.count }
+    ensures limit { reader.new.max_job_size ≡ reader.old.max_job_size }
+{
+    *next = Action::Submit(Step::Ask(Request::Quit));
+    take_into(alloc, reader, bytes, next)
+}
+
+// Does the same if `next` has the place for a request.
+#[inline(always)]
+fn take_into(alloc: Global, reader: &mut RequestReader, bytes: &[u8], next: &mut Action) -> Taken
+    requires { next.old ≡ Action.Submit (Step.Ask Request.Quit) }
+    ensures asks { next.new ≡ Action.Submit (Step.Ask (request_of next.new)) }
+    ensures within { result.count ≤ length bytes.now }
+    ensures waits { request_in result (request_of next.new) ≡ None
+        → (text : List ℕ) → Stands reader.old text → Waits reader.new text bytes.now result.count }
+    ensures hands_out { IfSome (request_in result (request_of next.new)) (λ asked. (text : List ℕ)
+        → Stands reader.old text → HandsRequest reader.new text bytes.now result.count asked) }
+    ensures missing { TakesMissing reader.old.place bytes.now result.count }
+    ensures limit { reader.new.max_job_size ≡ reader.old.max_job_size }
+{
+    match next {
+        Action::Submit(Step::Ask(place)) => reader.take(alloc, bytes, place),
+        _ => unreachable!(),
     }
 }
 

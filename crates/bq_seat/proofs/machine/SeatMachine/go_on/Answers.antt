@@ -8,6 +8,3 @@ returns-then-self c =
 pub returns-then-is_empty : goal.returns-then-is_empty
 returns-then-is_empty c = going.goes_reading c.args.self.now _ _ c.if-self.false (rw c.is_empty.ensures at c.if-is_empty.true)
     c.read.ensures.action c.read.ensures.after
-
-pub returns-in-Some : goal.returns-in-Some
-returns-in-Some c = search (going.goes_asking c.args.self.now c.args.self.now.kept)

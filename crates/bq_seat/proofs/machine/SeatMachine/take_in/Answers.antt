@@ -1,11 +1,19 @@
-use Rattle.std.proofs.Common.{refl}
+use Rattle.bq_seat.specs.SeatParts.{request_of}
 use Rattle.bq_seat.proofs.GoingLemmas as going
 use Rattle.bq_seat.proofs.machine.SeatMachine.take_in.Goals as goal
 
 pub returns-then-self : goal.returns-then-self
 returns-then-self c = search going.goes_told
 
-pub returns-in-Some : goal.returns-in-Some
-returns-in-Some c = going.goes_asking c.args.self.now c.args.bytes.now _ _ _ _ _ _ _ _ c.if-self.false
-    (rw c.take-taken.ensures.limit refl) refl c.replace_by_rest.ensures c.in-Some.is c.take-taken.ensures.hands_out
-    c.ask.ensures.action c.ask.ensures.after
+pub returns : goal.returns
+returns c =
+    let t = c.take_to-taken.ensures in
+    going.goes_taken c.args.self.now _ c.args.bytes.now c.take_to-taken.new.reader c.take_to-taken.result _
+    (request_of c.take_to-taken.new.next) _ c.if-self.false c.replace_by_rest.ensures (record {
+      within = t.within;
+      waits = t.waits;
+      hands_out = t.hands_out;
+      missing = t.missing;
+      limit = t.limit;
+    })
+    (c.ask_or_read.ensures (request_of c.take_to-taken.new.next) t.asks)
