@@ -39,3 +39,7 @@ given_first old new held left buf n m h count same given left_is end =
           let none : held ≡ [] = nothing_left held n m count zero (rw (sym same) some) in
           at_end left new (left_is ∙ ap (λ k. drop k held) zero ∙ none) (end none),
     )
+
+-- as many bytes as both have
+pub some_of_both : (a b n : ℕ) → n ≡ min a b → 0 < a → 0 < b → n ≡ 0 → ⊥
+some_of_both a b n is some more none = omega (arith, is, some, more, none)

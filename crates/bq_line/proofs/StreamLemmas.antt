@@ -154,7 +154,19 @@ prepend_kept came None new kept = tt
 prepend_kept came (Some xs) None kept = absurd kept
 prepend_kept came (Some xs) (Some ys) kept = ap (λ l. came ++ l) kept
 
--- The line recorded a write of some bytes, the first of which are `begun`.
+-- A connection over a stream is over it through a buffer without bytes too.
+pub over_buffered : (first : StreamSeen) (line : LineSeen) (left held : Option (List ℕ)) (may_fail : Bool) (came : List ℕ) → came ≡ []
+    → LiesOver first line (record { left = left; held = held; may_fail = may_fail })
+    → LiesOver first line (record { left = prepend_known came left; held = held; may_fail = may_fail })
+over_buffered first line left held may_fail came none over =
+    subst (λ l. LiesOver first line (record { left = l; held = held; may_fail = may_fail }))
+    (sym (ap (λ (c : List ℕ). prepend_known c left) none ∙ prepend_none left)) over
+  where
+    prepend_none : (left : Option (List ℕ)) → prepend_known [] left ≡ left
+    prepend_none None = refl
+    prepend_none (Some bytes) = refl
+
+-- The connection recorded a write of some bytes, the first of which are `begun`.
 pub wrote_noted : (first old new : StreamSeen) (line later : LineSeen) (result : Result ℕ StreamError) (begun buf : List ℕ)
     → Keeps old.left new.left → WriteAppends old.held new.held result buf → 0 < length begun → new.may_fail ≡ old.may_fail
     → FailsToWriteIf old.may_fail result begun → later ≡ after_write result buf line → LiesOver first line old → LiesOver first later new

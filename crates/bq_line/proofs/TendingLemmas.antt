@@ -1,5 +1,6 @@
 -- A seat and its door continue with each thing that the seat does.
-use Rattle.std.proofs.Common.{ℕ, ◌≡◌, Bool, true, false, List, [], ◌∷◌, ◌++◌, refl, sym, ap, ◌∙◌, subst, append-nil, append_assoc, inl, inr}
+use Rattle.std.proofs.Common.{ℕ, ◌≡◌, ◌+◌, ◌≤◌, Bool, true, false, List, [], ◌∷◌, ◌++◌, length}
+use Rattle.std.proofs.Common.{refl, sym, ap, ◌∙◌, arith, subst, append-nil, append_assoc, length-append, inl, inr}
 use Rattle.bq_job.specs.declared.answer.Answer.{Answer}
 use Rattle.bq_job.specs.declared.line_end.LineEnd.{LineEnd}
 use Rattle.bq_job.specs.declared.step.Step.{Step}
@@ -18,12 +19,13 @@ use Rattle.bq_line.specs.Carried.{CarriedPart, CarriesOn, HasGone}
 use Rattle.bq_line.specs.declared.attendant.Progress.{Progress}
 use Rattle.bq_line.specs.LineCalls.{new_line}
 use Rattle.bq_line.specs.Links.{Calls}
-use Rattle.bq_line.specs.Tending.{DoorSeen, GoesOn, IsNewDoor, IsNewSeat, IsTended, Tends, attendant}
+use Rattle.bq_line.specs.Tending.{DoorSeen, GoesOn, IsCounted, IsNewDoor, IsNewSeat, IsTended, Tends, attendant, ended_lines, over_by}
 use Rattle.bq_line.specs.declared.attendant.Attendant.{Attendant}
 use Rattle.bq_line.specs.declared.attendant.LinePlace.{LinePlace}
 use Rattle.bq_line.specs.declared.attendant.LinePlace.TheVariants as places
 use Rattle.bq_job.proofs.JoinLemmas.{lines_more}
 use Rattle.bq_line.proofs.CarriedLemmas.{gone, none_begun}
+use Rattle.bq_line.proofs.CountedLemmas.{carried_counted}
 use Rattle.bq_line.proofs.SeatLemmas.{carried_on, line_served, opened_on}
 
 -- nothing more was submitted and taken
@@ -33,8 +35,15 @@ none_more seen size a door before got h =
     subst (λ (xs : List Step). IsTended seen size a door xs (got ++ [])) (sym (append-nil before))
     (subst (λ (ys : List Answer). IsTended seen size a door before ys) (sym (append-nil got)) h)
 
+-- The same with the seat's connections counted: it took nothing.
+none_taken : {L : Type 0} (seen : L → LineSeen) (size : ℕ) (old new : Attendant L) (door next : DoorSeen) (before : List Step)
+    (got : List Answer) → ended_lines old door ≤ ended_lines new next → IsTended seen size new next before got
+    → IsTended seen size new next (before ++ []) (got ++ []) × IsCounted old door [] new next
+none_taken seen size old new door next before got grows h =
+    (none_more seen size new next before got h, record { grows = grows; unclosed = λ p. refl })
+
 pub tends_still : {L : Type 0} (seen : L → LineSeen) (a : Attendant L) (door : DoorSeen) → Tends seen a door [] [] a door
-tends_still seen a door size before got h = none_more seen size a door before got h
+tends_still seen a door size before got h = none_taken seen size a a door door before got (omega arith) h
 
 -- Its door changed in nothing that it records.
 pub tends_beside : {L : Type 0} (seen : L → LineSeen) (a : Attendant L) (door next : DoorSeen) → next.is_out ≡ door.is_out
@@ -54,7 +63,8 @@ pub tends_opened : {L : Type 0} (seen : L → LineSeen) (old new : SeatMachine) 
 tends_opened seen old new line action door next move over out more fresh size before got t =
     let a = t.attends in
     let at = a.at_place in
-    none_more seen size (attendant new (places.On line action 0)) next before got (record {
+    none_taken seen size (attendant old places.Between) (attendant new (places.On line action 0)) door next before got
+    (let e = ap length over in omega arith) (record {
       attends = record {
         before = a.before;
         now = [];
@@ -75,7 +85,8 @@ pub tends_at_end : {L : Type 0} (seen : L → LineSeen) (machine : SeatMachine) 
 tends_at_end seen machine door next over inside ended size before got t =
     let a = t.attends in
     let at = a.at_place in
-    none_more seen size (attendant machine places.Leaving) next before got (record {
+    none_taken seen size (attendant machine places.Between) (attendant machine places.Leaving) door next before got
+    (let e = ap length over in omega arith) (record {
       attends = record {
         before = a.before;
         now = a.now;
@@ -100,7 +111,8 @@ tends_shut seen machine line end sent door next left inside still size before go
     let on : IsOnLine size machine (seen line) (actions.LineOver end) a.now a.getting =
     subst (λ (x : LineSeen). IsOnLine size machine x (actions.LineOver end) a.now a.getting) (sym a.at_place.1) a.at_place.2 in
     let waits : awaited machine ≡ Awaited.ALine = let e = on.awaits in cc in
-    none_more seen size (attendant machine places.Between) next before got (record {
+    none_taken seen size (attendant machine (places.On line (actions.LineOver end) sent)) (attendant machine places.Between) door next
+    before got (let e = ap length left ∙ length-append door.lines_over (over ∷ []) in omega arith) (record {
       attends = record {
         before = a.before ++ a.now;
         now = [];
@@ -125,19 +137,22 @@ tends_carried result seen old new line later action next sent now submitted take
     let a = t.attends in
     let at = a.at_place in
     let c = carries at.0 at.1 in
-    record {
-      attends = record {
-        before = a.before;
-        now = a.now ++ submitted;
-        got = a.got;
-        getting = a.getting ++ taken;
-        of_lines = a.of_lines;
-        at_place = (c.0, c.1, carried_on result size old new at.0 c.0 action next a.now submitted a.getting taken c.2 at.2);
-        submitted_is = ap (λ (xs : List Step). xs ++ submitted) a.submitted_is ∙ append_assoc a.before a.now submitted;
-        taken_is = ap (λ (xs : List Answer). xs ++ taken) a.taken_is ∙ append_assoc a.got a.getting taken;
-      };
-      placed = t.placed;
-    }
+    let counted = carried_counted result size old new at.0 c.0 action next a.now submitted a.getting taken c.2 at.2 in (
+      record {
+        attends = record {
+          before = a.before;
+          now = a.now ++ submitted;
+          got = a.got;
+          getting = a.getting ++ taken;
+          of_lines = a.of_lines;
+          at_place = (c.0, c.1, carried_on result size old new at.0 c.0 action next a.now submitted a.getting taken c.2 at.2);
+          submitted_is = ap (λ (xs : List Step). xs ++ submitted) a.submitted_is ∙ append_assoc a.before a.now submitted;
+          taken_is = ap (λ (xs : List Answer). xs ++ taken) a.taken_is ∙ append_assoc a.got a.getting taken;
+        };
+        placed = t.placed;
+      },
+      record { grows = let e : over_by action ≤ over_by next = counted.0 in omega arith; unclosed = counted.1 },
+    )
 
 -- the same with the link's calls
 pub tends_acted : {K L : Type 0} (went : K → List Step → List Answer → K → Type 0) (result : Progress) (first last : K)
@@ -193,7 +208,8 @@ pub tends_told : {L : Type 0} (seen : L → LineSeen) (machine : SeatMachine) (l
 tends_told seen machine line later action sent door same size before got t =
     let a = t.attends in
     let at = a.at_place in
-    none_more seen size (attendant machine (places.On later action sent)) door before got (record {
+    none_taken seen size (attendant machine (places.On line action sent)) (attendant machine (places.On later action sent)) door door
+    before got (omega arith) (record {
       attends = record {
         before = a.before;
         now = a.now;

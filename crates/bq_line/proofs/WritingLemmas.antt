@@ -1,5 +1,5 @@
 -- Texts that are written in several parts.
-use Rattle.std.proofs.Common.{◌≡◌, ℕ, ◌+◌, ◌-◌, ◌≤◌, Bool, true, false, nat_lt, List, [], ◌++◌, append-nil}
+use Rattle.std.proofs.Common.{◌≡◌, ℕ, ◌+◌, ◌-◌, ◌≤◌, Bool, true, false, nat_lt, List, [], ◌∷◌, ◌++◌, append-nil}
 use Rattle.std.proofs.Common.{refl, sym, ap, subst, ◌∙◌, arith, length, take, take_all, drop, take-add, append_assoc, if◌then◌else◌}
 use Rattle.std.proofs.Common.{◌==◌, Result, Ok, Err}
 use Rattle.std.specs.Io.{WritesAtMost}
@@ -108,3 +108,9 @@ left_of_two n xs ys = by (nat_lt n (length xs)) refl
         let parts : n ≡ length xs + (n - length xs) = omega (arith, beyond) in
         ap (λ m. drop m (xs ++ ys)) parts ∙ drop-append-add xs ys (n - length xs)
         ∙ ap (λ l. l ++ drop (n - length xs) ys) (sym (drop_all n xs beyond))
+
+-- two parts without bytes
+pub nothing_appended : (head body tail : List ℕ) → (length body == 0) ≡ true → (length tail == 0) ≡ true → head ≡ head ++ body ++ tail
+nothing_appended head [] [] none nothing = sym (append-nil (head ++ []) ∙ append-nil head)
+nothing_appended head [] (b ∷ tail) none nothing = absurd (grind (arith, nat_tests))
+nothing_appended head (b ∷ body) tail none nothing = absurd (grind (arith, nat_tests))

@@ -23,7 +23,13 @@ IsLookedFor seen is_out is_at_end (Ok openings.Later) = (is_out ≡ false) × (i
 IsLookedFor seen is_out is_at_end (Ok openings.NoMore) = (is_out ≡ false) × (is_at_end ≡ true)
 IsLookedFor seen is_out is_at_end (Err e) = (is_out ≡ false) × (is_at_end ≡ true)
 
--- If a line was opened, this holds of it.
+-- If a connection was opened, this holds of it.
+abbrev pub IfOpened : {L E : Type 0} → Result (Option L) E → (L → Type 0) → Type 0
+IfOpened (Ok (Some line)) P = P line
+IfOpened (Ok None) P = Unit {0}
+IfOpened (Err e) P = Unit {0}
+
+-- The same without waiting.
 abbrev pub IfLine : {L E : Type 0} → Result (Opening L) E → (L → Type 0) → Type 0
 IfLine (Ok (openings.Line line)) P = P line
 IfLine (Ok openings.NotYet) P = Unit {0}

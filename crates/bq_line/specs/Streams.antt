@@ -1,5 +1,7 @@
--- The state of a stream in both directions, what a line over it moved, and why it may have failed.
-use Rattle.std.specs.Prelude.{ℕ, ◌≡◌, ◌<◌, Bool, false, true, List, length, Option, None, Some, Result, Ok, Err, IfSome, IsSome}
+-- The state of a stream in both directions, what a connection over it moved, and why it may have
+-- failed.
+use Rattle.std.specs.Prelude.{ℕ, ◌≡◌, ◌<◌, Bool, false, true, List, length, Option, None, Some, Result, Ok, Err, IfSome}
+use Rattle.std.proofs.Common.{◌∙◌, sym, true≢false}
 use Rattle.std.specs.Io.{ReadsAtMost, WritesAtMost}
 use Rattle.std.specs.Io.KnownBytes.{Appends, Consumes, Keeps, ReadConsumes, WriteAppends}
 use Rattle.bq_job.specs.promise.LineSteps.{LineSeen}
@@ -12,6 +14,10 @@ pub record StreamSeen : Type 0 where
   pub left : Option (List ℕ)
   pub held : Option (List ℕ)
   pub may_fail : Bool
+
+-- A stream that may fail is none that may not.
+pub not_both : {A : Type 0} (may_fail : Bool) → may_fail ≡ true → may_fail ≡ false → A
+not_both may_fail is never = absurd (true≢false (sym is ∙ never))
 
 -- An error is a fault only if the stream may fail.
 abbrev pub HasCause : Bool → StreamError → Type 0
@@ -43,17 +49,6 @@ WritesTo held later result buf = WritesAtMost result buf × WriteAppends held la
 abbrev pub KeepsWaits : {S : Type 0} → (Bool → S → Bool) → S → S → Type 0
 KeepsWaits is_nonblocking old new = (nonblocking : Bool) → is_nonblocking nonblocking new ≡ is_nonblocking nonblocking old
 
--- A stream that is watched, whose readiness is known, stays watched, and whether its calls wait is as
--- before.
-abbrev pub StaysWatched : {S A : Type 0} → (Bool → S → Bool) → Option A → S → Option A → S → Type 0
-StaysWatched is_nonblocking None old now new = Unit {0}
-StaysWatched is_nonblocking (Some known) old None new = ⊥
-StaysWatched is_nonblocking (Some known) old (Some now) new = KeepsWaits is_nonblocking old new
-
--- A stream is watched, and was set not to wait.
-abbrev pub IsWatched : {S A : Type 0} → (Bool → S → Bool) → Option A → S → Type 0
-IsWatched is_nonblocking ready stream = IsSome ready × (is_nonblocking true stream ≡ true)
-
 -- No byte was read from the stream, and none was written to it.
 abbrev pub MovesNothing : {S : Type 0} → (S → Option (List ℕ)) → (S → Option (List ℕ)) → S → S → Type 0
 MovesNothing remaining contents old new = Keeps (remaining old) (remaining new) × Keeps (contents old) (contents new)
@@ -69,6 +64,10 @@ pub record LiesOver (first : StreamSeen) (line : LineSeen) (last : StreamSeen) :
   pub may_fail : last.may_fail ≡ first.may_fail
   pub fault : first.may_fail ≡ false → line.fault ≡ None
 
--- The line is still over the stream that it was over before.
+-- The connection is over a stream that may not fail.
+abbrev pub IsSureLine : {L : Type 0} → (StreamSeen → L → Type 0) → L → Type 0
+IsSureLine lies_over line = (first : StreamSeen) × lies_over first line × (first.may_fail ≡ false)
+
+-- The connection is still over the stream that it was over before.
 abbrev pub StaysOver : {L : Type 0} → (StreamSeen → L → Type 0) → L → L → Type 0
 StaysOver {L} lies_over old new = (first : StreamSeen) → lies_over first old → lies_over first new

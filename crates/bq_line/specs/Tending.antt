@@ -1,22 +1,25 @@
 -- A seat that attends to a door, and what it does at each of its turns.
-use Rattle.std.specs.Prelude.{ℕ, ◌≡◌, ◌⊎◌, Bool, true, false, List, [], ◌∷◌, ◌++◌}
+use Rattle.std.specs.Prelude.{ℕ, ◌≡◌, ◌⊎◌, Bool, true, false, List, [], ◌∷◌, ◌++◌, None, ◌≤◌, ◌+◌, length}
+use Rattle.std.specs.List.{All}
 use Rattle.bq_job.specs.declared.answer.Answer.{Answer}
 use Rattle.bq_job.specs.declared.step.Step.{Step}
 use Rattle.bq_job.specs.promise.History.{LineOver}
 use Rattle.bq_job.specs.promise.LineSteps.{LineSeen}
 use Rattle.bq_job.specs.beside.SeatDid.{IsSeatDone}
+use Rattle.bq_job.specs.machine.OneClient.{has_closed}
 use Rattle.bq_seat.specs.Past.{Awaited}
 use Rattle.bq_seat.specs.SeatStands.{awaited}
 use Rattle.bq_seat.specs.declared.machine.SeatMachine.{SeatMachine}
 use Rattle.bq_line.specs.Attending.{IsAttending}
 use Rattle.bq_line.specs.Carried.{CanEnd}
 use Rattle.bq_line.specs.Links.{Calls}
-use Rattle.bq_line.specs.Streams.{StaysOver, StreamSeen}
+use Rattle.bq_line.specs.Streams.{IsSureLine, StaysOver, StreamSeen}
 use Rattle.bq_line.specs.declared.attendant.Attendant.{Attendant}
 use Rattle.bq_line.specs.declared.attendant.LinePlace.{LinePlace}
 use Rattle.bq_line.specs.declared.attendant.LinePlace.TheVariants as places
 use Rattle.bq_line.specs.declared.attendant.Progress.{Progress}
 use Rattle.bq_line.specs.declared.attendant.Progress.TheVariants as results
+use Rattle.bq_seat.specs.declared.machine.Action.{Action}
 use Rattle.bq_seat.specs.declared.machine.Action.TheVariants as actions
 
 abbrev pub attendant : {L : Type 0} → SeatMachine → LinePlace L → Attendant L
@@ -52,11 +55,41 @@ pub record IsTended {L : Type 0} (seen : L → LineSeen) (max_job_size : ℕ) (a
   pub attends : IsAttending seen max_job_size a.machine a.place door.lines_over submitted taken
   pub placed : IsPlaced a.place door
 
+-- one if the action ends the connection, which was closed then
+abbrev pub over_by : Action → ℕ
+over_by (actions.LineOver end) = 1
+over_by _ = 0
+
+abbrev pub polls_by : Action → Bool
+polls_by actions.PollMail = true
+polls_by _ = false
+
+-- one if the seat's connection has ended, but was not shut yet
+abbrev pub over_now : {L : Type 0} → LinePlace L → ℕ
+over_now (places.On line action sent) = over_by action
+over_now _ = 0
+
+-- whether the seat checks its mail next
+abbrev pub is_polling : {L : Type 0} → LinePlace L → Bool
+is_polling (places.On line action sent) = polls_by action
+is_polling _ = false
+
+-- how many connections have ended at a seat
+abbrev pub ended_lines : {L : Type 0} → Attendant L → DoorSeen → ℕ
+ended_lines a door = length door.lines_over + over_now a.place
+
+-- No connection that has ended is forgotten. If the seat checks its mail next, it took no `Closed`
+-- now: the first one after a close ends the connection, and an earlier one would be written.
+pub record IsCounted {L : Type 0} (old : Attendant L) (at_old : DoorSeen) (taken : List Answer) (new : Attendant L)
+    (at_new : DoorSeen) : Type 0 where
+  pub grows : ended_lines old at_old ≤ ended_lines new at_new
+  pub unclosed : is_polling new.place ≡ true → has_closed taken ≡ false
+
 -- Whatever the seat did before, it continued with these steps and answers.
 abbrev pub Tends : {L : Type 0} → (L → LineSeen) → Attendant L → DoorSeen → List Step → List Answer → Attendant L → DoorSeen → Type 0
 Tends seen old at_old submitted taken new at_new =
     (max_job_size : ℕ) (before : List Step) (got : List Answer) → IsTended seen max_job_size old at_old before got
-    → IsTended seen max_job_size new at_new (before ++ submitted) (got ++ taken)
+    → IsTended seen max_job_size new at_new (before ++ submitted) (got ++ taken) × IsCounted old at_old taken new at_new
 
 -- A seat and its link continued.
 abbrev pub GoesOn : {K L : Type 0} → (K → List Step → List Answer → K → Type 0) → K → K → (L → LineSeen)
@@ -70,6 +103,23 @@ GoesOn went first last seen old at_old new at_new =
 abbrev pub StaysOpenOver : {L : Type 0} → (StreamSeen → L → Type 0) → LinePlace L → LinePlace L → Type 0
 StaysOpenOver lies_over (places.On line action sent) (places.On later next now) = StaysOver lies_over line later
 StaysOpenOver lies_over _ _ = Unit {0}
+
+-- The connection that is open, if there is one, is over a stream that may not fail.
+abbrev pub IsSureAt : {L : Type 0} → (StreamSeen → L → Type 0) → LinePlace L → Type 0
+IsSureAt lies_over (places.On line action sent) = IsSureLine lies_over line
+IsSureAt lies_over _ = Unit {0}
+
+-- None of the connections that have ended met a fault, and the open one can't meet one.
+pub record AreSure {L : Type 0} (lies_over : StreamSeen → L → Type 0) (place : LinePlace L) (lines_over : List LineOver) : Type 0 where
+  pub ended : All (λ (line : LineOver). line.seen.fault ≡ None) lines_over
+  pub at_place : IsSureAt lies_over place
+
+-- If the streams of a door may not fail, and no connection of it met a fault so far, then none has met
+-- one yet.
+abbrev pub StaysSure : {L D : Type 0} → (StreamSeen → L → Type 0) → (D → List LineOver) → (D → Bool) → LinePlace L → D → LinePlace L → D
+    → Type 0
+StaysSure lies_over lines_over may_fail place door next later =
+    may_fail door ≡ false → AreSure lies_over place (lines_over door) → AreSure lies_over next (lines_over later)
 
 -- The results that an action of a seat at this place can have.
 abbrev pub MayEndAt : {L : Type 0} → Progress → LinePlace L → Type 0

@@ -7,7 +7,7 @@ ghost use Rattle.bq_seat.specs.Past.{Awaited};
 ghost use Rattle.bq_seat.specs.SeatStands.{awaited};
 ghost use Rattle.bq_seat.specs.declared.machine.SeatMachine.{SeatMachine};
 ghost use Rattle.bq_line.specs.Doors.{MayOpen};
-ghost use Rattle.bq_line.specs.Tending.{DoorSeen, GoesOn, IsPlaced, MayEndAt, StaysOpenOver, Tends, attendant, door_seen};
+ghost use Rattle.bq_line.specs.Tending.{DoorSeen, GoesOn, IsPlaced, MayEndAt, StaysOpenOver, StaysSure, Tends, attendant, door_seen};
 ghost use Rattle.bq_job.specs.declared.answer.Answer.{Answer};
 ghost use Rattle.bq_job.specs.declared.step.Step.{Step};
 ghost use Rattle.bq_job.specs.promise.LineSteps.{LineSeen};
@@ -16,8 +16,8 @@ ghost use Rattle.bq_line.specs.Carried.{Carried, CarriedPart, HasGone};
 ghost use Rattle.bq_line.specs.Links.{Calls, SubmitsInPlace, TakesInPlace};
 
 use crate::buffers::{Buffers, Wrote, read, write_answer};
-use crate::door::{Door, Opening, Watcher};
-use crate::line::{Line, ReadBuffer, Readiness};
+use crate::door::{Door, Opening};
+use crate::line::{Line, ReadBuffer, Readiness, Watcher};
 use bq_job::{LARGEST_BODY, LineEnd, NoMemory, Step};
 use bq_seat::{Action, Event, SeatMachine};
 use std::alloc::Global;
@@ -249,7 +249,8 @@ impl<L: Line + Drop> Attendant<L> {
         ensures went { let at = door_seen D.is_out D.is_at_end D.lines_over in
             Tends L.seen self.old (at door.old) [] [] self.new (at door.new) }
         ensures same { (first : D) → D.same first door.old → D.same first door.new }
-        // Without a line it is still between two lines.
+        ensures sure { StaysSure L.lies_over D.lines_over D.may_fail self.old.place door.old self.new.place door.new }
+        // Without a connection it is still between two connections.
         ensures none { (result ≡ Looked.NotYet) ⊎ (result ≡ Looked.Later) → self.new.place ≡ LinePlace.Between }
     {
         match door.look(may_have_come, watcher) {
@@ -293,6 +294,8 @@ impl<L: Line + Drop> Attendant<L> {
         ensures went { let at = door_seen D.is_out D.is_at_end D.lines_over in
             GoesOn K.went link.old link.new L.seen self.old (at door.old) self.new (at door.new) }
         ensures stays { StaysOpenOver L.lies_over self.old.place self.new.place }
+        // No connection of a door whose streams may not fail meets a fault.
+        ensures sure { StaysSure L.lies_over D.lines_over D.may_fail self.old.place door.old self.new.place door.new }
         // The door is still the same.
         ensures same { (first : D) → D.same first door.old → D.same first door.new }
     {
@@ -329,6 +332,7 @@ fn open_in_place<L: Line + Drop, D: Door<Line = L>>(
     ensures opened { place.new ≡ LinePlace.Between → ⊥ }
     ensures went { let at = door_seen D.is_out D.is_at_end D.lines_over in
         Tends L.seen (attendant machine.old LinePlace.Between) (at door.old) [] [] (attendant machine.new place.new) (at door.new) }
+    ensures sure { StaysSure L.lies_over D.lines_over D.may_fail LinePlace.Between door.old place.new door.new }
     ensures same { (first : D) → D.same first door.old → D.same first door.new }
 {
     *place = open_line(alloc, machine, door);
@@ -344,6 +348,7 @@ fn open_line<L: Line + Drop, D: Door<Line = L>>(
     ensures opened { result ≡ LinePlace.Between → ⊥ }
     ensures went { let at = door_seen D.is_out D.is_at_end D.lines_over in
         Tends L.seen (attendant machine.old LinePlace.Between) (at door.old) [] [] (attendant machine.new result) (at door.new) }
+    ensures sure { StaysSure L.lies_over D.lines_over D.may_fail LinePlace.Between door.old result door.new }
     ensures same { (first : D) → D.same first door.old → D.same first door.new }
 {
     match door.open() {
@@ -366,6 +371,7 @@ fn shut_line<L: Line + Drop, D: Door<Line = L>>(
     ensures shut { place.new ≡ LinePlace.Between }
     ensures went { let at = door_seen D.is_out D.is_at_end D.lines_over in
         (machine : SeatMachine) → Tends L.seen (attendant machine place.old) (at door.old) [] [] (attendant machine place.new) (at door.new) }
+    ensures sure { StaysSure L.lies_over D.lines_over D.may_fail place.old door.old place.new door.new }
     ensures same { (first : D) → D.same first door.old → D.same first door.new }
 {
     if let LinePlace::On(line, _, _) = mem::replace(place, LinePlace::Between) {
@@ -379,6 +385,7 @@ fn leave<L: Line + Drop, K: Link>(place: &mut LinePlace<L>, link: &mut K) -> Pro
     requires ready { K.is_ready link.old }
     ensures ready { K.is_ready link.new }
     ensures progress { MayEndAt result place.old }
+    ensures left { (place.new ≡ LinePlace.Leaving) ⊎ (place.new ≡ LinePlace.Done) }
     ensures still { (result ≡ Progress.Moved → ⊥) → K.went link.old [] [] link.new }
     ensures went { (machine : SeatMachine) (door : DoorSeen)
         → GoesOn K.went link.old link.new L.seen (attendant machine place.old) door (attendant machine place.new) door }

@@ -7,13 +7,14 @@ ghost use Rattle.bq_job.specs.texts.AnswerText.{answer_text};
 ghost use Rattle.bq_line.specs.LineCalls.{after_fill, after_read, after_write, is_nothing_yet};
 ghost use Rattle.bq_line.specs.Streams.{StaysOver};
 ghost use Rattle.bq_line.specs.Carried.{Carried, ReadsLine};
+ghost use Rattle.bq_seat.specs.Pieces.{missing_in};
 ghost use Rattle.bq_line.specs.Writing.{Resumes, WritesOn, with_written};
 
 use crate::attendant::Progress;
 use crate::line::{Line, StreamError};
 use bq_job::Answer;
 use bq_seat::{Action, PIECE_ROOM, SeatMachine};
-use bq_wire::{HeadBuf, answer_body, answer_head, answer_tail, push_bytes};
+use bq_wire::{HeadBuf, answer_body, answer_head, answer_tail};
 use std::alloc::Global;
 
 /// The buffers of a seat. They are made once per run, since new ones would be filled with zeros
@@ -119,9 +120,9 @@ fn write_text<L: Line>(
 
 // Returns true if the head's buffer has room for the other parts.
 fn have_room(head: &HeadBuf, body: &[u8], tail: &[u8]) -> bool
-    ensures { result ≡ true → length head.now.items + length body.now + length tail.now ≤ 256 }
+    ensures { result ≡ true → length head.now + length body.now + length tail.now ≤ 256 }
 {
-    let left = head.remaining_capacity();
+    let left = head.left();
     body.len() <= left && tail.len() <= left - body.len()
 }
 
@@ -133,13 +134,25 @@ fn write_behind<L: Line>(
     tail: &[u8],
     sent: &mut usize,
 ) -> Wrote
-    requires { length head.old.items + length body.now + length tail.now ≤ 256 }
-    ensures text { Resumes (head.old.items ++ body.now ++ tail.now) sent.old (L.seen line.old) result sent.new (L.seen line.new) }
+    requires { length head.old + length body.now + length tail.now ≤ 256 }
+    ensures text { Resumes (head.old ++ body.now ++ tail.now) sent.old (L.seen line.old) result sent.new (L.seen line.new) }
     ensures stays { StaysOver L.lies_over line.old line.new }
 {
-    push_bytes(head, body);
-    push_bytes(head, tail);
+    append(head, body, tail);
     write_rest(line, head.as_slice(), sent)
+}
+
+// Appends both parts to the head. Most answers have neither.
+#[tactic(auto, using(crate::proofs::WritingLemmas::nothing_appended))]
+fn append(head: &mut HeadBuf, body: &[u8], tail: &[u8])
+    requires { length head.old + length body.now + length tail.now ≤ 256 }
+    ensures { head.new ≡ head.old ++ body.now ++ tail.now }
+{
+    if body.is_empty() && tail.is_empty() {
+        return;
+    }
+    head.push(body);
+    head.push(tail);
 }
 
 // Most other texts are joined in the room. A longer one is written from where its parts are, since
@@ -404,13 +417,47 @@ fn hand_on<L: Line>(
     requires { length piece.old ≡ PIECE_ROOM }
     ensures { ReadsLine L.seen L.lies_over result machine.old line.old machine.new line.new next.new }
 {
-    let count = line.unread().len().min(PIECE_ROOM);
+    let came = line.unread().len();
+    if came > PIECE_ROOM && machine.missing() > PIECE_ROOM {
+        return hand_on_body(alloc, machine, next, line);
+    }
+    let count = came.min(PIECE_ROOM);
     if count == 0 {
         return read_piece(alloc, machine, next, line, piece);
     }
     machine.bytes(alloc, &line.unread()[..count], next);
     line.take_unread(count);
     Progress::Moved
+}
+
+// Passes on as many bytes as the body lacks, or all that there are.
+#[inline(never)]
+fn hand_on_body<L: Line>(
+    alloc: Global,
+    machine: &mut SeatMachine,
+    next: &mut Action,
+    line: &mut L,
+) -> Progress
+    requires some { 0 < missing_in machine.old }
+    requires bytes { 0 < length (L.unread line.old) }
+    ensures { ReadsLine L.seen L.lies_over result machine.old line.old machine.new line.new next.new }
+{
+    let rest = body_at_hand(machine, line);
+    machine.body_bytes(alloc, &line.unread()[..rest], next);
+    line.take_unread(rest);
+    Progress::Moved
+}
+
+// Returns how many bytes of the body that is being read have come.
+#[tactic(auto, using(crate::proofs::BufferLemmas::some_of_both))]
+fn body_at_hand<L: Line>(machine: &SeatMachine, line: &L) -> usize
+    requires some { 0 < missing_in machine.now }
+    requires bytes { 0 < length (L.unread line.now) }
+    ensures some { result ≡ 0 → ⊥ }
+    ensures within { result ≤ length (L.unread line.now) }
+    ensures lacks { result ≤ missing_in machine.now }
+{
+    line.unread().len().min(machine.missing())
 }
 
 fn read_piece<L: Line>(

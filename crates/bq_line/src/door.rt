@@ -1,7 +1,8 @@
 //! Doors, at which clients connect one after another.
 ghost use Rattle.std.specs.Prelude.{◌≡◌, Bool, List, [], ◌∷◌, ◌++◌, true, false};
 ghost use Rattle.bq_job.specs.promise.History.{LineOver};
-ghost use Rattle.bq_line.specs.Doors.{IsLookedFor, IsOpened, MayOpen};
+ghost use Rattle.bq_line.specs.Doors.{IfLine, IfOpened, IsLookedFor, IsOpened, MayOpen};
+ghost use Rattle.bq_line.specs.Streams.{IsSureLine};
 
 pub use free_doors::FreeDoors;
 pub use listen::Listen;
@@ -10,7 +11,6 @@ pub use mem_door::MemDoor;
 pub use open_doors::OpenDoors;
 pub use refusals::Refusals;
 pub use turned_away::TurnedAway;
-pub use watcher::Watcher;
 
 mod accept;
 mod free_doors;
@@ -21,9 +21,8 @@ mod mem_door;
 mod open_doors;
 mod refusals;
 mod turned_away;
-mod watcher;
 
-use crate::line::{Line, ReadBuffer};
+use crate::line::{Line, ReadBuffer, Watcher};
 use bq_job::LineEnd;
 use std::net::TcpListener;
 use std::os::fd::RawFd;
@@ -77,11 +76,15 @@ pub trait Door {
     /// unchanged.
     ghost same: { Self → Self → Type 0 };
 
-    /// Waits for the next line and opens it. `None` means that no more lines come, and so does an
-    /// error.
+    /// True if the stream of a connection that it opens may fail.
+    ghost may_fail: { Self → Bool };
+
+    /// Waits for the next connection and opens it. `None` means that no more connections come, and
+    /// so does an error.
     fn open(&mut self) -> Result<Option<Self::Line>, DoorFault>
         requires more { MayOpen (is_out self.old) (is_at_end self.old) }
         ensures opened { IsOpened Self.Line.seen (is_out self.new) (is_at_end self.new) result }
+        ensures sure { may_fail self.old ≡ false → IfOpened result (IsSureLine Self.Line.lies_over) }
         ensures over { lines_over self.new ≡ lines_over self.old }
         ensures same { (first : Self) → same first self.old → same first self.new };
 
@@ -95,6 +98,7 @@ pub trait Door {
     ) -> Result<Opening<Self::Line>, DoorFault>
         requires more { MayOpen (is_out self.old) (is_at_end self.old) }
         ensures opened { IsLookedFor Self.Line.seen (is_out self.new) (is_at_end self.new) result }
+        ensures sure { may_fail self.old ≡ false → IfLine result (IsSureLine Self.Line.lies_over) }
         ensures over { lines_over self.new ≡ lines_over self.old }
         ensures same { (first : Self) → same first self.old → same first self.new };
 
@@ -131,4 +135,7 @@ pub trait Door {
 
     /// A door that did not change is the same door.
     ghost same_self: { (door : Self) → same door door };
+
+    /// A door opens connections over streams of the same kind for ever.
+    ghost same_streams: { (first last : Self) → same first last → may_fail last ≡ may_fail first };
 }

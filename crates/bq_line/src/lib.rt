@@ -9,8 +9,9 @@
 
 pub use door::{
     Door, DoorFault, FreeDoors, Listen, ListenDoor, MemDoor, OpenDoors, Opening, Refusals, TcpDoor,
-    TurnedAway, Watcher,
+    TurnedAway,
 };
+pub use line::Watcher;
 
 pub mod attendant;
 pub mod buffers;

@@ -1,17 +1,19 @@
-//! Lines of bytes, each to one client and back, and what is known of the stream of a line that
-//! never waits: whether a read or a write is worth a system call.
-ghost use Rattle.std.specs.Prelude.{◌≡◌, ◌≤◌, ◌<◌, ℕ, Bool, true, false, List, length, min, not, take, ◌++◌};
+//! Connections to clients (`Line`), and what is known of the stream of a connection that never
+//! waits: whether a read or a write is worth a system call.
+ghost use Rattle.std.specs.Prelude.{◌≡◌, ◌≤◌, ◌<◌, ℕ, Bool, true, false, List, None, length, min, not, take, ◌++◌};
 ghost use Rattle.std.specs.Io.{ReadsAtMost, WritesAtMost};
 ghost use Rattle.bq_job.specs.promise.LineSteps.{LineSeen};
 ghost use Rattle.bq_line.specs.LineCalls.{after_fill, after_flush, after_read, after_take, after_write, first_fault, found_nothing};
+ghost use Rattle.bq_line.specs.Ready.{both, found_all};
 ghost use Rattle.bq_line.specs.Streams.{StaysOver, StreamSeen};
 
-pub use connection::Connection;
+pub use connection::{Connection, NotWatched};
 pub use io_line::{BufferedLine, ByteRecord, IoLine};
 pub use mem_line::{MemLine, Part};
 pub use socket::Socket;
 pub use stream::{Duplex, READ_ROOM, ReadBuffer};
 pub use stream_error::{StreamError, in_brief};
+pub use watcher::Watcher;
 
 mod connection;
 mod io_line;
@@ -19,6 +21,7 @@ mod mem_line;
 mod socket;
 mod stream;
 mod stream_error;
+mod watcher;
 
 use bq_job::LineFault;
 
@@ -154,6 +157,10 @@ pub trait Line {
         ensures seen { seen self.new ≡ seen self.old }
         ensures stays { StaysOver lies_over self.old self.new }
     {}
+
+    /// A connection over a stream that may not fail has met no fault.
+    ghost no_fault: { (first : StreamSeen) (line : Self) → lies_over first line → first.may_fail ≡ false
+        → (seen line).fault ≡ None };
 }
 
 /// What a stream is ready for, as far as that is known.
@@ -176,10 +183,13 @@ impl Readiness {
         is_closing: false,
     };
 
-    /// Combines what is known with what was reported now.
-    pub fn and(self, more: Readiness) -> Readiness {
+    /// Combines what is known with what was reported now. Once the end of the input or urgent data
+    /// is reported, a read is worth a call.
+    pub fn and(self, more: Readiness) -> Readiness
+        ensures { result ≡ both self more }
+    {
         Readiness {
-            reads: self.reads || more.reads,
+            reads: self.reads || more.reads || more.is_closing,
             writes: self.writes || more.writes,
             is_closing: self.is_closing || more.is_closing,
         }
@@ -188,7 +198,10 @@ impl Readiness {
     /// Returns what is known after a read into a buffer of this many bytes. A read that leaves room
     /// took all bytes that there were. A read that was interrupted took nothing, and no event
     /// follows it, so it has to be repeated.
-    pub fn after_read(self, came: &Result<usize, StreamError>, room: usize) -> Readiness {
+    pub fn after_read(self, came: &Result<usize, StreamError>, room: usize) -> Readiness
+        ensures bytes { result.reads ≡ not (found_all self.is_closing came.now room) }
+        ensures rest { result ≡ record self { reads = result.reads } }
+    {
         let took_all = match came {
             Ok(count) => *count < room && !self.is_closing,
             Err(_) => found_nothing(came),

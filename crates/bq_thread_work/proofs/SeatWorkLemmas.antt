@@ -25,4 +25,4 @@ pub tended_on : {L : Type 0} (seen : L → LineSeen) (size : ℕ) (old new : Sea
 tended_on seen size old new a b door next h t =
     let c = calls_at old new h.0 h.1 h.2 in
     subst (λ (xs : List Step). IsTended seen size b next xs new.taken) c.0
-    (subst (λ (ys : List Answer). IsTended seen size b next (old.submitted ++ h.0) ys) c.1 (h.3 size old.submitted old.taken t))
+    (subst (λ (ys : List Answer). IsTended seen size b next (old.submitted ++ h.0) ys) c.1 (h.3 size old.submitted old.taken t).0)

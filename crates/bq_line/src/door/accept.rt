@@ -1,11 +1,11 @@
 //! Accepts the next connection of a listener.
 ghost use Rattle.std.specs.Prelude.{◌≡◌, IfOk, OnErr, true};
 ghost use Rattle.bq_line.specs.Accepts.{IfCame, ends_listener, is_listener_fault};
-ghost use Rattle.bq_line.specs.Streams.{IsWatched};
+ghost use Rattle.bq_line.specs.Ready.{IsWatched};
 
 use super::refusals::{Met, Refusals};
-use super::{Listen, TurnedAway, Watcher};
-use crate::line::{Connection, Socket};
+use super::{Listen, TurnedAway};
+use crate::line::{Connection, NotWatched, Socket, Watcher};
 use std::io::{Eprint, ErrorKind};
 use std::rt::Clock;
 use std::sync::{Wait, WaitMethods};
@@ -45,7 +45,8 @@ pub(super) fn accept<R: Wait + Clock + Eprint, T: Listen>(
     listener: &T,
     refusals: Option<&Refusals>,
 ) -> io::Result<Connection<T::Stream>>
-    ensures { OnErr result (T.may_fail listener.now ≡ true) }
+    ensures fault { OnErr result (T.may_fail listener.now ≡ true) }
+    ensures stream { IfOk result (λ c. T.Stream.may_fail c.stream ≡ T.streams_may_fail listener.now) }
 {
     let mut met = Met::none(refusals);
     for _ in rt.forever() {
@@ -95,17 +96,29 @@ pub(super) fn accept_now<R: Eprint, T: Listen, W: Watcher>(
     watcher: &W,
 ) -> io::Result<Accepted<T::Stream>>
     ensures fault { OnErr result (T.may_fail listener.now ≡ true) }
-    ensures watched { IfOk result (λ a. IfCame a (λ c. IsWatched T.Stream.is_nonblocking c.ready c.stream)) }
+    ensures stream { IfOk result (λ a. IfCame a (λ c. T.Stream.may_fail c.stream ≡ T.streams_may_fail listener.now)) }
+    ensures watched { IfOk result (λ a. IfCame a (λ c. IsWatched T.Stream.is_nonblocking T.Stream.reports_bytes T.Stream.reports_room
+        c.ready c.stream)) }
+    // A connection that the system refuses to watch is not opened.
+    ensures registered { IfOk result (λ a. IfCame a (λ c. W.watches watcher.now (T.Stream.descriptor c.stream) ≡ true)) }
 {
     let mut met = Met::before(refusals, *is_met);
     for _ in 0..PEERS {
         match listener.accept() {
-            Ok((stream, _peer)) => {
-                // It is none if the peer has disconnected.
-                if let Some(connection) = Connection::watched(stream) {
-                    return Ok(take_watched(rt, connection, watcher, met, is_met));
+            Ok((stream, _peer)) => match Connection::watched(stream, watcher) {
+                Ok(connection) => {
+                    met.end();
+                    *is_met = false;
+                    return Ok(Accepted::Came(connection));
                 }
-            }
+                Err(NotWatched::HasGone) => {}
+                // It is closed: it would never be read.
+                Err(NotWatched::Refused(e)) => {
+                    met.note(rt, &e);
+                    *is_met = true;
+                    return Ok(Accepted::Short);
+                }
+            },
             Err(e) => {
                 if e.kind() == ErrorKind::WouldBlock {
                     return Ok(Accepted::NoneYet);
@@ -128,32 +141,6 @@ pub(super) fn accept_now<R: Eprint, T: Listen, W: Watcher>(
     met.note(rt, &io::Error::from(ErrorKind::ConnectionAborted));
     *is_met = true;
     Ok(Accepted::Short)
-}
-
-// Returns the connection, which is watched from here on. One that can't be watched is closed: it
-// would never be read.
-fn take_watched<R: Eprint, S: Socket + Drop, W: Watcher>(
-    rt: &R,
-    connection: Connection<S>,
-    watcher: &W,
-    mut met: Met<'_>,
-    is_met: &mut bool,
-) -> Accepted<S>
-    requires watched { IsWatched S.is_nonblocking connection.ready connection.stream }
-    ensures watched { IfCame result (λ c. IsWatched S.is_nonblocking c.ready c.stream) }
-{
-    match watcher.watch(connection.source()) {
-        Ok(()) => {
-            met.end();
-            *is_met = false;
-            Accepted::Came(connection)
-        }
-        Err(e) => {
-            met.note(rt, &e);
-            *is_met = true;
-            Accepted::Short
-        }
-    }
 }
 
 /// Accepts the next connection of a listener that was set not to wait, and closes it. Clients that

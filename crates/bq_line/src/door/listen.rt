@@ -1,5 +1,5 @@
 //! What a door needs from a listener.
-ghost use Rattle.std.specs.Prelude.{◌≡◌, Bool, IfErr, OnOk, true};
+ghost use Rattle.std.specs.Prelude.{◌≡◌, Bool, IfErr, IfOk, OnOk, true};
 ghost use Rattle.bq_line.specs.Accepts.{ends_listener};
 
 use crate::line::Socket;
@@ -15,6 +15,9 @@ pub trait Listen {
     /// True if the listener may break.
     ghost may_fail: { Self → Bool };
 
+    /// True if the streams of its connections may fail.
+    ghost streams_may_fail: { Self → Bool };
+
     /// True if it was set not to wait for a connection. Only a successful switch establishes this.
     ghost is_nonblocking: { Self → Bool };
 
@@ -23,7 +26,8 @@ pub trait Listen {
     /// listener is broken and accepts no more (`ends_listener`). Only a listener that may break
     /// returns an error of the second kind.
     fn accept(&self) -> io::Result<(Self::Stream, SocketAddr)>
-        ensures { IfErr result (λ e. ends_listener e ≡ true → may_fail self.now ≡ true) };
+        ensures fault { IfErr result (λ e. ends_listener e ≡ true → may_fail self.now ≡ true) }
+        ensures stream { IfOk result (λ came. Self.Stream.may_fail came.0 ≡ streams_may_fail self.now) };
 
     /// Sets whether `accept` returns `WouldBlock` in place of waiting. A call that fails changes
     /// nothing.
@@ -42,6 +46,8 @@ impl Listen for TcpListener {
     type Stream = TcpStream;
 
     ghost may_fail = { λ listener. true };
+
+    ghost streams_may_fail = { λ listener. true };
 
     ghost is_nonblocking = { λ listener. true };
 

@@ -1,15 +1,16 @@
 ghost use Rattle.std.specs.Prelude.{◌≡◌, ◌↔◌, [], IfOk, IsNone, IsSome, OnErr, OnOk, Some, false, true};
-ghost use Rattle.bq_line.specs.Doors.{IfLine, IsLookedFor, IsNoMore, IsNoneFound, IsOpened, MayOpen};
+ghost use Rattle.bq_line.specs.Doors.{IfLine, IfOpened, IsLookedFor, IsNoMore, IsNoneFound, IsOpened, MayOpen};
 ghost use Rattle.bq_line.specs.InAll.{in_all};
-ghost use Rattle.bq_line.specs.Streams.{IsWatched};
+ghost use Rattle.bq_line.specs.Ready.{IsWatched};
+ghost use Rattle.bq_line.specs.Streams.{IsSureLine};
 
 use super::accept::{Accepted, accept, accept_now, close_next};
 use super::free_doors::FreeDoors;
 use super::line_record::LineRecord;
 use super::open_doors::OpenDoors;
 use super::refusals::Refusals;
-use super::{Door, DoorFault, Listen, Opening, TurnedAway, Watcher};
-use crate::line::{BufferedLine, Connection, Line, ReadBuffer, Socket};
+use super::{Door, DoorFault, Listen, Opening, TurnedAway};
+use crate::line::{BufferedLine, Connection, Line, ReadBuffer, Socket, Watcher};
 use bq_job::LineEnd;
 use std::io::Eprint;
 use std::mem;
@@ -232,12 +233,18 @@ impl<'l, R: Wait + Clock + Eprint, S: Socket + Drop + Send, T: Listen<Stream = S
     ghost same = { λ first last. (last.listener ≡ first.listener) ×
         (in_all last.left last.is_out last.over ≡ in_all first.left first.is_out first.over) };
 
+    ghost may_fail = { λ door. T.streams_may_fail door.listener.now };
+
     ghost same_self = { λ door. (refl, refl) };
+
+    ghost same_streams = { λ first last same i. T.streams_may_fail (same.0 i).now };
 
     fn open(&mut self) -> Result<Option<BufferedLine<Connection<S>>>, DoorFault>
         requires more { MayOpen self.old.is_out self.old.is_at_end }
         ensures opened { IsOpened ⟦<BufferedLine<Connection<S>> as Line>⟧.seen
             self.new.is_out self.new.is_at_end result }
+        ensures sure { T.streams_may_fail self.old.listener.now ≡ false
+            → IfOpened result (IsSureLine ⟦<BufferedLine<Connection<S>> as Line>⟧.lies_over) }
         ensures over { self.new.over ≡ self.old.over }
         ensures same { (first : _) → ⟦<ListenDoor<'l, R, T> as Door>⟧.same first self.old →
             ⟦<ListenDoor<'l, R, T> as Door>⟧.same first self.new }
@@ -278,11 +285,17 @@ impl<'l, R: Wait + Clock + Eprint, S: Socket + Drop + Send, T: Listen<Stream = S
         requires more { MayOpen self.old.is_out self.old.is_at_end }
         ensures opened { IsLookedFor ⟦<BufferedLine<Connection<S>> as Line>⟧.seen
             self.new.is_out self.new.is_at_end result }
+        ensures sure { T.streams_may_fail self.old.listener.now ≡ false
+            → IfLine result (IsSureLine ⟦<BufferedLine<Connection<S>> as Line>⟧.lies_over) }
         ensures over { self.new.over ≡ self.old.over }
         ensures same { (first : _) → ⟦<ListenDoor<'l, R, T> as Door>⟧.same first self.old →
             ⟦<ListenDoor<'l, R, T> as Door>⟧.same first self.new }
-        // No call on the line waits.
-        ensures watched { IfLine result (λ line. IsWatched S.is_nonblocking line.line.stream.ready line.line.stream.stream) }
+        // No call on the connection waits. Of each call that it leaves out, the system reports when
+        // to make it.
+        ensures watched { IfLine result (λ line. IsWatched S.is_nonblocking S.reports_bytes S.reports_room
+            line.line.stream.ready line.line.stream.stream) }
+        // A connection that the system refuses to watch is not opened.
+        ensures registered { IfLine result (λ line. W.watches watcher.now (S.descriptor line.line.stream.stream) ≡ true) }
         // Unless it is recorded that the listener was set not to wait, it is not asked. Only a
         // successful switch records it.
         ensures quiet { self.new.never_waits ≡ false → IsNoneFound result }

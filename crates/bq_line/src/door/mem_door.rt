@@ -3,11 +3,12 @@ ghost use Rattle.std.specs.Prelude.{◌↔◌, IfErr, IfOk, IsNone, false, true}
 ghost use Rattle.std.specs.List.{All};
 ghost use Rattle.std.specs.Option.{option_to_list};
 ghost use Rattle.std.specs.Vec.{vec_capacity};
-ghost use Rattle.bq_line.specs.Doors.{IsLookedFor, IsOpened, MayOpen};
+ghost use Rattle.bq_line.specs.Doors.{IfLine, IfOpened, IsLookedFor, IsOpened, MayOpen};
+ghost use Rattle.bq_line.specs.Streams.{IsSureLine};
 ghost use Rattle.bq_line.specs.MemDoors.{IsFresh, line_over};
 
-use super::{Door, DoorFault, Opening, Watcher};
-use crate::line::{Line, MemLine};
+use super::{Door, DoorFault, Opening};
+use crate::line::{Line, MemLine, Watcher};
 use bq_job::{LineEnd, NoMemory};
 use std::alloc::Global;
 use std::collections::VecDeque;
@@ -94,12 +95,18 @@ impl Door for MemDoor {
     // It is the door at which these connections were put in.
     ghost same = { λ first last. last.put_in.lines.value ≡ first.put_in.lines.value };
 
+    // A client in memory may fail.
+    ghost may_fail = { λ door. true };
+
     ghost same_self = { λ door. refl };
+
+    ghost same_streams = { λ first last same. refl };
 
     fn open(&mut self) -> Result<Option<MemLine>, DoorFault>
         requires more { MayOpen self.old.is_out self.old.is_at_end }
         ensures opened { IsOpened ⟦<MemLine as Line>⟧.seen
             self.new.is_out self.new.is_at_end result }
+        ensures sure { ⟦<MemDoor as Door>⟧.may_fail self.old ≡ false → IfOpened result (IsSureLine ⟦<MemLine as Line>⟧.lies_over) }
         ensures over { self.new.over ≡ self.old.over }
         ensures put_in { self.new.put_in ≡ self.old.put_in }
         // The next connection is opened; there is none only if none is left.
@@ -129,6 +136,7 @@ impl Door for MemDoor {
         requires more { MayOpen self.old.is_out self.old.is_at_end }
         ensures opened { IsLookedFor ⟦<MemLine as Line>⟧.seen
             self.new.is_out self.new.is_at_end result }
+        ensures sure { ⟦<MemDoor as Door>⟧.may_fail self.old ≡ false → IfLine result (IsSureLine ⟦<MemLine as Line>⟧.lies_over) }
         ensures over { self.new.over ≡ self.old.over }
         ensures put_in { self.new.put_in ≡ self.old.put_in }
     {

@@ -1,11 +1,22 @@
-//! A connection: a line's stream over a socket.
-ghost use Rattle.std.specs.Prelude.{◌≡◌, Bool, IfSome, IsSome, None, OnErr, OnOk, ◌++◌, false, not, true};
+//! A connection: the stream of a client over a socket, with what is known of its readiness.
+ghost use Rattle.std.specs.Prelude.{◌≡◌, Bool, IfOk, None, OnErr, OnOk, Some, ◌++◌, false, not, true};
 ghost use Rattle.std.specs.Io.KnownBytes.{Keeps};
-ghost use Rattle.bq_line.specs.Streams.{FailsIf, FailsToWriteIf, IsWatched, KeepsWaits, MovesNothing, ReadsFrom, StaysWatched, WritesTo};
+ghost use Rattle.std.specs.Option.{option_map};
+ghost use Rattle.bq_line.specs.Ready.{IsWatched, KeepsReports, StaysWatched, both};
+ghost use Rattle.bq_line.specs.Streams.{FailsIf, FailsToWriteIf, KeepsWaits, MovesNothing, ReadsFrom, WritesTo};
 
 use super::socket::{read_once, write_once, write_slices_once};
-use super::{Duplex, Readiness, Socket, StreamError, in_brief};
-use std::os::fd::RawFd;
+use super::{Duplex, Readiness, Socket, StreamError, Watcher, in_brief};
+use std::io;
+
+/// Why a stream is not watched.
+#[derive(Drop)]
+pub enum NotWatched {
+    /// It can't be set to send at once and not to wait, which happens if the peer has disconnected.
+    HasGone,
+    /// The system refuses to watch it.
+    Refused(io::Error),
+}
 
 /// A connection. Its reads and writes wait as long as it takes; `read_now` doesn't wait. Writes go
 /// out at once, except that the system may gather them while more is expected. The stream is
@@ -37,46 +48,47 @@ impl<S: Socket> Connection<S> {
         }
     }
 
-    /// Sets the stream to send each write at once and not to wait, and returns a connection over it
-    /// that is watched. The event loop records here what the stream is ready for. Returns `None` if
-    /// the stream can't be set so, which happens if the peer has disconnected.
-    pub fn watched(mut stream: S) -> Option<Connection<S>>
+    /// Sets the stream to send each write at once and not to wait, has the system watch it, and
+    /// returns a connection over it. The event loop records here what the stream is ready for. On
+    /// error the stream is dropped.
+    pub fn watched<W: Watcher>(mut stream: S, watcher: &W) -> Result<Connection<S>, NotWatched>
     where
         S: Drop,
-        // Only a successful switch makes a watched connection.
-        ensures watched { IfSome result (λ c. IsWatched S.is_nonblocking c.ready c.stream) }
-        ensures gathers { IfSome result (λ c. c.gathers ≡ false) }
-        ensures bytes { IfSome result (λ c. MovesNothing S.remaining S.contents stream c.stream) }
-        ensures same { IfSome result (λ c. S.may_fail c.stream ≡ S.may_fail stream) }
+        // Only a successful switch and a successful registration make a watched connection.
+        ensures watched { IfOk result (λ c. IsWatched S.is_nonblocking S.reports_bytes S.reports_room c.ready c.stream) }
+        ensures registered { IfOk result (λ c. W.watches watcher.now (S.descriptor c.stream) ≡ true) }
+        ensures gathers { IfOk result (λ c. c.gathers ≡ false) }
+        ensures bytes { IfOk result (λ c. MovesNothing S.remaining S.contents stream c.stream) }
+        ensures same { IfOk result (λ c. S.may_fail c.stream ≡ S.may_fail stream) }
     {
-        if stream.set_nodelay(true).is_err() {
-            return None;
-        }
-        match stream.set_nonblocking(true) {
-            Ok(()) => Some(Connection {
+        let Ok(()) = stream.set_nodelay(true) else {
+            return Err(NotWatched::HasGone);
+        };
+        let Ok(()) = stream.set_nonblocking(true) else {
+            return Err(NotWatched::HasGone);
+        };
+        match stream.watch(watcher) {
+            Ok(()) => Ok(Connection {
                 stream,
                 waits: false,
                 gathers: false,
                 ready: Some(Readiness::NEW),
             }),
-            Err(_) => None,
+            Err(e) => Err(NotWatched::Refused(e)),
         }
-    }
-
-    /// Returns the descriptor on which the system reports that the connection is ready.
-    pub fn source(&self) -> RawFd {
-        self.stream.source()
     }
 
     // Reads the stream once if it is ready.
     #[inline(always)]
+    #[tactic(auto, using(crate::proofs::ReadyLemmas::read_stays, crate::proofs::ReadyLemmas::stays_same))]
     fn read_ready(&mut self, buf: &mut [u8], ready: Readiness) -> Result<usize, StreamError>
+        requires known { self.old.ready ≡ Some ready }
         ensures bytes { ReadsFrom (S.remaining self.old.stream) (S.remaining self.new.stream) result buf.new }
         ensures apart { Keeps (S.contents self.old.stream) (S.contents self.new.stream) }
         ensures fault { FailsIf (S.may_fail self.old.stream) result }
         ensures same { S.may_fail self.new.stream ≡ S.may_fail self.old.stream }
-        ensures quiet { KeepsWaits S.is_nonblocking self.old.stream self.new.stream }
-        ensures watched { IsSome self.old.ready → IsSome self.new.ready }
+        ensures watched { StaysWatched S.is_nonblocking S.reports_bytes S.reports_room
+            self.old.ready self.old.stream self.new.ready self.new.stream }
     {
         if !ready.reads {
             return Err(StreamError::NotYet);
@@ -88,13 +100,15 @@ impl<S: Socket> Connection<S> {
 
     // Writes to the stream once if it is ready.
     #[inline(always)]
+    #[tactic(auto, using(crate::proofs::ReadyLemmas::write_stays, crate::proofs::ReadyLemmas::stays_same))]
     fn write_ready(&mut self, buf: &[u8], ready: Readiness) -> Result<usize, StreamError>
+        requires known { self.old.ready ≡ Some ready }
         ensures bytes { WritesTo (S.contents self.old.stream) (S.contents self.new.stream) result buf.now }
         ensures apart { Keeps (S.remaining self.old.stream) (S.remaining self.new.stream) }
         ensures fault { FailsToWriteIf (S.may_fail self.old.stream) result buf.now }
         ensures same { S.may_fail self.new.stream ≡ S.may_fail self.old.stream }
-        ensures quiet { KeepsWaits S.is_nonblocking self.old.stream self.new.stream }
-        ensures watched { IsSome self.old.ready → IsSome self.new.ready }
+        ensures watched { StaysWatched S.is_nonblocking S.reports_bytes S.reports_room
+            self.old.ready self.old.stream self.new.ready self.new.stream }
     {
         if !ready.writes {
             return Err(StreamError::NotYet);
@@ -104,6 +118,7 @@ impl<S: Socket> Connection<S> {
         took
     }
 
+    #[tactic(auto, using(crate::proofs::ReadyLemmas::write_stays, crate::proofs::ReadyLemmas::stays_same))]
     fn write_together_ready(
         &mut self,
         first: &[u8],
@@ -111,13 +126,14 @@ impl<S: Socket> Connection<S> {
         third: &[u8],
         ready: Readiness,
     ) -> Result<usize, StreamError>
+        requires known { self.old.ready ≡ Some ready }
         ensures bytes { WritesTo (S.contents self.old.stream) (S.contents self.new.stream)
             result (first.now ++ second.now ++ third.now) }
         ensures apart { Keeps (S.remaining self.old.stream) (S.remaining self.new.stream) }
         ensures fault { FailsToWriteIf (S.may_fail self.old.stream) result first.now }
         ensures same { S.may_fail self.new.stream ≡ S.may_fail self.old.stream }
-        ensures quiet { KeepsWaits S.is_nonblocking self.old.stream self.new.stream }
-        ensures watched { IsSome self.old.ready → IsSome self.new.ready }
+        ensures watched { StaysWatched S.is_nonblocking S.reports_bytes S.reports_room
+            self.old.ready self.old.stream self.new.ready self.new.stream }
     {
         if !ready.writes {
             return Err(StreamError::NotYet);
@@ -154,6 +170,7 @@ impl<S: Socket> Connection<S> {
         ensures bytes { MovesNothing S.remaining S.contents self.old.stream self.new.stream }
         ensures same { S.may_fail self.new.stream ≡ S.may_fail self.old.stream }
         ensures quiet { KeepsWaits S.is_nonblocking self.old.stream self.new.stream }
+        ensures reports { KeepsReports S.reports_bytes S.reports_room self.old.stream self.new.stream }
         ensures ready { self.new.ready ≡ self.old.ready }
     {
         if self.gathers != gathers {
@@ -186,7 +203,8 @@ impl<S: Socket> Duplex for Connection<S> {
         ensures waits { self.old.ready ≡ None → OnOk result (self.new.waits ≡ true) }
         ensures fault { FailsIf (S.may_fail self.old.stream) result }
         ensures same { S.may_fail self.new.stream ≡ S.may_fail self.old.stream }
-        ensures quiet { StaysWatched S.is_nonblocking self.old.ready self.old.stream self.new.ready self.new.stream }
+        ensures watched { StaysWatched S.is_nonblocking S.reports_bytes S.reports_room
+            self.old.ready self.old.stream self.new.ready self.new.stream }
     {
         if let Some(ready) = self.ready {
             return self.read_ready(buf, ready);
@@ -201,7 +219,8 @@ impl<S: Socket> Duplex for Connection<S> {
         ensures waits { self.old.ready ≡ None → OnOk result (self.new.waits ≡ false) }
         ensures fault { FailsIf (S.may_fail self.old.stream) result }
         ensures same { S.may_fail self.new.stream ≡ S.may_fail self.old.stream }
-        ensures quiet { StaysWatched S.is_nonblocking self.old.ready self.old.stream self.new.ready self.new.stream }
+        ensures watched { StaysWatched S.is_nonblocking S.reports_bytes S.reports_room
+            self.old.ready self.old.stream self.new.ready self.new.stream }
     {
         if let Some(ready) = self.ready {
             return self.read_ready(buf, ready);
@@ -216,7 +235,8 @@ impl<S: Socket> Duplex for Connection<S> {
         ensures waits { self.old.ready ≡ None → OnOk result (self.new.waits ≡ true) }
         ensures fault { FailsToWriteIf (S.may_fail self.old.stream) result buf.now }
         ensures same { S.may_fail self.new.stream ≡ S.may_fail self.old.stream }
-        ensures quiet { StaysWatched S.is_nonblocking self.old.ready self.old.stream self.new.ready self.new.stream }
+        ensures watched { StaysWatched S.is_nonblocking S.reports_bytes S.reports_room
+            self.old.ready self.old.stream self.new.ready self.new.stream }
     {
         if let Some(ready) = self.ready {
             return self.write_ready(buf, ready);
@@ -238,7 +258,8 @@ impl<S: Socket> Duplex for Connection<S> {
         ensures waits { self.old.ready ≡ None → OnOk result (self.new.waits ≡ true) }
         ensures fault { FailsToWriteIf (S.may_fail self.old.stream) result first.now }
         ensures same { S.may_fail self.new.stream ≡ S.may_fail self.old.stream }
-        ensures quiet { StaysWatched S.is_nonblocking self.old.ready self.old.stream self.new.ready self.new.stream }
+        ensures watched { StaysWatched S.is_nonblocking S.reports_bytes S.reports_room
+            self.old.ready self.old.stream self.new.ready self.new.stream }
     {
         if let Some(ready) = self.ready {
             return self.write_together_ready(first, second, third, ready);
@@ -256,7 +277,8 @@ impl<S: Socket> Duplex for Connection<S> {
         ensures bytes { Keeps (S.contents self.old.stream) (S.contents self.new.stream) }
         ensures apart { Keeps (S.remaining self.old.stream) (S.remaining self.new.stream) }
         ensures same { S.may_fail self.new.stream ≡ S.may_fail self.old.stream }
-        ensures quiet { StaysWatched S.is_nonblocking self.old.ready self.old.stream self.new.ready self.new.stream }
+        ensures watched { StaysWatched S.is_nonblocking S.reports_bytes S.reports_room
+            self.old.ready self.old.stream self.new.ready self.new.stream }
     {
         // A stream that can't be switched stays as it was, and is tried again at the next hint.
         let _switched = self.set_gathers(more);
@@ -277,10 +299,12 @@ impl<S: Socket> Duplex for Connection<S> {
     }
 
     fn note_ready(&mut self, ready: Readiness)
+        ensures noted { self.new.ready ≡ option_map (λ known. both known ready) self.old.ready }
         ensures bytes { Keeps (S.contents self.old.stream) (S.contents self.new.stream) }
         ensures apart { Keeps (S.remaining self.old.stream) (S.remaining self.new.stream) }
         ensures same { S.may_fail self.new.stream ≡ S.may_fail self.old.stream }
-        ensures quiet { StaysWatched S.is_nonblocking self.old.ready self.old.stream self.new.ready self.new.stream }
+        ensures watched { StaysWatched S.is_nonblocking S.reports_bytes S.reports_room
+            self.old.ready self.old.stream self.new.ready self.new.stream }
     {
         if let Some(known) = self.ready {
             self.ready = Some(known.and(ready));

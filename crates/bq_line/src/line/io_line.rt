@@ -233,6 +233,8 @@ impl<S: Duplex> Line for IoLine<S> {
     {
         self.stream.note_ready(ready);
     }
+
+    ghost no_fault = { λ first line over. over.fault };
 }
 
 /// A connection over a stream that is read through a buffer of the connection's own. Buffered bytes
@@ -245,12 +247,15 @@ pub struct BufferedLine<S> {
 }
 
 impl<S: Duplex> BufferedLine<S> {
-    /// Returns an unused line over this stream. The contents of the buffer are dropped.
+    /// Returns an unused connection over this stream. The contents of the buffer are dropped.
+    #[tactic(auto, using(crate::proofs::StreamLemmas::over_buffered))]
     pub fn new(stream: S, mut came: ReadBuffer) -> BufferedLine<S>
-        ensures { result ≡ record {
+        ensures new { result ≡ record {
           line = record { stream = stream; ended = false; fault = None; read = []; written = [] };
           came = [];
         } }
+        ensures over { ⟦<BufferedLine<S> as Line>⟧.lies_over
+            (record { left = S.remaining stream; held = S.contents stream; may_fail = S.may_fail stream }) result }
     {
         came.clear();
         BufferedLine {
@@ -374,6 +379,8 @@ impl<S: Duplex> Line for BufferedLine<S> {
     fn note_ready(&mut self, ready: Readiness) {
         self.line.note_ready(ready);
     }
+
+    ghost no_fault = { λ first line over. over.fault };
 }
 
 /// The bytes that went over a connection, for proofs: it takes no memory, and its methods do

@@ -122,6 +122,7 @@ impl MemLine {
 
 impl Line for MemLine {
     ghost use Rattle.std.specs.Prelude.{[], Some};
+    ghost use Rattle.bq_line.specs.Streams.{not_both};
     ghost use Rattle.bq_line.specs.LineParts.{all_bytes};
     ghost use Rattle.bq_line.specs.MemDoors.{KeepsPartsAndRoom};
 
@@ -217,6 +218,8 @@ impl Line for MemLine {
     {
         Ok(())
     }
+
+    ghost no_fault = { λ first line is never. not_both first.may_fail (λ i. (is i).may_fail) never };
 }
 
 // Returns true if a part is done, given how many of its bytes were read and how many bytes were

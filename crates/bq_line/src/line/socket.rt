@@ -1,16 +1,17 @@
 //! The socket of a connection, and the system's TCP stream as one.
-ghost use Rattle.std.specs.Prelude.{◌≡◌, ℕ, Bool, List, None, OnErr, OnOk, Option, ◌++◌, true};
+ghost use Rattle.std.specs.Prelude.{◌≡◌, ℕ, ℤ, Bool, List, None, OnErr, OnOk, Option, ◌++◌, length, true};
 ghost use Rattle.std.specs.Io.{ReadsAtMost, WritesAtMost};
 ghost use Rattle.std.specs.Io.KnownBytes.{Keeps, ReadConsumes, WriteAppends};
 ghost use Rattle.std.specs.Io.Slices.{io_slices_bytes};
 ghost use Rattle.bq_line.specs.LineCalls.{in_brief};
+ghost use Rattle.bq_line.specs.Ready.{KeepsReports, ReportsAfterRead, ReportsAfterWrite};
 ghost use Rattle.bq_line.specs.Streams.{FailsIf, FailsToWriteIf, KeepsWaits, ReadsFrom, WritesTo};
 
-use super::{StreamError, in_brief};
+use super::{StreamError, Watcher, in_brief};
 use std::io;
 use std::io::{IoSlice, Read, Write};
 use std::net::TcpStream;
-use std::os::fd::{AsRawFd, RawFd};
+use std::os::fd::AsRawFd;
 
 /// The socket of a connection. Each function stands for one call of the system, so it takes and
 /// returns what that call does.
@@ -28,9 +29,21 @@ pub trait Socket {
     /// establishes this.
     ghost is_nonblocking: { Bool → Self → Bool } = { λ nonblocking socket. true };
 
+    /// The descriptor by which the system knows it.
+    ghost descriptor: { Self → ℤ };
+
     /// It was set to send each write at once, or to hold small ones back. Only a successful switch
     /// establishes this.
     ghost is_nodelay: { Bool → Self → Type 0 } = { λ nodelay socket. Unit {0} };
+
+    /// True if the system reports when a read would return something. The first argument says
+    /// whether it reported before that the input has ended or that urgent data came. Only a
+    /// successful registration and a read that found all bytes establish this.
+    ghost reports_bytes: { Bool → Self → Bool } = { λ is_closing socket. true };
+
+    /// True if the system reports when a write has room. Only a successful registration and a write
+    /// that found no room establish this.
+    ghost reports_room: { Self → Bool } = { λ socket. true };
 
     /// Reads as `std::io::Read` does.
     fn read(&mut self, buf: &mut [u8]) -> io::Result<usize>
@@ -38,6 +51,7 @@ pub trait Socket {
         ensures bytes { ReadConsumes (remaining self.old) (remaining self.new) result buf.new }
         ensures apart { Keeps (contents self.old) (contents self.new) }
         ensures fault { FailsIf (may_fail self.old) (in_brief result) }
+        ensures reports { ReportsAfterRead reports_bytes reports_room self.old (in_brief result) (length buf.new) self.new }
         ensures waits { KeepsWaits is_nonblocking self.old self.new }
         ensures same { may_fail self.new ≡ may_fail self.old };
 
@@ -47,6 +61,7 @@ pub trait Socket {
         ensures bytes { WriteAppends (contents self.old) (contents self.new) result buf.now }
         ensures apart { Keeps (remaining self.old) (remaining self.new) }
         ensures fault { FailsToWriteIf (may_fail self.old) (in_brief result) buf.now }
+        ensures reports { ReportsAfterWrite reports_bytes reports_room self.old (in_brief result) self.new }
         ensures waits { KeepsWaits is_nonblocking self.old self.new }
         ensures same { may_fail self.new ≡ may_fail self.old };
 
@@ -56,6 +71,7 @@ pub trait Socket {
         ensures bytes { WriteAppends (contents self.old) (contents self.new) result (io_slices_bytes slices.now) }
         ensures apart { Keeps (remaining self.old) (remaining self.new) }
         ensures fault { FailsToWriteIf (may_fail self.old) (in_brief result) (io_slices_bytes slices.now) }
+        ensures reports { ReportsAfterWrite reports_bytes reports_room self.old (in_brief result) self.new }
         ensures waits { KeepsWaits is_nonblocking self.old self.new }
         ensures same { may_fail self.new ≡ may_fail self.old };
 
@@ -63,6 +79,7 @@ pub trait Socket {
     fn set_nonblocking(&mut self, nonblocking: bool) -> io::Result<()>
         ensures switched { OnOk result (is_nonblocking nonblocking self.new ≡ true) }
         ensures kept { OnErr result (KeepsWaits is_nonblocking self.old self.new) }
+        ensures reports { KeepsReports reports_bytes reports_room self.old self.new }
         ensures remaining { Keeps (remaining self.old) (remaining self.new) }
         ensures contents { Keeps (contents self.old) (contents self.new) }
         ensures fault { FailsIf (may_fail self.old) (in_brief result) }
@@ -72,20 +89,33 @@ pub trait Socket {
     /// go out together. Setting it sends those that are held back.
     fn set_nodelay(&mut self, nodelay: bool) -> io::Result<()>
         ensures switched { OnOk result (is_nodelay nodelay self.new) }
+        ensures reports { KeepsReports reports_bytes reports_room self.old self.new }
         ensures remaining { Keeps (remaining self.old) (remaining self.new) }
         ensures contents { Keeps (contents self.old) (contents self.new) }
         ensures waits { KeepsWaits is_nonblocking self.old self.new }
         ensures same { may_fail self.new ≡ may_fail self.old };
 
-    /// Returns the descriptor on which the system reports that the socket is ready.
-    fn source(&self) -> RawFd;
+    /// Has the system report when the socket is ready.
+    fn watch<W: Watcher>(&mut self, watcher: &W) -> io::Result<()>
+        ensures watched { OnOk result (W.watches watcher.now (descriptor self.new) ≡ true) }
+        ensures bytes { OnOk result ((is_closing : Bool) → reports_bytes is_closing self.new ≡ true) }
+        ensures room { OnOk result (reports_room self.new ≡ true) }
+        ensures remaining { Keeps (remaining self.old) (remaining self.new) }
+        ensures contents { Keeps (contents self.old) (contents self.new) }
+        ensures waits { KeepsWaits is_nonblocking self.old self.new }
+        ensures same { may_fail self.new ≡ may_fail self.old };
 }
 
 /// Nothing is assumed about the bytes that go over the system's sockets, so no clause says which
 /// call a function makes, or with which arguments. Each makes the call of its name with its own
 /// arguments, which has to be read.
 impl Socket for TcpStream {
+    ghost use Rattle.std.specs.Prelude.{true};
+    ghost use Rattle.std.specs.Net.Tcp.{stream_raw_fd};
+
     ghost may_fail = { λ socket. true };
+
+    ghost descriptor = { λ socket. stream_raw_fd socket };
 
     fn read(&mut self, buf: &mut [u8]) -> io::Result<usize> {
         Read::read(self, buf)
@@ -108,8 +138,8 @@ impl Socket for TcpStream {
         TcpStream::set_nodelay(self, nodelay)
     }
 
-    fn source(&self) -> RawFd {
-        self.as_raw_fd()
+    fn watch<W: Watcher>(&mut self, watcher: &W) -> io::Result<()> {
+        watcher.watch(self.as_raw_fd())
     }
 }
 
@@ -120,6 +150,7 @@ pub(super) fn read_once<S: Socket>(socket: &mut S, buf: &mut [u8]) -> Result<usi
     ensures bytes { ReadsFrom (S.remaining socket.old) (S.remaining socket.new) result buf.new }
     ensures apart { Keeps (S.contents socket.old) (S.contents socket.new) }
     ensures fault { FailsIf (S.may_fail socket.old) result }
+    ensures reports { ReportsAfterRead S.reports_bytes S.reports_room socket.old result (length buf.new) socket.new }
     ensures waits { KeepsWaits S.is_nonblocking socket.old socket.new }
     ensures same { S.may_fail socket.new ≡ S.may_fail socket.old }
 {
@@ -133,6 +164,7 @@ pub(super) fn write_once<S: Socket>(socket: &mut S, buf: &[u8]) -> Result<usize,
     ensures bytes { WritesTo (S.contents socket.old) (S.contents socket.new) result buf.now }
     ensures apart { Keeps (S.remaining socket.old) (S.remaining socket.new) }
     ensures fault { FailsToWriteIf (S.may_fail socket.old) result buf.now }
+    ensures reports { ReportsAfterWrite S.reports_bytes S.reports_room socket.old result socket.new }
     ensures waits { KeepsWaits S.is_nonblocking socket.old socket.new }
     ensures same { S.may_fail socket.new ≡ S.may_fail socket.old }
 {
@@ -150,6 +182,7 @@ pub(super) fn write_slices_once<S: Socket>(
     ensures bytes { WritesTo (S.contents socket.old) (S.contents socket.new) result (first.now ++ second.now ++ third.now) }
     ensures apart { Keeps (S.remaining socket.old) (S.remaining socket.new) }
     ensures fault { FailsToWriteIf (S.may_fail socket.old) result first.now }
+    ensures reports { ReportsAfterWrite S.reports_bytes S.reports_room socket.old result socket.new }
     ensures waits { KeepsWaits S.is_nonblocking socket.old socket.new }
     ensures same { S.may_fail socket.new ≡ S.may_fail socket.old }
 {

@@ -1,7 +1,9 @@
 use Rattle.std.proofs.Common.{Ok, Option, subst}
-use Rattle.bq_line.specs.Doors.{IsOpened}
+use Rattle.bq_line.specs.Doors.{IfOpened, IsOpened}
+use Rattle.bq_line.specs.Streams.{IsSureLine}
 use Rattle.bq_line.specs.declared.door.DoorFault.{DoorFault}
 use Rattle.bq_line.proofs.TendingLemmas.{tends_at_end, tends_opened}
+use Rattle.bq_line.proofs.SureLemmas.{sure_opened, sure_without}
 use Rattle.bq_line.proofs.attendant.open_line.Goals as goal
 
 pub returns-in-Ok-Some-clause-went : goal.returns-in-Ok-Some-clause-went
@@ -26,3 +28,16 @@ pub returns-in-Err-clause-went : goal.returns-in-Err-clause-went
 returns-in-Err-clause-went g c =
     let opened = c.in-Err.ensures.opened in
     tends_at_end g.L.Line.seen c.args.machine.now _ _ c.in-Err.ensures.over opened.0 opened.1
+
+pub returns-in-Ok-Some-clause-sure : goal.returns-in-Ok-Some-clause-sure
+returns-in-Ok-Some-clause-sure g c = λ never sure.
+    let opened = subst (λ (o : Option g.row.L.Denot). IfOpened {E = DoorFault} (Ok o) (IsSureLine g.L.Line.lies_over))
+    c.in-Ok-Some.field-0-is (c.in-Ok-Some.ensures.sure never) in
+    sure_opened g.L.Line.lies_over _ c.in-Ok-Some.line _ _ _ c.in-Ok-Some.ensures.over opened sure
+
+pub returns-in-Ok-None-clause-sure : goal.returns-in-Ok-None-clause-sure
+returns-in-Ok-None-clause-sure g c = λ never sure.
+    sure_without g.L.Line.lies_over _ _ _ _ c.in-Ok-None.ensures.over tt sure
+
+pub returns-in-Err-clause-sure : goal.returns-in-Err-clause-sure
+returns-in-Err-clause-sure g c = λ never sure. sure_without g.L.Line.lies_over _ _ _ _ c.in-Err.ensures.over tt sure

@@ -1,10 +1,12 @@
 use Rattle.std.proofs.Common.{◌≡◌, [], refl, sym, subst, inl, inr}
 use Rattle.bq_seat.specs.declared.machine.Action.TheVariants as actions
 use Rattle.bq_line.specs.declared.attendant.LinePlace.TheVariants as places
-use Rattle.bq_line.specs.Tending.{MayEndAt, door_seen}
+use Rattle.bq_line.specs.declared.attendant.LinePlace.{LinePlace}
+use Rattle.bq_line.specs.Tending.{AreSure, MayEndAt, door_seen}
 use Rattle.bq_line.specs.declared.attendant.Progress.TheVariants as results
 use Rattle.bq_line.proofs.CarriedLemmas.{ends_on, rests}
 use Rattle.bq_line.proofs.TendingLemmas.{from_place, tends_acted, tends_still}
+use Rattle.bq_line.proofs.SureLemmas.{sure_further, sure_left}
 use Rattle.bq_line.proofs.attendant.Attendant.go_on.Goals as goal
 
 pub returns-in-Between-clause-went : goal.returns-in-Between-clause-went
@@ -71,3 +73,25 @@ returns-in-Leaving-clause-still g c = λ moved. inl (c.leave.ensures.still moved
 
 pub returns-in-Done-clause-still : goal.returns-in-Done-clause-still
 returns-in-Done-clause-still g c = λ moved. inr (refl, refl, refl)
+
+pub returns-in-Between-clause-sure : goal.returns-in-Between-clause-sure
+returns-in-Between-clause-sure g c = λ never sure.
+    c.open_in_place.ensures.sure never
+    (subst (λ (p : LinePlace g.row.L.Denot). AreSure g.L.Line.lies_over p (g.D.Door.lines_over c.args.door.now)) c.in-Between.is sure)
+
+pub returns-in-LineOver-clause-sure : goal.returns-in-LineOver-clause-sure
+returns-in-LineOver-clause-sure g c = λ never sure.
+    let over : c.args.self.now.place ≡ places.On c.in-On.line (actions.LineOver c.in-LineOver.end) c.in-On.sent =
+    let first = c.in-On.is in let second = c.in-LineOver.is in cc in
+    c.shut_line.ensures.sure never
+    (subst (λ (p : LinePlace g.row.L.Denot). AreSure g.L.Line.lies_over p (g.D.Door.lines_over c.args.door.now)) over sure)
+
+pub returns-in_default-clause-sure : goal.returns-in_default-clause-sure
+returns-in_default-clause-sure g c = λ never sure.
+    sure_further g.L.Line.lies_over _ c.in-On.line c.carry_out.new.line _ _ _ _ _ c.in-On.is c.carry_out.ensures.stays sure
+
+pub returns-in-Leaving-clause-sure : goal.returns-in-Leaving-clause-sure
+returns-in-Leaving-clause-sure g c = λ never sure. sure_left g.L.Line.lies_over _ _ _ c.leave.ensures.left sure
+
+pub returns-in-Done-clause-sure : goal.returns-in-Done-clause-sure
+returns-in-Done-clause-sure g c = λ never sure. sure

@@ -27,7 +27,7 @@ loop-preserved g c =
     let w = c.go_on-progress.ensures.went in
     record {
       iterator = (tt, tt);
-      tended = (t.0 ++ w.0, t.1 ++ w.1, w.3 c.args.self.max_job_size t.0 t.1 t.2);
+      tended = (t.0 ++ w.0, t.1 ++ w.1, (w.3 c.args.self.max_job_size t.0 t.1 t.2).0);
       same = c.go_on-progress.ensures.same c.args.self.door c.loop.invariant.same;
     }
 
