@@ -9,10 +9,7 @@ use Rattle.std.proofs.lemmas.List.Sums.{sum_by-cons}
 use Rattle.bq_job.specs.declared.answer.Answer.{Answer}
 use Rattle.bq_line.specs.declared.attendant.Attendant.{Attendant}
 use Rattle.bq_line.specs.declared.attendant.LinePlace.{LinePlace}
-use Rattle.bq_line.specs.declared.attendant.Looked.{Looked}
-use Rattle.bq_line.specs.declared.attendant.Looked.TheVariants as looks
 use Rattle.bq_line.specs.Tending.{IsNewSeat}
-use Rattle.bq_event_loop.specs.Looking.{listed_after}
 use Rattle.bq_event_loop.proofs.ListingLemmas.{falls_once}
 use Rattle.std.specs.List.{All}
 use Rattle.bq_line.specs.declared.attendant.LinePlace.TheVariants as places
@@ -24,9 +21,7 @@ use Rattle.bq_event_loop.specs.Known.{AreApart, AreKnown, AreKnownTo, AreSameLis
 use Rattle.bq_event_loop.specs.Listings.{Listing, all_free, enqueued, falling, freed, is_nowhere}
 use Rattle.bq_event_loop.specs.Marks.{times}
 use Rattle.bq_event_loop.specs.Still.{IsStill, IsStillAt, IsStillOn}
-use Rattle.bq_event_loop.specs.Visits.{turn_in, turn_of}
-use Rattle.bq_event_loop.specs.declared.poller.visits.Part.{Part}
-use Rattle.bq_event_loop.specs.declared.poller.visits.Part.TheVariants as parts
+use Rattle.bq_event_loop.specs.Visits.{turn_of}
 use Rattle.bq_event_loop.specs.declared.poller.visits.Visit.{Visit}
 use Rattle.bq_event_loop.specs.declared.turns.Turn.{Turn}
 use Rattle.bq_event_loop.specs.declared.turns.Turn.TheVariants as turns
@@ -221,7 +216,7 @@ on_none : (xs : List ℕ) (t : ℕ) → times t xs ≡ 0 → is_on xs t ≡ true
 on_none xs t none on = omega (arith, none, on_some xs t on)
 
 -- The numbers that turns go by were changed, the seats and their mail were not.
-known_as : {L : Type 0} (gives takes : L → Bool) (many later_many : ℕ) (listed looks later later_looks : ℕ
+pub known_as : {L : Type 0} (gives takes : L → Bool) (many later_many : ℕ) (listed looks later later_looks : ℕ
     → Bool) (seats : List (Attendant L))
     (mails : List (List Answer))
     → later_many ≡ many → AreApart later later_looks
@@ -479,29 +474,6 @@ module _ {L : Type 0} (gives takes : L → Bool) (seats : List (Attendant L)) (m
           inr (inr (λ a. subst (λ n. IsStill gives takes (slice_index_or seats n a) (slice_index_or mails n [])) (same_is i t same)
           (still a)))
 
-  -- Nothing moves at any seat if no seat is on the queue, and no seat checks for a client that may
-  -- have come.
-  pub known_still : (l : Listing) (may_come : Bool) → l.queue ≡ [] → (l.free ≡ []) ⊎ (may_come ≡ false)
-      → AreKnownTo gives takes l None seats mails → AreStill gives takes may_come seats mails
-  known_still l may_come none nobody k t below a = at nobody (k.known t below a) where
-    empty : (xs : List ℕ) → xs ≡ [] → is_on xs t ≡ true → ⊥
-    empty xs e on = on_none xs t (ap (times t) e) on
-
-    left_only : (b : Bool) → (b || false) ≡ true → b ≡ true
-    left_only true e = refl
-    left_only false e = absurd cc
-
-    at : (l.free ≡ []) ⊎ (may_come ≡ false)
-        → IsKnown (is_listed l None t) (is_looking l t) (times t []) (IsStill gives takes (slice_index_or seats t a) (slice_index_or
-        mails t []))
-        → IsStill gives takes (slice_index_or seats t a) (slice_index_or mails t [])
-        ⊎ (((slice_index_or seats t a).place ≡ places.Between) × (may_come ≡ false))
-    at any (inl on) = absurd (empty l.queue none (left_only _ on))
-    at (inl free) (inr (inl looks)) = absurd (empty l.free free looks)
-    at (inr not_now) (inr (inl looks)) = inr (k.looking t below looks a, not_now)
-    at any (inr (inr (inl waits))) = absurd (omega (arith, waits))
-    at any (inr (inr (inr still))) = inl still
-
 module _ {L : Type 0} (gives takes : L → Bool) where
   -- A seat that the turns let act was changed.
   pub known_changed : (many : ℕ) (listed looks : ℕ → Bool) (woken : List ℕ) (i : ℕ) (seats later : List (Attendant L))
@@ -525,63 +497,6 @@ module _ {L : Type 0} (gives takes : L → Bool) where
       known t below a (inr (_, differs)) =
           subst (λ z. IsKnown (listed t) (looks t) (times t woken) (IsStill gives takes z (slice_index_or mails t [])))
           (sym (only.others t differs a)) (k.known t below a)
-
-  -- The system reported something of a seat, which is enqueued.
-  pub known_noted : (l : Listing) (i : ℕ) (seats later : List (Attendant L)) (mails : List (List Answer)) → ChangesOnly i seats later
-      → ((a : Attendant L) → (slice_index_or seats i a).place ≡ places.Between → (slice_index_or later i a).place ≡ places.Between)
-      → AreKnownTo gives takes l None seats mails → AreKnownTo gives takes (enqueued i l) None later mails
-  known_noted l i seats later mails only between k = record {
-    all = omega (arith, only.many, k.all, enqueued_seats i l);
-    apart = λ t looks on. k.apart t (subst (λ f. is_on f t ≡ true) (enqueued_free i l) looks)
-        (or_left (is_on l.queue t) false (before t looks (enqueued_only i l t (left_only _ on))));
-    looking = λ t below is a. place t (omega (arith, only.many, below)) (subst (λ f. is_on f t ≡ true) (enqueued_free i l) is) a
-        (eqb_tells t i);
-    known = λ t below a. known t (omega (arith, only.many, below)) a (eqb_tells t i);
-  }
-    where
-      left_only : (b : Bool) → (b || false) ≡ true → b ≡ true
-      left_only true e = refl
-      left_only false e = absurd cc
-
-      before : (t : ℕ) → is_on (enqueued i l).free t ≡ true → (is_on l.queue t ≡ true) ⊎ ((i ≡ t) × (times i l.free ≡ 0))
-          → is_on l.queue t ≡ true
-      before t looks (inl on) = on
-      before t looks (inr (same, none)) =
-          absurd (on_none l.free t (subst (λ n. times n l.free ≡ 0) same none) (subst (λ f. is_on f t ≡ true) (enqueued_free i l) looks))
-
-      place : (t : ℕ) → t < length seats → is_looking l t ≡ true → (a : Attendant L)
-          → ((t == i) ≡ true) × (t ≡ i) ⊎ ((t == i) ≡ false) × (t ≢ i) → (slice_index_or later t a).place ≡ places.Between
-      place t below is a (inl (_, same)) =
-          subst (λ n. (slice_index_or later n a).place ≡ places.Between) (sym same)
-          (between a (subst (λ n. (slice_index_or seats n a).place ≡ places.Between) same (k.looking t below is a)))
-      place t below is a (inr (_, differs)) = ap (λ z. z.place) (only.others t differs a) ∙ k.looking t below is a
-
-      mine : (t : ℕ) → t < length seats → (a : Attendant L) → t ≡ i → (is_on l.free i ≡ true) ⊎ (is_on l.free i ≡ false)
-          → IsKnown (is_listed (enqueued i l) None t) (is_looking (enqueued i l) t) (times t [])
-          (IsStill gives takes (slice_index_or later t a) (slice_index_or mails t []))
-      mine t below a same (inl looks) =
-          inr (inl (subst (λ n. is_on (enqueued i l).free n ≡ true) (sym same) (subst (λ f. is_on f i ≡ true) (sym (enqueued_free i l))
-          looks)))
-      mine t below a same (inr nor) =
-          inl (or_left (is_on (enqueued i l).queue t) false
-          (subst (λ n. is_on (enqueued i l).queue n ≡ true) (sym same)
-          (enqueued_lists i l (omega (arith, below, k.all, same)) (λ looks. let e : true ≡ false = sym looks ∙ nor in absurd cc))))
-
-      known : (t : ℕ) → t < length seats → (a : Attendant L) → ((t == i) ≡ true) × (t ≡ i) ⊎ ((t == i) ≡ false) × (t ≢ i)
-          → IsKnown (is_listed (enqueued i l) None t) (is_looking (enqueued i l) t) (times t [])
-          (IsStill gives takes (slice_index_or later t a) (slice_index_or mails t []))
-      known t below a (inl (_, same)) = mine t below a same (cases_Bool (is_on l.free i))
-      known t below a (inr (_, differs)) =
-          subst (λ z. IsKnown (is_listed (enqueued i l) None t) (is_looking (enqueued i l) t) (times t [])
-          (IsStill gives takes z (slice_index_or mails t []))) (sym (only.others t differs a)) (other (k.known t below a))
-        where
-          other : IsKnown (is_listed l None t) (is_looking l t) (times t []) (IsStill gives takes (slice_index_or seats t a)
-              (slice_index_or mails t []))
-              → IsKnown (is_listed (enqueued i l) None t) (is_looking (enqueued i l) t) (times t [])
-              (IsStill gives takes (slice_index_or seats t a) (slice_index_or mails t []))
-          other (inl on) = inl (or_left (is_on (enqueued i l).queue t) false (enqueued_keeps i l t (left_only _ on)))
-          other (inr (inl looks)) = inr (inl (subst (λ f. is_on f t ≡ true) (sym (enqueued_free i l)) looks))
-          other (inr (inr rest)) = inr (inr rest)
 
 -- A seat at a place of the queue is on it.
 got_on : (xs : List ℕ) (n i : ℕ) → Some i ≡ slice_get xs n → is_on xs i ≡ true
@@ -614,7 +529,7 @@ next_in_round_is l later (Some i) is same = record {
     chosen true e = e
     chosen false e = absurd cc
 
-listed_self : (l : Listing) (i : ℕ) → is_listed l (Some i) i ≡ true
+pub listed_self : (l : Listing) (i : ℕ) → is_listed l (Some i) i ≡ true
 listed_self l i = or_right (is_on l.queue i) (i == i) (is_same i i refl)
 
 module _ {L : Type 0} (gives takes : L → Bool) where
@@ -623,24 +538,6 @@ module _ {L : Type 0} (gives takes : L → Bool) where
       → AreKnownTo gives takes l (Some i) seats mails → AreKnownTo gives takes l (Some i) later mails
   known_acted l i seats later mails only k =
       known_changed gives takes l.seats (is_listed l (Some i)) (is_looking l) [] i seats later mails (listed_self l i) only k
-
-  -- The visited seat checked for a client.
-  pub known_looked : (l later : Listing) (i : ℕ) (looked : Looked) (seats after : List (Attendant L)) (mails : List (List Answer))
-      → later ≡ listed_after looked i l → ChangesOnly i seats after
-      → ((looked ≡ looks.NotYet) ⊎ (looked ≡ looks.Later) → (a : Attendant L) → (slice_index_or after i a).place ≡ places.Between)
-      → AreKnownTo gives takes l (Some i) seats mails → AreKnownTo gives takes later None after mails
-  known_looked l later i looked seats after mails is only none k =
-      subst (λ z. AreKnownTo gives takes z None after mails) (sym is) (by looked none)
-    where
-      acted : AreKnownTo gives takes l (Some i) after mails
-      acted = known_acted l i seats after mails only k
-
-      by : (x : Looked) → ((x ≡ looks.NotYet) ⊎ (x ≡ looks.Later) → (a : Attendant L) → (slice_index_or after i a).place ≡ places.Between)
-          → AreKnownTo gives takes (listed_after x i l) None after mails
-      by looks.Opened h = known_enqueued gives takes after mails l i acted
-      by looks.NoMore h = known_enqueued gives takes after mails l i acted
-      by looks.NotYet h = known_freed gives takes after mails l i (h (inl refl)) acted
-      by looks.Later h = known_freed gives takes after mails l i (h (inr refl)) acted
 
 -- Seats that all check for a client are known.
 pub all_known : (seats : ℕ) (l : Listing) → l ≡ all_free seats → KnowsAll seats l.seats (is_listed l None) (is_looking l)
@@ -764,11 +661,15 @@ module _ {L : Type 0} (gives takes : L → Bool) (many : ℕ) (listed looks : �
   known_turned : (turn : Turn) (woken : List ℕ) (seats later : List (Attendant L)) (mails : List (List Answer))
       → IsListedIn listed turn → ChangesOnlyIn turn seats later
       → AreKnown gives takes many listed looks woken seats mails → AreKnown gives takes many listed looks woken later mails
-  known_turned (turns.Seat i) woken seats later mails acts only k = known_changed gives takes many listed looks woken i seats later
-      mails acts only k
-  known_turned (turns.Command i) woken seats later mails acts only k = known_changed gives takes many listed looks woken i seats later
+  known_turned (turns.Serve i extent) woken seats later mails acts only k = known_changed gives takes many listed looks woken i seats later
       mails acts only k
   known_turned turns.Nothing woken seats later mails acts only k = subst (λ z. AreKnown gives takes many listed looks woken z mails)
+      (sym only) k
+  known_turned (turns.Look i) woken seats later mails acts only k = subst (λ z. AreKnown gives takes many listed looks woken z mails)
+      (sym only) k
+  known_turned (turns.HandOn i) woken seats later mails acts only k = subst (λ z. AreKnown gives takes many listed looks woken z mails)
+      (sym only) k
+  known_turned turns.TurnAway woken seats later mails acts only k = subst (λ z. AreKnown gives takes many listed looks woken z mails)
       (sym only) k
   known_turned (turns.Control reads) woken seats later mails acts only k = subst (λ z. AreKnown gives takes many listed looks woken z
       mails) (sym only) k
@@ -784,21 +685,9 @@ module _ {L : Type 0} (gives takes : L → Bool) (many : ℕ) (listed looks : �
       (subst (λ xs. AreKnown gives takes many listed looks xs later mails) (sym (ap (λ w. w.waiting) none))
       (known_turned turn [] seats later mails acts only k))
 
--- A turn of the visited seat.
-pub listed_turn : (listed : ℕ → Bool) (v : Visit) → listed v.seat ≡ true → IsListedIn listed (turn_of v)
-listed_turn listed v acts = by v.is_over v.part where
-  in_part : (part : Part) → IsListedIn listed (turn_in part v.seat)
-  in_part parts.Answers = acts
-  in_part parts.Reads = acts
-  in_part parts.Steps = acts
-
-  by : (over : Bool) (part : Part) → IsListedIn listed (if over then turns.Seat v.seat else turn_in part v.seat)
-  by true part = acts
-  by false part = in_part part
-
 -- The turn of a visit is one of a seat that is let act.
 pub listed_by : (l : Listing) (visited : Option ℕ) (v : Visit) (turn : Turn) → turn ≡ turn_of v → visited ≡ Some v.seat
     → IsListedIn (is_listed l visited) turn
 listed_by l visited v turn is same =
     subst (λ t. IsListedIn (is_listed l visited) t) (sym is)
-    (subst (λ o. IsListedIn (is_listed l o) (turn_of v)) (sym same) (listed_turn (is_listed l (Some v.seat)) v (listed_self l v.seat)))
+    (subst (λ o. is_listed l o v.seat ≡ true) (sym same) (listed_self l v.seat))

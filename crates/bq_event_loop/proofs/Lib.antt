@@ -10,4 +10,5 @@ mod ServingLemmas
 mod SessionsLemmas
 mod SleepingLemmas
 mod SoFarLemmas
+mod WaitingLemmas
 mod WakeLemmas

@@ -8,18 +8,23 @@ use Rattle.std.proofs.lemmas.List.{get_or-set_other, get_or-set_same, get_or_def
 use Rattle.bq_job.specs.declared.answer.Answer.{Answer}
 use Rattle.bq_job.specs.declared.step.Step.{Step}
 use Rattle.bq_job.specs.promise.LineSteps.{LineSeen}
-use Rattle.bq_line.specs.Tending.{AreSame, DoorSeen, IsNewDoor, IsNewSeat, IsPlaced, IsTended, Tends}
+use Rattle.bq_line.specs.Tending.{AreSame, DoorSeen, IsCounted, IsNewDoor, IsNewSeat, IsPlaced, IsTended, Tends}
 use Rattle.bq_line.specs.declared.attendant.Attendant.{Attendant}
-use Rattle.bq_line.proofs.TendingLemmas.{tended_new}
+use Rattle.bq_line.proofs.TendingLemmas.{tended_new, tends_still}
 use Rattle.bq_event_loop.specs.Rows.{AllRested, AllTended, IsSomehowTended}
 
 -- A seat rested, and rested again.
 tends_then : {L : Type 0} (seen : L → LineSeen) (a b c : Attendant L) (at_a at_b at_c : DoorSeen) → Tends seen a at_a [] [] b at_b
     → Tends seen b at_b [] [] c at_c → Tends seen a at_a [] [] c at_c
 tends_then seen a b c at_a at_b at_c h k size before got t =
-    subst (λ (xs : List Step). IsTended seen size c at_c xs (got ++ [])) (append-nil (before ++ []))
-    (subst (λ (ys : List Answer). IsTended seen size c at_c ((before ++ []) ++ []) ys) (append-nil (got ++ []))
-    (k size (before ++ []) (got ++ []) (h size before got t)))
+    let x = h size before got t in
+    let y = k size (before ++ []) (got ++ []) x.0 in
+    let earlier = x.1.grows in
+    let later = y.1.grows in (
+      subst (λ (xs : List Step). IsTended seen size c at_c xs (got ++ [])) (append-nil (before ++ []))
+          (subst (λ (ys : List Answer). IsTended seen size c at_c ((before ++ []) ++ []) ys) (append-nil (got ++ [])) y.0),
+      record { grows = omega arith; unclosed = λ p. refl },
+    )
 
 pub somehow_on : {L : Type 0} (seen : L → LineSeen) (a b : Attendant L) (at_a at_b : DoorSeen) (submitted : List Step) (taken : List Answer)
     → Tends seen a at_a submitted taken b at_b → IsSomehowTended seen a at_a → IsSomehowTended seen b at_b
@@ -28,7 +33,7 @@ somehow_on seen a b at_a at_b submitted taken h t =
       max_job_size = t.max_job_size;
       submitted = t.submitted ++ submitted;
       taken = t.taken ++ taken;
-      tended = h t.max_job_size t.submitted t.taken t.tended;
+      tended = (h t.max_job_size t.submitted t.taken t.tended).0;
     }
 
 -- Doors that are as they were are the same.
@@ -54,7 +59,7 @@ some_door (d ∷ doors) i h = d
 module _ {L D : Type 0} (seen : L → LineSeen) (at : D → DoorSeen) where
   -- A property that holds for the changed seat and its door, and held for the others before, holds
   -- for each seat and its door.
-  set_each : (P : ℕ → Attendant L → D → Type 0) (seats : List (Attendant L)) (doors : List D) (i : ℕ) (new : Attendant L) (later : D)
+  pub set_each : (P : ℕ → Attendant L → D → Type 0) (seats : List (Attendant L)) (doors : List D) (i : ℕ) (new : Attendant L) (later : D)
       → i < length seats → length doors ≡ length seats → P i new later
       → ((t : ℕ) → t ≢ i → t < length seats → (x : Attendant L) (y : D) → P t (slice_index_or seats t x) (slice_index_or doors t y))
       → (t : ℕ) → t < length seats → (x : Attendant L) (y : D)
@@ -147,11 +152,7 @@ module _ {L D : Type 0} (seen : L → LineSeen) (at : D → DoorSeen) where
   rested_none same seats doors = record {
     many = refl;
     doored = refl;
-    each = λ n here x y size before got t.
-        subst (λ (xs : List Step). IsTended seen size (slice_index_or seats n x) (at (slice_index_or doors n y)) xs (got ++ []))
-        (sym (append-nil before))
-        (subst (λ (ys : List Answer). IsTended seen size (slice_index_or seats n x) (at (slice_index_or doors n y)) before ys)
-        (sym (append-nil got)) t);
+    each = λ n here x y. tends_still seen (slice_index_or seats n x) (at (slice_index_or doors n y));
     same_doors = λ handed_in h. h;
   }
 

@@ -4,20 +4,25 @@ use Rattle.std.proofs.Common.{ap, ◌∙◌, arith, subst, inl, inr, append-nil,
 use Rattle.std.specs.Prelude.{◌==◌}
 use Rattle.std.proofs.lemmas.Bool.{cases_Bool, eqb-true, eqb-false, ltb-true, ltb-false}
 use Rattle.std.proofs.lemmas.List.{get_or-set_other, get_or-set_same, length-set}
+use Rattle.bq_job.specs.beside.Closings.{closes, closings}
 use Rattle.bq_job.specs.declared.answer.Answer.{Answer}
 use Rattle.bq_job.specs.declared.step.Step.{Step}
 use Rattle.bq_job.specs.machine.Machine.{Machine}
 use Rattle.bq_job.specs.promise.History.{steps_at}
 use Rattle.bq_job.specs.promise.LineSteps.{LineSeen}
+use Rattle.bq_job.specs.promise.Runs.{Entry, answers_to}
+use Rattle.bq_job.proofs.ClosedLemmas.{run_closes}
+use Rattle.bq_job.proofs.CutLemmas.{closes_append}
 use Rattle.bq_event_loop.specs.LoopCores.{WentAt, state_of}
-use Rattle.bq_host.specs.MailStates.{MailState}
-use Rattle.bq_host.specs.Went.{SeatWent, SeatWentBy}
+use Rattle.bq_host.specs.MailStates.{MailState, waiting}
+use Rattle.bq_host.specs.Went.{CoreWent, SeatWent, SeatWentBy}
 use Rattle.bq_line.specs.Links.{Calls}
-use Rattle.bq_line.specs.Tending.{AreSame, DoorSeen, GoesOn, IsTended, Tends}
+use Rattle.bq_line.specs.Tending.{AreSame, DoorSeen, GoesOn, IsTended, Tends, ended_lines}
 use Rattle.bq_event_loop.specs.Rows.{AllRested}
-use Rattle.bq_event_loop.specs.Serving.{AreReadyFor, AreServed, ServesOn, TurnServes}
+use Rattle.bq_event_loop.specs.Serving.{AreReadyFor, AreServed, AreServedFrom, ServesOn, TurnServes}
 use Rattle.bq_event_loop.specs.declared.row.Row.{Row}
-use Rattle.bq_event_loop.proofs.RowLemmas.{rested_none, same_set}
+use Rattle.bq_event_loop.proofs.RowLemmas.{rested_none, same_set, set_each}
+use Rattle.bq_line.proofs.CountedLemmas.{counted_on}
 use Rattle.bq_line.specs.declared.attendant.Attendant.{Attendant}
 use Rattle.bq_line.specs.declared.attendant.LinePlace.TheVariants.{Done}
 use Rattle.bq_event_loop.specs.declared.loop_core.LoopCore.{LoopCore}
@@ -35,25 +40,42 @@ went_by {C} {K} machine compared given seat old new submitted taken (inr same) =
     (subst (λ (s : List Step). WentAt machine compared given seat old s taken old) (sym same.1)
     (subst (λ (t : List Answer). WentAt machine compared given seat old [] t old) (sym same.2) (went_none machine compared given seat old)))
 
+-- A seat for which no answer waited at first has taken at most one `Closed` for each close.
+took_few : (first core : MailState) (readings : List (Option ℕ)) (history : List Entry) (took : ℕ → List Answer) (seat : ℕ)
+    → CoreWent first readings history took core → seat < length first.mails → waiting seat first ≡ []
+    → closes (took seat) ≤ closings (steps_at seat history)
+took_few first core readings history took seat w below none =
+    let given : answers_to seat w.given ≡ took seat ++ waiting seat core =
+    ap (λ (xs : List Answer). xs ++ answers_to seat w.given) (sym none) ∙ w.tied seat below in
+    let all : closes (answers_to seat w.given) ≡ closes (took seat) + closes (waiting seat core) =
+    ap closes given ∙ closes_append (took seat) (waiting seat core) in
+    let law = run_closes seat first.core core.core history w.given w.runs in
+    omega arith
+
 module _ {L D : Type 0} (seen : L → LineSeen) (at : D → DoorSeen) where
   -- One seat acted.
   turn_served : (size : ℕ) (control : List Step) (first core next : MailState) (readings reads : List (Option ℕ))
       (seats : List (Attendant L)) (doors : List D) (i : ℕ) (a new : Attendant L) (d later : D) (submitted : List Step)
       (taken : List Answer)
-      → AreServed seen at size control first readings core seats doors → i < length seats
+      → (s : AreServed seen at size control first readings core seats doors) → i < length seats
       → SeatWent i core reads submitted taken next
       → Tends seen (slice_index_or seats i a) (at (slice_index_or doors i d)) submitted taken new (at later)
-      → AreServed seen at size control first (readings ++ reads) next (slice_set seats i new) (slice_set doors i later)
-  turn_served size control first core next readings reads seats doors i a new d later submitted taken s below w tends = record {
-    history = s.history ++ w.history;
-    took = λ t. s.took t ++ w.took t;
-    went = core_on first core next readings reads s.history w.history s.took w.took s.went w.went;
-    mailed = s.mailed ∙ sym (length-set seats i new);
-    doored = length-set doors i later ∙ s.doored ∙ sym (length-set seats i new);
-    each = λ t here x y. each_at t (subst (λ n. t < n) (length-set seats i new) here) x y;
-    control_is = ap (λ n. steps_at n (s.history ++ w.history)) (length-set seats i new) ∙ still (length seats) (omega arith) ∙ s.control_is;
-    nobody_else = λ t above. let more = subst (λ n. n < t) (length-set seats i new) above in still t (omega arith) ∙ s.nobody_else t more;
-  }
+      → AreServedFrom s.history seen at size control first (readings ++ reads) next (slice_set seats i new) (slice_set doors i later)
+  turn_served size control first core next readings reads seats doors i a new d later submitted taken s below w tends = (
+    record {
+      history = s.history ++ w.history;
+      took = λ t. s.took t ++ w.took t;
+      went = core_on first core next readings reads s.history w.history s.took w.took s.went w.went;
+      mailed = s.mailed ∙ sym (length-set seats i new);
+      doored = length-set doors i later ∙ s.doored ∙ sym (length-set seats i new);
+      each = λ t here x y. each_at t (subst (λ n. t < n) (length-set seats i new) here) x y;
+      few = λ t here none x y. few_at none (subst (λ n. t < n) (length-set seats i new) here) x y;
+      control_is = ap (λ n. steps_at n (s.history ++ w.history)) (length-set seats i new) ∙ still (length seats) (omega arith) ∙ s.control_is;
+      nobody_else = λ t above. let more = subst (λ n. n < t) (length-set seats i new) above in still t (omega arith) ∙ s.nobody_else t more;
+    },
+    w.history,
+    refl,
+  )
     where
       below_doors : i < length doors
       below_doors = let e = s.doored in omega arith
@@ -63,12 +85,13 @@ module _ {L D : Type 0} (seen : L → LineSeen) (at : D → DoorSeen) where
           steps_append t s.history w.history ∙ ap (λ (xs : List Step). steps_at t s.history ++ xs) (w.others_still t differs)
           ∙ append-nil (steps_at t s.history)
 
+      steps_are : steps_at i s.history ++ submitted ≡ steps_at i (s.history ++ w.history)
+      steps_are = ap (λ (xs : List Step). steps_at i s.history ++ xs) (sym w.submitted_is) ∙ sym (steps_append i s.history w.history)
+
       own : (x : Attendant L) (y : D) → IsTended seen size (slice_index_or (slice_set seats i new) i x)
           (at (slice_index_or (slice_set doors i later) i y)) (steps_at i (s.history ++ w.history)) (s.took i ++ w.took i)
       own x y =
-          let after = tends size (steps_at i s.history) (s.took i) (s.each i below a d) in
-          let steps_are : steps_at i s.history ++ submitted ≡ steps_at i (s.history ++ w.history) =
-          ap (λ (xs : List Step). steps_at i s.history ++ xs) (sym w.submitted_is) ∙ sym (steps_append i s.history w.history) in
+          let after = (tends size (steps_at i s.history) (s.took i) (s.each i below a d)).0 in
           let took_is : s.took i ++ taken ≡ s.took i ++ w.took i = ap (λ (xs : List Answer). s.took i ++ xs) (sym w.taken_is) in
           subst (λ (z : Attendant L). IsTended seen size z (at (slice_index_or (slice_set doors i later) i y))
           (steps_at i (s.history ++ w.history)) (s.took i ++ w.took i)) (sym (get_or-set_same seats i new x below))
@@ -103,25 +126,54 @@ module _ {L D : Type 0} (seen : L → LineSeen) (at : D → DoorSeen) where
         | inr e ↦ other t (eqb-false t i e) here x y
       ]
 
+      own_few : waiting i first ≡ [] → closes (s.took i ++ w.took i) ≤ ended_lines new (at later)
+      own_few none =
+          let after = tends size (steps_at i s.history) (s.took i) (s.each i below a d) in
+          let mailed : i < length first.mails = let e = s.mailed in omega arith in
+          let law = took_few first next (readings ++ reads) (s.history ++ w.history) (λ t. s.took t ++ w.took t) i
+          (core_on first core next readings reads s.history w.history s.took w.took s.went w.went) mailed none in
+          let took_is : s.took i ++ w.took i ≡ s.took i ++ taken = ap (λ (xs : List Answer). s.took i ++ xs) w.taken_is in
+          subst (λ (xs : List Answer). closes xs ≤ ended_lines new (at later)) (sym took_is)
+          (counted_on seen size (slice_index_or seats i a) new (at (slice_index_or doors i d)) (at later)
+          (steps_at i s.history ++ submitted) (s.took i) taken after.1 after.0
+          (subst (λ (xs : List Answer). closes xs ≤ closings (steps_at i s.history ++ submitted)) took_is
+          (subst (λ (xs : List Step). closes (s.took i ++ w.took i) ≤ closings xs) (sym steps_are) law))
+          (s.few i below none a d))
+
+      few_at : {t : ℕ} → waiting t first ≡ [] → t < length seats → (x : Attendant L) (y : D)
+          → closes (s.took t ++ w.took t) ≤ ended_lines (slice_index_or (slice_set seats i new) t x) (at (slice_index_or (slice_set doors i later) t y))
+      few_at {t} none here x y =
+          set_each seen at (λ (n : ℕ) (z : Attendant L) (u : D). waiting n first ≡ [] → closes (s.took n ++ w.took n) ≤ ended_lines z (at u))
+          seats doors i new later below s.doored own_few
+          (λ n differs there z u quiet. subst (λ (ys : List Answer). closes ys ≤ ended_lines (slice_index_or seats n z) (at (slice_index_or doors n u)))
+          (sym (append-nil (s.took n)) ∙ ap (λ (xs : List Answer). s.took n ++ xs) (sym (w.others_took n differs))) (s.few n there quiet z u))
+          t here x y none
+
   -- A tick was taken, or none was due: no seat submitted or took anything.
   time_served : (size : ℕ) (control : List Step) (first core next : MailState) (readings reads : List (Option ℕ))
       (seats : List (Attendant L)) (doors : List D) (i : ℕ)
-      → AreServed seen at size control first readings core seats doors → SeatWent i core reads [] [] next
-      → AreServed seen at size control first (readings ++ reads) next seats doors
-  time_served size control first core next readings reads seats doors i s w = record {
-    history = s.history ++ w.history;
-    took = λ t. s.took t ++ w.took t;
-    went = core_on first core next readings reads s.history w.history s.took w.took s.went w.went;
-    mailed = s.mailed;
-    doored = s.doored;
-    each = λ t below a d.
-        subst (λ (xs : List Step). IsTended seen size (slice_index_or seats t a) (at (slice_index_or doors t d)) xs
-        (s.took t ++ w.took t)) (sym (still t))
-        (subst (λ (ys : List Answer). IsTended seen size (slice_index_or seats t a) (at (slice_index_or doors t d))
-        (steps_at t s.history) ys) (took_still t) (s.each t below a d));
-    control_is = still (length seats) ∙ s.control_is;
-    nobody_else = λ t above. still t ∙ s.nobody_else t above;
-  }
+      → (s : AreServed seen at size control first readings core seats doors) → SeatWent i core reads [] [] next
+      → AreServedFrom s.history seen at size control first (readings ++ reads) next seats doors
+  time_served size control first core next readings reads seats doors i s w = (
+    record {
+      history = s.history ++ w.history;
+      took = λ t. s.took t ++ w.took t;
+      went = core_on first core next readings reads s.history w.history s.took w.took s.went w.went;
+      mailed = s.mailed;
+      doored = s.doored;
+      each = λ t below a d.
+          subst (λ (xs : List Step). IsTended seen size (slice_index_or seats t a) (at (slice_index_or doors t d)) xs
+          (s.took t ++ w.took t)) (sym (still t))
+          (subst (λ (ys : List Answer). IsTended seen size (slice_index_or seats t a) (at (slice_index_or doors t d))
+          (steps_at t s.history) ys) (took_still t) (s.each t below a d));
+      few = λ t below quiet a d. subst (λ (ys : List Answer). closes ys ≤ ended_lines (slice_index_or seats t a) (at (slice_index_or doors t d)))
+          (took_still t) (s.few t below quiet a d);
+      control_is = still (length seats) ∙ s.control_is;
+      nobody_else = λ t above. still t ∙ s.nobody_else t above;
+    },
+    w.history,
+    refl,
+  )
     where
       none : (t : ℕ) → steps_at t w.history ≡ []
       none t = elim (cases_Bool (t == i)) [
@@ -145,25 +197,31 @@ module _ {L D : Type 0} (seen : L → LineSeen) (at : D → DoorSeen) where
   -- The control line submitted these steps.
   control_served : (size : ℕ) (control more : List Step) (first core next : MailState) (readings reads : List (Option ℕ))
       (seats : List (Attendant L)) (doors : List D)
-      → AreServed seen at size control first readings core seats doors → SeatWent (length seats) core reads more [] next
-      → AreServed seen at size (control ++ more) first (readings ++ reads) next seats doors
-  control_served size control more first core next readings reads seats doors s w = record {
-    history = s.history ++ w.history;
-    took = λ t. s.took t ++ w.took t;
-    went = core_on first core next readings reads s.history w.history s.took w.took s.went w.went;
-    mailed = s.mailed;
-    doored = s.doored;
-    each = λ t below a d.
-        let differs : t ≢ length seats = λ e. omega arith in
-        subst (λ (xs : List Step). IsTended seen size (slice_index_or seats t a) (at (slice_index_or doors t d)) xs (s.took t ++ w.took t))
-        (sym (still t differs))
-        (subst (λ (ys : List Answer). IsTended seen size (slice_index_or seats t a) (at (slice_index_or doors t d))
-        (steps_at t s.history) ys) (took_still t differs) (s.each t below a d));
-    control_is = steps_append (length seats) s.history w.history
-        ∙ ap (λ (xs : List Step). xs ++ steps_at (length seats) w.history) s.control_is
-        ∙ ap (λ (xs : List Step). control ++ xs) w.submitted_is;
-    nobody_else = λ t above. still t (λ e. omega arith) ∙ s.nobody_else t above;
-  }
+      → (s : AreServed seen at size control first readings core seats doors) → SeatWent (length seats) core reads more [] next
+      → AreServedFrom s.history seen at size (control ++ more) first (readings ++ reads) next seats doors
+  control_served size control more first core next readings reads seats doors s w = (
+    record {
+      history = s.history ++ w.history;
+      took = λ t. s.took t ++ w.took t;
+      went = core_on first core next readings reads s.history w.history s.took w.took s.went w.went;
+      mailed = s.mailed;
+      doored = s.doored;
+      each = λ t below a d.
+          let differs : t ≢ length seats = λ e. omega arith in
+          subst (λ (xs : List Step). IsTended seen size (slice_index_or seats t a) (at (slice_index_or doors t d)) xs (s.took t ++ w.took t))
+          (sym (still t differs))
+          (subst (λ (ys : List Answer). IsTended seen size (slice_index_or seats t a) (at (slice_index_or doors t d))
+          (steps_at t s.history) ys) (took_still t differs) (s.each t below a d));
+      few = λ t below quiet a d. subst (λ (ys : List Answer). closes ys ≤ ended_lines (slice_index_or seats t a) (at (slice_index_or doors t d)))
+          (took_still t (λ e. omega arith)) (s.few t below quiet a d);
+      control_is = steps_append (length seats) s.history w.history
+          ∙ ap (λ (xs : List Step). xs ++ steps_at (length seats) w.history) s.control_is
+          ∙ ap (λ (xs : List Step). control ++ xs) w.submitted_is;
+      nobody_else = λ t above. still t (λ e. omega arith) ∙ s.nobody_else t above;
+    },
+    w.history,
+    refl,
+  )
     where
       still : (t : ℕ) → t ≢ length seats → steps_at t (s.history ++ w.history) ≡ steps_at t s.history
       still t differs = steps_append t s.history w.history ∙ ap (λ (xs : List Step). steps_at t s.history ++ xs) (w.others_still t differs)
@@ -175,24 +233,33 @@ module _ {L D : Type 0} (seen : L → LineSeen) (at : D → DoorSeen) where
   -- The seats rested, whatever else was done with them and their doors.
   rested_served : (same : D → D → Type 0) (size : ℕ) (control : List Step) (first core : MailState) (readings : List (Option ℕ))
       (seats later : List (Attendant L)) (doors after : List D)
-      → AllRested seen at same seats doors later after → AreServed seen at size control first readings core seats doors
-      → AreServed seen at size control first readings core later after
-  rested_served same size control first core readings seats later doors after r s = record {
-    history = s.history;
-    took = s.took;
-    went = s.went;
-    mailed = s.mailed ∙ sym r.many;
-    doored = r.doored ∙ s.doored ∙ sym r.many;
-    each = λ t below a d.
-        let here : t < length seats = let e = r.many in omega (arith, below) in
-        subst (λ (xs : List Step). IsTended seen size (slice_index_or later t a) (at (slice_index_or after t d)) xs (s.took t))
-        (append-nil (steps_at t s.history))
-        (subst (λ (ys : List Answer). IsTended seen size (slice_index_or later t a) (at (slice_index_or after t d))
-        (steps_at t s.history ++ []) ys) (append-nil (s.took t))
-        (r.each t here a d size (steps_at t s.history) (s.took t) (s.each t here a d)));
-    control_is = ap (λ n. steps_at n s.history) r.many ∙ s.control_is;
-    nobody_else = λ t above. s.nobody_else t (let e = r.many in omega (arith, above));
-  }
+      → AllRested seen at same seats doors later after → (s : AreServed seen at size control first readings core seats doors)
+      → AreServedFrom s.history seen at size control first readings core later after
+  rested_served same size control first core readings seats later doors after r s = (
+    record {
+      history = s.history;
+      took = s.took;
+      went = s.went;
+      mailed = s.mailed ∙ sym r.many;
+      doored = r.doored ∙ s.doored ∙ sym r.many;
+      each = λ t below a d.
+          let here : t < length seats = let e = r.many in omega (arith, below) in
+          subst (λ (xs : List Step). IsTended seen size (slice_index_or later t a) (at (slice_index_or after t d)) xs (s.took t))
+          (append-nil (steps_at t s.history))
+          (subst (λ (ys : List Answer). IsTended seen size (slice_index_or later t a) (at (slice_index_or after t d))
+          (steps_at t s.history ++ []) ys) (append-nil (s.took t))
+          (r.each t here a d size (steps_at t s.history) (s.took t) (s.each t here a d)).0);
+      few = λ t below quiet a d.
+          let here : t < length seats = let e = r.many in omega (arith, below) in
+          let grows = (r.each t here a d size (steps_at t s.history) (s.took t) (s.each t here a d)).1.grows in
+          let few = s.few t here quiet a d in
+          omega arith;
+      control_is = ap (λ n. steps_at n s.history) r.many ∙ s.control_is;
+      nobody_else = λ t above. s.nobody_else t (let e = r.many in omega (arith, above));
+    },
+    [],
+    sym (append-nil s.history),
+  )
 
   module _ {C K : Type 0} (machine : K → Machine) (compared : K → ℕ) (given : C → List (Option ℕ) → C → Type 0)
       (same : D → D → Type 0) where
@@ -204,10 +271,11 @@ module _ {L D : Type 0} (seen : L → LineSeen) (at : D → DoorSeen) where
       mailed = refl;
       many = refl;
       served = λ size before first readings s.
-          subst (λ (rs : List (Option ℕ)). AreServed seen at size (before ++ []) first rs
+          subst (λ (rs : List (Option ℕ)). AreServedFrom s.history seen at size (before ++ []) first rs
           (state_of machine compared core) row.seats.items row.doors.items) (sym (append-nil readings))
-          (subst (λ (xs : List Step). AreServed seen at size xs first readings
-          (state_of machine compared core) row.seats.items row.doors.items) (sym (append-nil before)) s);
+          (subst (λ (xs : List Step). AreServedFrom s.history seen at size xs first readings
+          (state_of machine compared core) row.seats.items row.doors.items) (sym (append-nil before))
+          (s, [], sym (append-nil s.history)));
       same_doors = λ handed_in h. h;
     }
 
@@ -222,11 +290,13 @@ module _ {L D : Type 0} (seen : L → LineSeen) (at : D → DoorSeen) where
       mailed = b.mailed ∙ a.mailed;
       many = b.many ∙ a.many;
       served = λ size before first readings s.
-          subst (λ (rs : List (Option ℕ)). AreServed seen at size (before ++ (control ++ more)) first rs
+          subst (λ (rs : List (Option ℕ)). AreServedFrom s.history seen at size (before ++ (control ++ more)) first rs
           (state_of machine compared new) later.seats.items later.doors.items) (append_assoc readings a.reads b.reads)
-          (subst (λ (xs : List Step). AreServed seen at size xs first ((readings ++ a.reads) ++ b.reads)
+          (subst (λ (xs : List Step). AreServedFrom s.history seen at size xs first ((readings ++ a.reads) ++ b.reads)
           (state_of machine compared new) later.seats.items later.doors.items) (append_assoc before control more)
-          (b.served size (before ++ control) first (readings ++ a.reads) (a.served size before first readings s)));
+          (let x = a.served size before first readings s in
+          let y = b.served size (before ++ control) first (readings ++ a.reads) x.0 in
+          (y.0, x.1 ++ y.1, y.2 ∙ ap (λ (h : List Entry). h ++ y.1) x.2 ∙ append_assoc s.history x.1 y.1)));
       same_doors = λ handed_in h. b.same_doors handed_in (a.same_doors handed_in h);
     }
 
@@ -266,11 +336,11 @@ module _ {L D : Type 0} (seen : L → LineSeen) (at : D → DoorSeen) where
           mailed = w.2.went.many;
           many = ap length seats_are ∙ length-set row.seats.items i next;
           served = λ size before first readings s.
-              subst (λ (xs : List (Attendant L)). AreServed seen at size (before ++ []) first (readings ++ w.0)
+              subst (λ (xs : List (Attendant L)). AreServedFrom s.history seen at size (before ++ []) first (readings ++ w.0)
               (state_of machine compared new) xs later.doors.items) (sym seats_are)
-              (subst (λ (xs : List D). AreServed seen at size (before ++ []) first (readings ++ w.0)
+              (subst (λ (xs : List D). AreServedFrom s.history seen at size (before ++ []) first (readings ++ w.0)
               (state_of machine compared new) so xs) (sym doors_are)
-              (subst (λ (xs : List Step). AreServed seen at size xs first (readings ++ w.0) (state_of machine compared new) so ds)
+              (subst (λ (xs : List Step). AreServedFrom s.history seen at size xs first (readings ++ w.0) (state_of machine compared new) so ds)
               (sym (append-nil before))
               (turn_served size before first (state_of machine compared old)
               (state_of machine compared new) readings w.0 row.seats.items row.doors.items i a next d door goes.0 goes.1 s
@@ -302,7 +372,7 @@ module _ {L D : Type 0} (seen : L → LineSeen) (at : D → DoorSeen) where
       mailed = w.2.went.many;
       many = refl;
       served = λ size before first readings s.
-          subst (λ (xs : List Step). AreServed seen at size xs first (readings ++ w.0)
+          subst (λ (xs : List Step). AreServedFrom s.history seen at size xs first (readings ++ w.0)
           (state_of machine compared new) row.seats.items row.doors.items) (sym (append-nil before))
           (time_served size before first (state_of machine compared old)
           (state_of machine compared new) readings w.0 row.seats.items row.doors.items i s w.2);
@@ -341,9 +411,9 @@ module _ {L D : Type 0} (seen : L → LineSeen) (at : D → DoorSeen) where
       mailed = refl;
       many = r.many;
       served = λ size before first readings s.
-          subst (λ (rs : List (Option ℕ)). AreServed seen at size (before ++ []) first rs
+          subst (λ (rs : List (Option ℕ)). AreServedFrom s.history seen at size (before ++ []) first rs
           (state_of machine compared core) later.seats.items later.doors.items) (sym (append-nil readings))
-          (subst (λ (xs : List Step). AreServed seen at size xs first readings
+          (subst (λ (xs : List Step). AreServedFrom s.history seen at size xs first readings
           (state_of machine compared core) later.seats.items later.doors.items) (sym (append-nil before))
           (rested_served same size before first (state_of machine compared core) readings row.seats.items later.seats.items row.doors.items
           later.doors.items r s));

@@ -112,6 +112,7 @@ module _ {L D : Type 0} (seen : L → LineSeen) (at : D → DoorSeen) (settings 
             let at_door : t < length doors = omega arith in
             tended_new seen settings.max_job_size (slice_index_or seats t a) (at (slice_index_or doors t d)) (seats_new t a below)
             (doors_new t d at_door);
+        few = λ t below none a d. omega arith;
         control_is = refl;
         nobody_else = λ t above. refl;
       }

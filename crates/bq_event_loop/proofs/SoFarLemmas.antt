@@ -1,9 +1,10 @@
 -- A run that has not ended: what was served so far, in the terms of the promise.
-use Rattle.std.proofs.Common.{◌≡◌, ℕ, suc, ◌+◌, ◌<◌, Bool, true, List, [], ◌∷◌, ◌++◌, Option, Some, None}
+use Rattle.std.proofs.Common.{◌≡◌, ℕ, suc, ◌+◌, ◌<◌, ◌≤◌, Bool, true, List, [], ◌∷◌, ◌++◌, Option, Some, None}
 use Rattle.std.proofs.Common.{map, length, replicate, refl, sym, ap, ◌∙◌, arith, subst, inl, inr, add-zero, append-nil, append_assoc, slice_index_or, is_some}
 use Rattle.std.proofs.lemmas.List.{replicate-append-replicate}
 use Rattle.std.specs.List.{All}
 use Rattle.std.specs.Io.KnownBytes.{Consumes}
+use Rattle.bq_job.specs.beside.Closings.{closes}
 use Rattle.bq_job.specs.declared.answer.Answer.{Answer}
 use Rattle.bq_job.specs.declared.settings.Settings.{Settings}
 use Rattle.bq_job.specs.declared.step.Step.{Step}
@@ -12,6 +13,7 @@ use Rattle.bq_job.specs.machine.Dispatch.{GivenAnswer}
 use Rattle.bq_job.specs.machine.Machine.{Machine, new_machine}
 use Rattle.bq_job.specs.promise.ControlDid.{drains, drains_from, one_if}
 use Rattle.bq_job.specs.promise.History.{ArePickedFrom, LineOver, moments_heard, steps_at}
+use Rattle.bq_job.specs.promise.LineOwed.{AreLinesOwed}
 use Rattle.bq_job.specs.promise.LineSteps.{LineSeen}
 use Rattle.bq_job.specs.promise.Runs.{Entry, Run, answers_to}
 use Rattle.bq_job.specs.promise.SoFar.{AreDoorsOwedSoFar, IsControlSoFar, IsDoorOwedSoFar, IsHistorySoFar, IsLineOwedSoFar, IsOutOwed}
@@ -20,11 +22,13 @@ use Rattle.bq_host.specs.Compared.{AreCompared}
 use Rattle.bq_host.specs.MailStates.{MailState, IsNewMailState, waiting}
 use Rattle.bq_host.proofs.HasComparedLemmas.{compared_all}
 use Rattle.bq_host.proofs.WentLemmas.{none_waits}
+use Rattle.bq_job.proofs.JoinLemmas.{seat_owed_so_far}
+use Rattle.bq_line.proofs.CountedLemmas.{got_few}
 use Rattle.bq_line.proofs.LineSoFarLemmas.{line_so_far}
 use Rattle.bq_line.specs.ControlRead.{IsReadToEnd}
 use Rattle.bq_line.specs.ControlSeen.{ControlSeen}
 use Rattle.bq_line.specs.Attending.{IsAt}
-use Rattle.bq_line.specs.Tending.{AreSame, DoorSeen, IsNewDoor, IsNewSeat, IsPlaced, IsTended, door_seen}
+use Rattle.bq_line.specs.Tending.{AreSame, DoorSeen, IsNewDoor, IsNewSeat, IsPlaced, IsTended, door_seen, ended_lines}
 use Rattle.bq_line.specs.declared.attendant.Attendant.{Attendant}
 use Rattle.bq_line.specs.declared.attendant.LinePlace.{LinePlace}
 use Rattle.bq_line.specs.declared.attendant.LinePlace.TheVariants as places
@@ -120,20 +124,25 @@ module _ {L : Type 0} (seen : L → LineSeen) where
   out_held places.Leaving door p = p.0
   out_held places.Done door p = p.0
 
+  -- the answers of the connections that have ended, and then those of the open connection
+  got_first : (got getting more taken : List Answer) → taken ≡ got ++ getting → taken ++ more ≡ got ++ (getting ++ more)
+  got_first got getting more taken is = ap (λ (xs : List Answer). xs ++ more) is ∙ append_assoc got getting more
+
   out_so_far : (size : ℕ) (a : Attendant L) (door : DoorSeen) (submitted : List Step) (taken more : List Answer)
-      → IsTended seen size a door submitted taken
+      → (t : IsTended seen size a door submitted taken)
+      → AreLinesOwed size door.lines_over t.attends.before t.attends.got
       → IsDoorOwedSoFar size (record { over = door.lines_over; out = line_out seen a.place; is_out = door.is_out }) submitted (taken ++ more)
-  out_so_far size a door submitted taken more t =
+  out_so_far size a door submitted taken more t owed =
       let did = t.attends in
       record {
         own = did.before;
         current = did.now;
         got = did.got;
         later = did.getting ++ more;
-        of_lines = did.of_lines;
+        of_lines = owed;
         of_out = out_at size a.machine a.place did.now did.getting more did.at_place;
         taken_is = did.submitted_is;
-        answers_are = ap (λ (xs : List Answer). xs ++ more) did.taken_is ∙ append_assoc did.got did.getting more;
+        answers_are = got_first did.got did.getting more taken did.taken_is;
         held = out_held a.place door t.placed;
       }
 
@@ -143,17 +152,30 @@ module _ {L D : Type 0} (seen : L → LineSeen) (at : D → DoorSeen) (settings 
   -- a seat with its door, the answers that it was given, and how many of them are `Closed`
   record IsSeatSoFar (history : List Entry) (took : ℕ → List Answer) (given : List GivenAnswer) (core : MailState) (t : ℕ)
       (a : Attendant L) (door : DoorSeen) : Type 0 where
+    within : t < settings.seats
     tended : IsTended seen settings.max_job_size a door (steps_at t history) (took t)
     answers_are : answers_to t given ≡ took t ++ waiting t core
+    few : closes (took t) ≤ ended_lines a door
 
-  module _ (history : List Entry) (took : ℕ → List Answer) (given : List GivenAnswer) (core : MailState) where
+  module _ (history : List Entry) (took : ℕ → List Answer) (given : List GivenAnswer) (core : MailState)
+      (runs : Run (new_machine settings) history given core.core) where
+    -- The connections of the seat that have ended are owed what their clients received.
+    lines_so_far : (t : ℕ) (a : Attendant L) (door : DoorSeen) (s : IsSeatSoFar history took given core t a door)
+        → AreLinesOwed settings.max_job_size door.lines_over s.tended.attends.before s.tended.attends.got
+    lines_so_far t a door s =
+        let did = s.tended.attends in
+        seat_owed_so_far settings settings.max_job_size t door.lines_over did.before did.now did.got (did.getting ++ waiting t core)
+        history given core.core s.within runs did.submitted_is
+        (s.answers_are ∙ got_first seen did.got did.getting (waiting t core) (took t) did.taken_is)
+        (got_few seen settings.max_job_size a door (steps_at t history) (took t) s.tended s.few) did.of_lines
+
     seat_so_far : (t : ℕ) (a : Attendant L) (d : D) → IsSeatSoFar history took given core t a (at d)
         → IsDoorOwedSoFar settings.max_job_size (record { over = (at d).lines_over; out = line_out seen a.place; is_out = (at d).is_out }) (steps_at t history)
         (answers_to t given)
     seat_so_far t a d s =
         subst (λ (xs : List Answer). IsDoorOwedSoFar settings.max_job_size (record { over = (at d).lines_over; out = line_out seen a.place; is_out = (at d).is_out })
         (steps_at t history) xs) (sym s.answers_are)
-        (out_so_far seen settings.max_job_size a (at d) (steps_at t history) (took t) (waiting t core) s.tended)
+        (out_so_far seen settings.max_job_size a (at d) (steps_at t history) (took t) (waiting t core) s.tended (lines_so_far t a (at d) s))
 
     -- the doors from this seat on
     doors_begun : (k : ℕ) (seats : List (Attendant L)) (doors : List D)
@@ -188,22 +210,25 @@ module _ {L D : Type 0} (seen : L → LineSeen) (at : D → DoorSeen) (settings 
     pub served_so_far : (text : List ℕ) (failed : Bool) → IsControlSoFar text failed control → IsBegunSo text failed
     served_so_far text failed told =
         let control_is : steps_at settings.seats s.history ≡ control = ap (λ n. steps_at n s.history) (sym many) ∙ s.control_is in
+        let runs = subst (λ (m : Machine). Run m s.history s.went.given core.core) new.core s.went.runs in
         record {
           history = record {
             history = s.history;
             given = s.went.given;
             run = record {
-              runs = subst (λ (m : Machine). Run m s.history s.went.given core.core) new.core s.went.runs;
+              runs = runs;
               timed = subst (λ (n : ℕ). ArePickedFrom (map (λ (e : Entry). e.moment) s.history) (moments_heard n readings)) new.heard
                   s.went.timed.picked;
             };
             many = many_doors seats doors s.doored ∙ many;
-            of_doors = doors_begun s.history s.took s.went.given core 0 seats doors (λ j below a d.
+            of_doors = doors_begun s.history s.took s.went.given core runs 0 seats doors (λ j below a d.
                 subst (λ (n : ℕ). IsSeatSoFar s.history s.took s.went.given core n (slice_index_or seats j a) (at (slice_index_or doors j d)))
                 (let e : j ≡ 0 + j = omega arith in e) (record {
+                  within = omega arith;
                   tended = s.each j below a d;
                   answers_are = ap (λ (xs : List Answer). xs ++ answers_to j s.went.given) (sym (none_waits settings first j new))
                       ∙ s.went.tied j (let m = s.mailed in omega arith);
+                  few = s.few j below (none_waits settings first j new) a d;
                 }));
             of_control = subst (λ (xs : List Step). IsControlSoFar text failed xs) (sym control_is) told;
             of_nobody_else = up_to settings.seats s.history (λ n above. s.nobody_else n (omega arith));
@@ -254,7 +279,7 @@ module _ {L D C I K : Type 0} (given : Gives C) (line_seen : L → LineSeen) (is
     gave = on.gave begun.clock s.readings s.gave;
     submits = tells begun.left begun.may_fail s.told s.submits;
     many = on.many ∙ s.many;
-    served = on.served begun.settings.max_job_size s.told s.first s.readings s.served;
+    served = (on.served begun.settings.max_job_size s.told s.first s.readings s.served).0;
     same_doors = on.same_doors begun.doors s.same_doors;
   }
 

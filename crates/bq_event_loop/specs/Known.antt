@@ -44,15 +44,24 @@ pub record ChangesOnly {L : Type 0} (one : ℕ) (old new : List (Attendant L)) :
 
 -- At most the seat of this turn was changed.
 abbrev pub ChangesOnlyIn : {L : Type 0} → Turn → List (Attendant L) → List (Attendant L) → Type 0
-ChangesOnlyIn (turns.Seat seat) old new = ChangesOnly seat old new
-ChangesOnlyIn (turns.Command seat) old new = ChangesOnly seat old new
+ChangesOnlyIn (turns.Serve seat extent) old new = ChangesOnly seat old new
 ChangesOnlyIn _ old new = new ≡ old
 
 -- A seat that acts or checks for a client in a turn is one that the turns let act.
 abbrev pub IsListedIn : (ℕ → Bool) → Turn → Type 0
-IsListedIn listed (turns.Seat seat) = listed seat ≡ true
-IsListedIn listed (turns.Command seat) = listed seat ≡ true
+IsListedIn listed (turns.Serve seat extent) = listed seat ≡ true
+IsListedIn listed (turns.Look seat) = listed seat ≡ true
+IsListedIn listed (turns.HandOn seat) = listed seat ≡ true
 IsListedIn listed _ = Unit {0}
+
+-- The seat that checked for a client and found none is between two connections.
+abbrev pub IsFreeSeat : {L : Type 0} → Option ℕ → List (Attendant L) → Type 0
+IsFreeSeat {L} free seats = (seat : ℕ) → free ≡ Some seat → (a : Attendant L) → (slice_index_or seats seat a).place ≡ places.Between
+
+-- Nothing moves at the still seat.
+abbrev pub IsStillSeat : {L : Type 0} → (L → Bool) → (L → Bool) → Option ℕ → List (Attendant L) → List (List Answer) → Type 0
+IsStillSeat {L} gives takes still seats mails = (seat : ℕ) → still ≡ Some seat → (a : Attendant L)
+    → IsStill gives takes (slice_index_or seats seat a) (slice_index_or mails seat [])
 
 -- All that were let act still are.
 abbrev pub KeepsAll : (ℕ → Bool) → (ℕ → Bool) → Type 0

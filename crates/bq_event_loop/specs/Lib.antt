@@ -1,13 +1,14 @@
 pub mod Accepting
 pub mod ControlTold
+pub mod ControlWatching
 pub mod DueTimes
 pub mod EventLoopRuns
 pub mod Known
 pub mod Listings
-pub mod Looking
 pub mod LoopCores
 pub mod Marks
 pub mod NewLoops
+pub mod Refused
 pub mod Rows
 pub mod Serving
 pub mod Sleeping

@@ -1,5 +1,6 @@
 -- Seats that are served at the core of a loop, in any order.
 use Rattle.std.specs.Prelude.{ℕ, ◌≡◌, ◌<◌, ◌≤◌, Bool, List, [], ◌++◌, length, Option, slice_index_or}
+use Rattle.bq_job.specs.beside.Closings.{closes}
 use Rattle.bq_job.specs.declared.answer.Answer.{Answer}
 use Rattle.bq_job.specs.declared.step.Step.{Step}
 use Rattle.bq_job.specs.machine.Machine.{Machine}
@@ -7,11 +8,11 @@ use Rattle.bq_job.specs.promise.History.{steps_at}
 use Rattle.bq_job.specs.promise.LineSteps.{LineSeen}
 use Rattle.bq_job.specs.promise.Runs.{Entry}
 use Rattle.bq_line.specs.GivenReadings.{GaveReadings}
-use Rattle.bq_line.specs.Tending.{AreSame, DoorSeen, IsTended}
+use Rattle.bq_line.specs.Tending.{AreSame, DoorSeen, IsTended, ended_lines}
 use Rattle.bq_line.specs.declared.attendant.Attendant.{Attendant}
 use Rattle.bq_event_loop.specs.LoopCores.{state_of}
 use Rattle.bq_host.specs.Clocks.{Gives}
-use Rattle.bq_host.specs.MailStates.{IsInOrder, IsNewMailState, MailState}
+use Rattle.bq_host.specs.MailStates.{IsInOrder, IsNewMailState, MailState, waiting}
 use Rattle.bq_line.specs.ControlSeen.{ControlSeen}
 use Rattle.bq_event_loop.specs.ControlTold.{HasTold}
 use Rattle.bq_event_loop.specs.declared.control_turns.ControlTurns.{ControlTurns}
@@ -34,8 +35,17 @@ pub record AreServed {L D : Type 0} (seen : L → LineSeen) (at : D → DoorSeen
   pub doored : length doors ≡ length seats
   pub each : (seat : ℕ) → seat < length seats → (a : Attendant L) (d : D)
       → IsTended seen max_job_size (slice_index_or seats seat a) (at (slice_index_or doors seat d)) (steps_at seat history) (took seat)
+  pub few : (seat : ℕ) → seat < length seats → waiting seat first ≡ [] → (a : Attendant L) (d : D)
+      → closes (took seat) ≤ ended_lines (slice_index_or seats seat a) (at (slice_index_or doors seat d))
   pub control_is : steps_at (length seats) history ≡ control
   pub nobody_else : (seat : ℕ) → length seats < seat → steps_at seat history ≡ []
+
+-- The same, and its history begins with this one.
+abbrev pub AreServedFrom : {L D : Type 0} → List Entry → (L → LineSeen) → (D → DoorSeen) → ℕ → List Step → MailState
+    → List (Option ℕ) → MailState → List (Attendant L) → List D → Type 0
+AreServedFrom earlier seen at max_job_size control first readings core seats doors =
+    (served : AreServed seen at max_job_size control first readings core seats doors) × (more : List Entry)
+    × (served.history ≡ earlier ++ more)
 
 -- Whatever was served before, the service went on with these readings of the clock and these steps
 -- of the control line. Whatever the history was before, the later one begins with it.
@@ -47,8 +57,8 @@ pub record ServesOn {C K L D : Type 0} (machine : K → Machine) (compared : K �
   pub mailed : length new.mails.items ≡ length old.mails.items
   pub many : length later.seats.items ≡ length row.seats.items
   pub served : (max_job_size : ℕ) (before : List Step) (first : MailState) (readings : List (Option ℕ))
-      → AreServed seen at max_job_size before first readings (state_of machine compared old) row.seats.items row.doors.items
-      → AreServed seen at max_job_size (before ++ control) first (readings ++ reads)
+      → (earlier : AreServed seen at max_job_size before first readings (state_of machine compared old) row.seats.items row.doors.items)
+      → AreServedFrom earlier.history seen at max_job_size (before ++ control) first (readings ++ reads)
       (state_of machine compared new) later.seats.items later.doors.items
   pub same_doors : (doors : List D) → AreSame same doors row.doors.items → AreSame same doors later.doors.items
 

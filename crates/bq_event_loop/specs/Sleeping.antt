@@ -13,6 +13,7 @@ use Rattle.bq_event_loop.specs.declared.control_turns.Stage.TheVariants as stage
 use Rattle.bq_event_loop.specs.declared.loop_core.LoopCore.{LoopCore}
 use Rattle.bq_event_loop.specs.declared.poller.Stage.{Stage as Part}
 use Rattle.bq_event_loop.specs.declared.poller.Stage.TheVariants as parts
+use Rattle.bq_event_loop.specs.declared.poller.control_watch.ControlKnown.TheVariants as knowns
 use Rattle.bq_event_loop.specs.declared.poller.control_watch.ControlWatch.{ControlWatch}
 use Rattle.bq_event_loop.specs.declared.poller.control_watch.ControlWatch.TheVariants as watches
 use Rattle.bq_event_loop.specs.declared.poller.visits.Visit.{Visit}
@@ -22,6 +23,9 @@ use Rattle.bq_event_loop.specs.declared.turns.ControlStands.TheVariants as stand
 -- the seat of the visit that is under way, or the one that checks for a client
 abbrev pub visited_by : Part → Visit → Option ℕ
 visited_by (parts.Visit part) visit = Some visit.seat
+visited_by (parts.DoorLook seat) visit = Some seat
+visited_by (parts.VisitLook seat part) visit = Some seat
+visited_by (parts.HandOn seat part) visit = Some seat
 visited_by _ visit = None
 
 -- the state of a control line
@@ -35,9 +39,15 @@ stands_of false stages.Reads = stands.Reads
 -- the last report, and the system will report more of it.
 abbrev pub IsControlStill : ControlWatch → ControlStands → Type 0
 IsControlStill watches.Over standing = Unit {0}
-IsControlStill (watches.Watched fd false) stands.Owes = ⊥
-IsControlStill (watches.Watched fd false) _ = Unit {0}
+IsControlStill (watches.Watched fd knowns.Waits) stands.Owes = ⊥
+IsControlStill (watches.Watched fd knowns.Waits) _ = Unit {0}
 IsControlStill _ standing = ⊥
+
+-- The control line was read to its end, or the system will report more of it.
+abbrev pub is_awaited : ControlWatch → Bool
+is_awaited watches.Over = true
+is_awaited (watches.Watched fd knowns.Waits) = true
+is_awaited watch = false
 
 -- The core has sorted all answers into the mail of their seats, and a wait of at most this many
 -- milliseconds ends no later than what is due.

@@ -1,15 +1,14 @@
 -- The limits of a visit, and what the clock tells of a round.
 use Rattle.std.specs.Prelude.{ℕ, ◌-◌, Bool, true, false, nat_lt, not, ◌||◌, if◌then◌else◌}
-use Rattle.bq_line.specs.declared.attendant.LinePlace.{LinePlace}
-use Rattle.bq_line.specs.declared.attendant.LinePlace.TheVariants as places
 use Rattle.bq_line.specs.declared.attendant.Progress.{Progress}
 use Rattle.bq_line.specs.declared.attendant.Progress.TheVariants as results
-use Rattle.bq_seat.specs.declared.machine.Action.TheVariants as actions
 use Rattle.bq_event_loop.specs.declared.poller.visits.Part.{Part}
 use Rattle.bq_event_loop.specs.declared.poller.visits.Part.TheVariants as parts
 use Rattle.bq_event_loop.specs.declared.poller.visits.Share.{Share}
 use Rattle.bq_event_loop.specs.declared.poller.visits.Share.TheVariants as shares
 use Rattle.bq_event_loop.specs.declared.poller.visits.Visit.{Visit}
+use Rattle.bq_event_loop.specs.declared.turns.Extent.{Extent}
+use Rattle.bq_event_loop.specs.declared.turns.Extent.TheVariants as extents
 use Rattle.bq_event_loop.specs.declared.turns.Turn.{Turn}
 use Rattle.bq_event_loop.specs.declared.turns.Turn.TheVariants as turns
 
@@ -38,19 +37,16 @@ left_after _ cost left = left - cost
 abbrev pub is_over_after : ℕ → ℕ → Bool → Bool
 is_over_after took time was_over = was_over || not (nat_lt took time)
 
--- a turn for a whole command in the last part of a round, and otherwise for one action
-abbrev pub turn_in : Part → ℕ → Turn
-turn_in parts.Answers seat = turns.Command seat
-turn_in _ seat = turns.Seat seat
+-- a turn for a whole command in the last part of a round, and otherwise for one action; once no
+-- further command begins, for the rest of an answer
+abbrev pub extent_in : Bool → Part → Extent
+extent_in is_over parts.Reads = extents.Read
+extent_in is_over parts.Steps = extents.Step
+extent_in true parts.Answers = extents.Answer
+extent_in false parts.Answers = extents.Command
 
--- Once no further command begins, a turn is one action.
 abbrev pub turn_of : Visit → Turn
-turn_of v = if v.is_over then turns.Seat v.seat else turn_in v.part v.seat
-
--- The next action of a seat writes.
-abbrev pub is_writing : {L : Type 0} → LinePlace L → Bool
-is_writing (places.On line (actions.Write answer) sent) = true
-is_writing _ = false
+turn_of v = turns.Serve v.seat (extent_in v.is_over v.part)
 
 -- A step of this part took so long that it held up the seat after it.
 abbrev pub holds_up : Part → ℕ → Bool

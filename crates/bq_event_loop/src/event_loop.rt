@@ -1,13 +1,15 @@
 //! The run by an event loop over epoll.
-ghost use Rattle.std.specs.Prelude.{◌≡◌, ◌↔◌, ◌&&◌, ◌==◌, true, false, not, IfOk, IsErrOf, IsTrue, vec_len};
+ghost use Rattle.std.specs.Prelude.{◌≡◌, ◌↔◌, ◌&&◌, ◌==◌, true, false, not, IfErr, IfOk, IsTrue, vec_len};
 ghost use Rattle.std.specs.List.{All};
 ghost use Rattle.bq_core_api.specs.Limits.{are_in_range};
 ghost use Rattle.bq_job.specs.laws.TheHeadline.{AreJobsServedIn};
 ghost use Rattle.bq_line.specs.Tending.{AreSame, IsNewDoor, door_seen};
 ghost use Rattle.bq_event_loop.specs.EventLoopRuns.{IsEventLoopRun, IsEventLoopSoFar};
+ghost use Rattle.bq_event_loop.specs.Refused.{IsRefusedBy};
 
 use crate::poller::Poller;
-use crate::run::{EventLoopRun, run_turns};
+use crate::run::{EventLoopRun, RunRefused, run_turns};
+use crate::watch::Watch;
 use bq_core_api::{Config, QueueCore};
 use bq_host::RunFault;
 use bq_line::Door;
@@ -44,8 +46,8 @@ pub fn run_event_loop<
     clock: C,
     control: I,
     control_source: Option<RawFd>,
-) -> Result<EventLoopRun<L, D, C, I, K>, RunFault>
-    // No door has a line that is open or was served, and no door is at its end.
+) -> Result<EventLoopRun<L, D, C, I, K>, RunRefused<D>>
+    // No door has a connection that is open or was served, and no door is at its end.
     requires new { All
         (λ door. IsNewDoor (door_seen D.is_out D.is_at_end D.lines_over door)) doors.items }
     // There is one history of the steps of all clients and of the control line, each at the moment
@@ -72,9 +74,12 @@ pub fn run_event_loop<
     ensures same { IfOk result (λ run. AreSame D.same doors.items run.doors.items) }
     // The core can be used further.
     ensures settings { IfOk result (λ run. (K.machine run.core).settings ≡ config) }
-    ensures bad_configuration { IsErrOf result RunFault.BadConfiguration
+    // A run that did not begin opened no door.
+    ensures unopened { IfErr result (λ refused. refused.doors ≡ doors) }
+    ensures bad_configuration { IsRefusedBy result RunFault.BadConfiguration
         ↔ IsTrue (not (are_in_range config && vec_len doors == config.seats)) }
 {
-    let turns = Poller::new(rt, alloc, config.seats, doors.as_slice(), control_source);
-    run_turns(alloc, config, doors, clock, control, turns)
+    let turns = Poller::new(alloc, config.seats);
+    let sleeper = Watch::new(rt, alloc, doors.as_slice(), control_source);
+    run_turns(alloc, config, doors, clock, control, turns, sleeper)
 }

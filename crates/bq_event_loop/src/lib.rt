@@ -3,13 +3,19 @@
 //! next and when; whatever it chooses, every answer is right.
 #![tactic(auto)]
 
+pub use doors::Doors;
 pub use event_loop::run_event_loop;
 pub use poller::Poller;
 pub use row::Row;
-pub use run::{EventLoop, EventLoopRun, run_turns};
-pub use turns::{Began, ControlReads, ControlStands, News, SoFar, Turn, Turns, TurnsFault};
+pub use run::{EventLoop, EventLoopRun, RunRefused, run_turns};
+pub use sleeper::{Report, Sleeper};
+pub use turns::{
+    Began, ControlReads, ControlStands, Extent, News, SoFar, Stands, Turn, Turns, TurnsFault,
+};
+pub use watch::Watch;
 
 mod control_turns;
+mod doors;
 mod event_loop;
 mod loop_core;
 mod poller;
@@ -17,6 +23,9 @@ mod row;
 mod run;
 mod seat_queue;
 mod serve;
+mod sleeper;
 mod still;
 mod turns;
+mod waiting;
+mod watch;
 mod woken;

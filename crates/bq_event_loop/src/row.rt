@@ -6,7 +6,8 @@ ghost use Rattle.bq_job.specs.declared.answer.Answer.{Answer};
 ghost use Rattle.bq_event_loop.specs.Still.{IsStill};
 ghost use Rattle.bq_line.specs.Tending.{DoorSeen, IsNewSeat, IsPlaced, Tends, door_seen};
 
-use crate::still::is_still;
+use crate::still::{is_still, stands_of};
+use crate::turns::Stands;
 use bq_job::NoMemory;
 use bq_line::attendant::{Attendant, LinePlace, Looked};
 use bq_line::line::{Line, ReadBuffer, Readiness};
@@ -34,9 +35,24 @@ impl<L: Line + Drop, D: Door<Line = L>> Row<L, D> {
         self.seats.len()
     }
 
-    /// Returns the seat with this number.
-    pub fn seat(&self, seat: usize) -> Option<&Attendant<L>> {
-        self.seats.get(seat)
+    /// Returns what a seat does next, or `Done` if it does not exist.
+    pub fn stands(&self, seat: usize) -> Stands
+        ensures { (a : Attendant L) → seat < length self.now.seats.items
+            → (slice_index_or self.now.seats.items seat a).place ≡ LinePlace.Between → result ≡ Stands.Between }
+    {
+        match self.seats.get(seat) {
+            Some(seat) => stands_of(seat),
+            None => Stands::Done,
+        }
+    }
+
+    /// Returns true if a seat has to read or write again although nothing moved and nothing will be
+    /// reported.
+    pub fn tries_again(&self, seat: usize) -> bool {
+        match self.seats.get(seat) {
+            Some(seat) => seat.tries_again(),
+            None => false,
+        }
     }
 
     /// Returns true if every seat is done.

@@ -1,5 +1,5 @@
 //! The run of many doors by one thread that owns the core.
-ghost use Rattle.std.specs.Prelude.{◌≡◌, ◌↔◌, ◌&&◌, ◌==◌, true, false, not, length, Ok, IfOk, IsErrOf, IsTrue, vec_len};
+ghost use Rattle.std.specs.Prelude.{◌≡◌, ◌↔◌, ◌&&◌, ◌==◌, true, false, not, length, Ok, IfErr, IfOk, IsErrOf, IsTrue, vec_len};
 ghost use Rattle.std.specs.List.{All};
 ghost use Rattle.bq_core_api.specs.Limits.{are_in_range};
 ghost use Rattle.bq_job.specs.laws.TheHeadline.{AreJobsServedIn};
@@ -7,6 +7,7 @@ ghost use Rattle.bq_line.specs.Tending.{AreSame, IsNewDoor, IsNewSeat, door_seen
 ghost use Rattle.bq_event_loop.specs.EventLoopRuns.{IsEventLoopRun, IsEventLoopSoFar};
 ghost use Rattle.bq_event_loop.specs.Known.{KnowsAll};
 ghost use Rattle.bq_event_loop.specs.LoopCores.{state_of};
+ghost use Rattle.bq_event_loop.specs.Refused.{IsRefusedBy};
 ghost use Rattle.bq_event_loop.specs.SoFar.{beginning};
 ghost use Rattle.bq_event_loop.specs.WakeLists.{none_waits};
 ghost use Rattle.bq_host.specs.MailStates.{IsInOrder, IsNewMailState};
@@ -15,6 +16,7 @@ use crate::control_turns::ControlTurns;
 use crate::loop_core::LoopCore;
 use crate::row::{Row, new_seats};
 use crate::serve::serve;
+use crate::sleeper::Sleeper;
 use crate::turns::{Began, Turns, TurnsFault};
 use bq_core_api::{Config, QueueCore};
 use bq_host::RunFault;
@@ -24,7 +26,7 @@ use bq_line::attendant::Attendant;
 use bq_line::buffers::Buffers;
 use bq_line::clock::Clock;
 use bq_line::control_line::{ControlLine, ControlReader};
-use bq_line::line::Line;
+use bq_line::line::{Line, ReadBuffer};
 use std::alloc::Global;
 use std::snapshot::Snapshot;
 
@@ -42,12 +44,21 @@ pub struct EventLoopRun<L, D, C, I, K> {
     pub is_over: bool,
 }
 
+/// A run that did not begin.
+#[derive(Drop)]
+pub struct RunRefused<D> {
+    pub fault: RunFault,
+    /// The doors as they were passed in: none was opened.
+    pub doors: Vec<D, Global>,
+}
+
 /// An event loop that is ready to run: a new core with its clock, the seats, and the turns.
 #[derive(Drop)]
 pub struct EventLoop<T: Turns + Drop, L: Line + Drop, C: Clock + Drop, K: QueueCore + Drop> {
     config: Config,
     core: LoopCore<C, K>,
     seats: Vec<Attendant<L>, Global>,
+    buffer: ReadBuffer,
     turns: T,
 }
 
@@ -76,11 +87,15 @@ impl<T: Turns + Drop, L: Line + Drop, C: Clock + Drop, K: QueueCore + Drop> Even
         let Ok(seats) = new_seats(alloc, config.seats, config.max_job_size) else {
             return Err(RunFault::NoMemory);
         };
+        let Ok(buffer) = ReadBuffer::new(alloc) else {
+            return Err(RunFault::NoMemory);
+        };
         match turns {
             Ok(turns) => Ok(EventLoop {
                 config,
                 core,
                 seats,
+                buffer,
                 turns,
             }),
             Err(fault) => Err(fault.as_run_fault()),
@@ -93,10 +108,11 @@ impl<T: Turns + Drop, L: Line + Drop, C: Clock + Drop, K: QueueCore + Drop> Even
     /// `drain` starts draining.
     ///
     /// It cannot fail: what may fail was done by `new`.
-    pub fn run<D: Door<Line = L> + Drop, I: ControlReader + Drop>(
+    pub fn run<W: Sleeper, D: Door<Line = L> + Drop, I: ControlReader + Drop>(
         self,
         doors: Vec<D, Global>,
         control: I,
+        sleeper: &mut W,
     ) -> EventLoopRun<L, D, C, I, K>
         requires ready { IsNewLoop K.machine K.comparisons self }
         requires doored { length doors.items ≡ self.config.seats }
@@ -136,10 +152,20 @@ impl<T: Turns + Drop, L: Line + Drop, C: Clock + Drop, K: QueueCore + Drop> Even
             config,
             core,
             seats,
+            mut buffer,
             mut turns,
         } = self;
         the_headline();
-        run_at(config, core, seats, doors, control, &mut turns)
+        run_at(
+            config,
+            core,
+            seats,
+            doors,
+            control,
+            &mut turns,
+            sleeper,
+            &mut buffer,
+        )
     }
 }
 
@@ -153,6 +179,7 @@ impl<T: Turns + Drop, L: Line + Drop, C: Clock + Drop, K: QueueCore + Drop> Even
 /// the turns or of the sleeper. With any error the doors come back, and none was opened.
 pub fn run_turns<
     T: Turns + Drop,
+    W: Sleeper + Drop,
     L: Line + Drop,
     D: Door<Line = L> + Drop,
     C: Clock + Drop,
@@ -165,8 +192,9 @@ pub fn run_turns<
     clock: C,
     control: I,
     turns: Result<T, TurnsFault>,
-) -> Result<EventLoopRun<L, D, C, I, K>, RunFault>
-    // No door has a line that is open or was served, and no door is at its end.
+    sleeper: Result<W, TurnsFault>,
+) -> Result<EventLoopRun<L, D, C, I, K>, RunRefused<D>>
+    // No door has a connection that is open or was served, and no door is at its end.
     requires new { All
         (λ door. IsNewDoor (door_seen D.is_out D.is_at_end D.lines_over door)) doors.items }
     // The turns are for this run.
@@ -197,20 +225,43 @@ pub fn run_turns<
     ensures same { IfOk result (λ run. AreSame D.same doors.items run.doors.items) }
     // The core can be used further.
     ensures settings { IfOk result (λ run. (K.machine run.core).settings ≡ config) }
-    ensures bad_configuration { IsErrOf result RunFault.BadConfiguration
+    // A run that did not begin opened no door.
+    ensures unopened { IfErr result (λ refused. refused.doors ≡ doors) }
+    ensures bad_configuration { IsRefusedBy result RunFault.BadConfiguration
         ↔ IsTrue (not (are_in_range config && vec_len doors == config.seats)) }
 {
     if doors.len() != usize::from(config.seats) {
-        return Err(RunFault::BadConfiguration);
+        return Err(RunRefused {
+            fault: RunFault::BadConfiguration,
+            doors,
+        });
     }
-    let ready: EventLoop<T, L, C, K> = EventLoop::new(alloc, config, clock, turns)?;
+    let ready: EventLoop<T, L, C, K> = match EventLoop::new(alloc, config, clock, turns) {
+        Ok(ready) => ready,
+        Err(fault) => return Err(RunRefused { fault, doors }),
+    };
+    let mut sleeper = match made_of(sleeper) {
+        Ok(sleeper) => sleeper,
+        Err(fault) => return Err(RunRefused { fault, doors }),
+    };
     the_headline();
-    Ok(ready.run(doors, control))
+    Ok(ready.run(doors, control, &mut sleeper))
+}
+
+// Returns what was prepared for a run, or the error of the run.
+fn made_of<W>(made: Result<W, TurnsFault>) -> Result<W, RunFault>
+    ensures { IsErrOf result RunFault.BadConfiguration → ⊥ }
+{
+    match made {
+        Ok(made) => Ok(made),
+        Err(fault) => Err(fault.as_run_fault()),
+    }
 }
 
 // The run, from a new core and new seats on.
 fn run_at<
     T: Turns,
+    W: Sleeper,
     L: Line + Drop,
     D: Door<Line = L> + Drop,
     C: Clock + Drop,
@@ -223,6 +274,8 @@ fn run_at<
     doors: Vec<D, Global>,
     control: I,
     turns: &mut T,
+    sleeper: &mut W,
+    buffer: &mut ReadBuffer,
 ) -> EventLoopRun<L, D, C, I, K>
     requires made { IsNewMailState config (state_of K.machine K.comparisons core) }
     requires order { IsInOrder (state_of K.machine K.comparisons core) }
@@ -250,10 +303,12 @@ fn run_at<
     let is_over = serve(
         &began,
         turns,
+        sleeper,
         &mut row,
         &mut control,
         &mut core,
         &mut buffers,
+        buffer,
     );
     steps_keep_settings();
     let timed = core.timed;

@@ -1,10 +1,10 @@
 //! Many seats, which one thread serves in any order.
-ghost use Rattle.std.specs.Prelude.{◌≡◌, ◌≤◌, true, false, [], List, length, slice_index_or};
+ghost use Rattle.std.specs.Prelude.{◌≡◌, ◌<◌, ◌≤◌, true, false, [], List, length, slice_index_or};
 ghost use Rattle.bq_job.specs.declared.step.Step.{Step};
 ghost use Rattle.bq_line.specs.Tending.{door_seen};
 ghost use Rattle.bq_event_loop.specs.ControlTold.{TellsOn};
 ghost use Rattle.bq_host.specs.MailStates.{IsInOrder};
-ghost use Rattle.bq_event_loop.specs.Known.{AreKnown, ChangesOnly, ChangesOnlyIn};
+ghost use Rattle.bq_event_loop.specs.Known.{AreKnown, ChangesOnly, ChangesOnlyIn, KeepsAll};
 ghost use Rattle.bq_event_loop.specs.LoopCores.{WentAt, WentInOrder, state_of};
 ghost use Rattle.bq_event_loop.specs.Rows.{AreDone};
 ghost use Rattle.bq_event_loop.specs.Serving.{AreReady, AreReadyFor, IsServing, ServesOn, TurnServes};
@@ -12,11 +12,17 @@ ghost use Rattle.bq_event_loop.specs.SoFar.{beginning};
 ghost use Rattle.bq_event_loop.specs.Sleeping.{IsWaitFor, stands_of};
 ghost use Rattle.bq_event_loop.specs.WakeLists.{Wakes, none_waits};
 ghost use Rattle.bq_event_loop.specs.declared.control_turns.Stage.TheVariants as stages;
+ghost use Rattle.bq_line.specs.declared.attendant.Attendant.{Attendant};
+ghost use Rattle.bq_line.specs.declared.attendant.LinePlace.TheVariants as places;
 
 use crate::control_turns::ControlTurns;
+use crate::doors::Doors;
 use crate::loop_core::{LoopCore, attend};
 use crate::row::Row;
-use crate::turns::{Began, ControlReads, News, SoFar, Turn, Turns};
+use crate::sleeper::Sleeper;
+use crate::still::stands_of;
+use crate::turns::{Began, ControlReads, Extent, News, SoFar, Stands, Turn, Turns};
+use crate::waiting::end_turn;
 use bq_core_api::QueueCore;
 use bq_job::Seat;
 use bq_line::Door;
@@ -24,14 +30,18 @@ use bq_line::attendant::Progress;
 use bq_line::buffers::Buffers;
 use bq_line::clock::Clock;
 use bq_line::control_line::ControlInput;
-use bq_line::line::Line;
+use bq_line::line::{Line, ReadBuffer};
 use std::snapshot::Snapshot;
 
 /// Serves all seats and the control line, one turn at a time, until every seat is done and the
 /// control line is over. Returns false if that was not reached within 2^64 - 1 turns, which at a
 /// million turns a second last for half a million years.
+///
+/// `buffer` is lent to the connection of the seat that acts. The system is asked and waited for by
+/// `sleeper` alone, and the loop sleeps only if nothing can move.
 pub fn serve<
     T: Turns,
+    W: Sleeper,
     L: Line + Drop,
     D: Door<Line = L>,
     C: Clock + Drop,
@@ -40,10 +50,12 @@ pub fn serve<
 >(
     began: &Began<D, C, I>,
     turns: &mut T,
+    sleeper: &mut W,
     row: &mut Row<L, D>,
     control: &mut ControlTurns<I>,
     core: &mut LoopCore<C, K>,
     buffers: &mut Buffers,
+    buffer: &mut ReadBuffer,
 ) -> bool
     requires ready { AreReady K.machine K.comparisons L.seen (door_seen D.is_out D.is_at_end D.lines_over) core.old row.old }
     requires of_run { T.is_of (beginning began.now.config.value began.now.doors.value.items began.now.clock.value
@@ -60,32 +72,52 @@ pub fn serve<
         × ServesOn K.machine K.comparisons C.given L.seen (door_seen D.is_out D.is_at_end D.lines_over) D.same
         core.old row.old told core.new row.new }
 {
+    let mut doors = Doors::new();
+    let stands = control.stands();
     let mut news = News {
         progress: Progress::NothingToDo,
+        stands: Stands::Other,
+        tries_again: false,
+        still: None,
         due: Some(0),
         elapsed: core.timed.time.clock.elapsed(),
-        control: control.stands(),
+        control: stands,
+        reads: sleeper.control_reads(stands),
+        may_come: doors.may_come(),
+        free: None,
     };
     for _ in 0..u64::MAX {
-        let turn = turns.next(
-            core.timed.alloc,
-            row,
-            &core.mails,
-            news,
-            began,
-            so_far(control, core),
-        );
-        if take_turn(turn, row, control, core, buffers, &mut news) {
+        let turn = turns.next(&news, began, so_far(row, control, core));
+        if take_turn(turn, row, control, core, buffers, buffer, &mut news) {
             return true;
         }
         news.elapsed = core.timed.time.clock.elapsed();
         wake_all(turns, row, core);
+        let now = so_far(row, control, core);
+        end_turn(
+            turn,
+            turns,
+            sleeper,
+            &mut doors,
+            core.timed.alloc,
+            row,
+            &core.mails,
+            &mut news,
+            &now,
+        );
     }
     false
 }
 
-// The clock, the control line and the core at this turn, for the proofs.
-fn so_far<C, I, K>(control: &ControlTurns<I>, core: &LoopCore<C, K>) -> SoFar<C, I, K>
+// The seats, the doors, the clock, the control line and the core at this turn, for the proofs.
+fn so_far<L: Line + Drop, D: Door<Line = L>, C, I, K>(
+    row: &Row<L, D>,
+    control: &ControlTurns<I>,
+    core: &LoopCore<C, K>,
+) -> SoFar<L, D, C, I, K>
+    ensures seats { result.seats.value ≡ row.now.seats }
+    ensures doors { result.doors.value ≡ row.now.doors }
+    ensures mails { result.mails.value ≡ core.now.mails }
     ensures clock { result.clock.value ≡ core.now.timed.time.clock }
     ensures control { result.control.value ≡ control.now.input }
     ensures core { result.core.value ≡ core.now.timed.core }
@@ -93,6 +125,9 @@ fn so_far<C, I, K>(control: &ControlTurns<I>, core: &LoopCore<C, K>) -> SoFar<C,
     ensures whole_control { result.whole_control.value ≡ control.now }
 {
     SoFar {
+        seats: Snapshot::of(&row.seats),
+        doors: Snapshot::of(&row.doors),
+        mails: Snapshot::of(&core.mails),
         clock: Snapshot::of(&core.timed.time.clock),
         control: Snapshot::of(&control.input),
         core: Snapshot::of(&core.timed.core),
@@ -114,6 +149,7 @@ fn take_turn<
     control: &mut ControlTurns<I>,
     core: &mut LoopCore<C, K>,
     buffers: &mut Buffers,
+    buffer: &mut ReadBuffer,
     news: &mut News,
 ) -> bool
     requires ready { AreReady K.machine K.comparisons L.seen (door_seen D.is_out D.is_at_end D.lines_over) core.old row.old }
@@ -130,14 +166,9 @@ fn take_turn<
         → news.new.control ≡ stands_of control.new.owes_drain control.new.stage }
 {
     match turn {
-        Turn::Nothing => false,
-        Turn::Seat(seat) => {
-            news.progress = serve_seat(row, core, seat, buffers, Extent::Action);
-            news.due = Some(0);
-            false
-        }
-        Turn::Command(seat) => {
-            news.progress = serve_seat(row, core, seat, buffers, Extent::Command);
+        Turn::Nothing | Turn::Look(_) | Turn::HandOn(_) | Turn::TurnAway => false,
+        Turn::Serve(seat, extent) => {
+            news.progress = serve_seat(row, core, seat, buffers, buffer, extent);
             news.due = Some(0);
             false
         }
@@ -189,19 +220,13 @@ fn wake_all<T: Turns, L: Line + Drop, D: Door<Line = L>, C: Clock + Drop, K: Que
         core.old.woken.waiting row.now.seats.items core.old.mails.items }
     ensures known { AreKnown L.may_give L.may_take (T.seats turns.new) (T.listed turns.new) (T.looks turns.new) []
         row.now.seats.items core.new.mails.items }
+    ensures keeps { KeepsAll (T.listed turns.old) (T.listed turns.new) }
     ensures none { core.new.woken ≡ none_waits core.old.woken.seats }
     ensures rest { core.new ≡ record core.old { woken = core.new.woken } }
 {
     while let Some(seat) = core.next_woken() {
         turns.wake(usize::from(seat));
     }
-}
-
-// How much a seat does in a turn.
-#[derive(Clone, Copy)]
-enum Extent {
-    Action,
-    Command,
 }
 
 // Does what a turn of a seat says, and returns what its last action moved or what was missing. All
@@ -212,6 +237,7 @@ fn serve_seat<L: Line + Drop, D: Door<Line = L>, C: Clock + Drop, K: QueueCore +
     core: &mut LoopCore<C, K>,
     seat: usize,
     buffers: &mut Buffers,
+    buffer: &mut ReadBuffer,
     extent: Extent,
 ) -> Progress
     requires ready { AreReady K.machine K.comparisons L.seen (door_seen D.is_out D.is_at_end D.lines_over) core.old row.old }
@@ -219,14 +245,65 @@ fn serve_seat<L: Line + Drop, D: Door<Line = L>, C: Clock + Drop, K: QueueCore +
         core.old row.old [] core.new row.new }
     ensures only { ChangesOnly seat row.old.seats.items row.new.seats.items }
     ensures wakes { Wakes core.old.mails.items core.new.mails.items core.old.woken core.new.woken }
+    ensures between { (a : Attendant L) → (slice_index_or row.old.seats.items seat a).place ≡ places.Between
+        → (seat < length row.old.seats.items) → (row.new ≡ row.old) × (core.new ≡ core.old) }
 {
-    if seat >= row.seats.len() {
+    if !may_act(row, seat, extent) {
         return Progress::NothingToDo;
     }
-    let progress = act_to_extent(row, core, seat, buffers, extent);
+    let progress = act_with_buffer(row, core, seat, buffers, buffer, extent);
     if !row.seats[seat].polls_mail() {
         let _all = core.sort(0);
     }
+    progress
+}
+
+// Returns true if this is a seat that acts in a turn of this extent. It is not between two
+// connections then.
+fn may_act<L: Line + Drop, D: Door<Line = L>>(row: &Row<L, D>, seat: usize, extent: Extent) -> bool
+    ensures within { result ≡ true → seat < length row.now.seats.items }
+    ensures line { result ≡ true → (a : Attendant L) → (slice_index_or row.now.seats.items seat a).place ≡ places.Between → ⊥ }
+{
+    match row.seats.get(seat) {
+        Some(seat) => goes_with(extent, stands_of(seat)),
+        None => false,
+    }
+}
+
+// Returns true if a seat that stands so acts in a turn of this extent.
+fn goes_with(extent: Extent, stands: Stands) -> bool
+    ensures { result ≡ true → stands ≡ Stands.Between → ⊥ }
+{
+    match stands {
+        Stands::Between => false,
+        Stands::Done | Stands::Awaits => matches!(extent, Extent::Action),
+        Stands::Reads => matches!(extent, Extent::Action | Extent::Read | Extent::Command),
+        Stands::Submits => matches!(extent, Extent::Action | Extent::Step | Extent::Command),
+        Stands::Writes => matches!(extent, Extent::Action | Extent::Command | Extent::Answer),
+        Stands::ReadsOn | Stands::Other => !matches!(extent, Extent::Answer),
+    }
+}
+
+// Does as much of a seat as the turn says. Its connection has the read buffer meanwhile. One that
+// keeps bytes keeps the buffer and gives its own in exchange. If it has ended, its door gives it
+// back.
+fn act_with_buffer<L: Line + Drop, D: Door<Line = L>, C: Clock + Drop, K: QueueCore + Drop>(
+    row: &mut Row<L, D>,
+    core: &mut LoopCore<C, K>,
+    seat: usize,
+    buffers: &mut Buffers,
+    buffer: &mut ReadBuffer,
+    extent: Extent,
+) -> Progress
+    requires ready { AreReadyFor K.machine K.comparisons L.seen (door_seen D.is_out D.is_at_end D.lines_over) seat core.old row.old }
+    ensures served { TurnServes K.machine K.comparisons C.given L.seen (door_seen D.is_out D.is_at_end D.lines_over) D.same
+        core.old row.old [] core.new row.new }
+    ensures only { ChangesOnly seat row.old.seats.items row.new.seats.items }
+    ensures wakes { Wakes core.old.mails.items core.new.mails.items core.old.woken core.new.woken }
+{
+    row.exchange(seat, buffer);
+    let progress = act_to_extent(row, core, seat, buffers, extent);
+    row.exchange(seat, buffer);
     progress
 }
 
@@ -245,8 +322,8 @@ fn act_to_extent<L: Line + Drop, D: Door<Line = L>, C: Clock + Drop, K: QueueCor
     ensures wakes { Wakes core.old.mails.items core.new.mails.items core.old.woken core.new.woken }
 {
     match extent {
-        Extent::Action => act_and_poll(row, core, seat, buffers),
         Extent::Command => do_command(row, core, seat, buffers),
+        _ => act_and_poll(row, core, seat, buffers),
     }
 }
 

@@ -1,10 +1,11 @@
-//! Whether nothing moves at a seat until its line is ready or it has mail.
-ghost use Rattle.std.specs.Prelude.{◌≡◌, ◌⊎◌, ◌&&◌, [], true, false, List, slice_index_or};
+//! Whether nothing moves at a seat until its connection is ready or it has mail.
+ghost use Rattle.std.specs.Prelude.{◌≡◌, ◌⊎◌, ◌↔◌, ◌&&◌, [], true, false, List, slice_index_or};
 ghost use Rattle.bq_job.specs.declared.answer.Answer.{Answer};
 ghost use Rattle.bq_seat.specs.Outstanding.{ReadsWith};
 ghost use Rattle.bq_seat.specs.SeatParts.{would_read};
 ghost use Rattle.bq_event_loop.specs.Still.{IsStill, IsStillOn};
 
+use crate::turns::Stands;
 use bq_host::Mail;
 use bq_line::attendant::{Attendant, LinePlace};
 use bq_line::line::Line;
@@ -64,5 +65,43 @@ pub fn has_no_mail(mails: &Vec<Mail, Global>, seat: usize) -> bool
     match mails.get(seat) {
         Some(mail) => mail.is_empty(),
         None => false,
+    }
+}
+
+/// Returns what a seat does next.
+pub fn stands_of<L: Line + Drop>(seat: &Attendant<L>) -> Stands
+    ensures between { (result ≡ Stands.Between) ↔ (seat.now.place ≡ LinePlace.Between) }
+    ensures done { (result ≡ Stands.Done) ↔ (seat.now.place ≡ LinePlace.Done) }
+{
+    match &seat.place {
+        LinePlace::On(line, action, _) => stands_on(line, action, &seat.machine),
+        LinePlace::Between => Stands::Between,
+        LinePlace::Leaving => Stands::Submits,
+        LinePlace::Done => Stands::Done,
+    }
+}
+
+fn stands_on<L: Line>(line: &L, action: &Action, machine: &SeatMachine) -> Stands
+    ensures between { result ≡ Stands.Between → ⊥ }
+    ensures done { result ≡ Stands.Done → ⊥ }
+{
+    match action {
+        Action::Read => read_stands(line, machine),
+        Action::Submit(_) => Stands::Submits,
+        Action::Write(_) => Stands::Writes,
+        _ => Stands::Other,
+    }
+}
+
+fn read_stands<L: Line>(line: &L, machine: &SeatMachine) -> Stands
+    ensures between { result ≡ Stands.Between → ⊥ }
+    ensures done { result ≡ Stands.Done → ⊥ }
+{
+    if machine.has_outstanding() {
+        Stands::ReadsOn
+    } else if line.may_give() {
+        Stands::Reads
+    } else {
+        Stands::Awaits
     }
 }

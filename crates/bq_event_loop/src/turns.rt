@@ -1,18 +1,15 @@
 //! The choice of the next action.
-ghost use Rattle.std.specs.Prelude.{ℕ, ◌≡◌, ◌<◌, [], Bool, true};
-ghost use Rattle.bq_line.specs.Tending.{door_seen};
-ghost use Rattle.bq_event_loop.specs.Known.{AreApart, AreKnown, IsListedIn, KeepsAll};
-ghost use Rattle.bq_event_loop.specs.Rows.{AreTended, KeepsRow};
+ghost use Rattle.std.specs.Prelude.{ℕ, ◌≡◌, ◌<◌, [], Bool, true, false};
+ghost use Rattle.bq_event_loop.specs.Known.{AreApart, AreKnown, IsFreeSeat, IsListedIn, IsStillSeat, KeepsAll};
 ghost use Rattle.bq_event_loop.specs.Sleeping.{IsAtTurn};
 ghost use Rattle.bq_event_loop.specs.SoFar.{IsLoopSoFar, beginning};
 
 use crate::control_turns::ControlTurns;
 use crate::loop_core::LoopCore;
-use crate::row::Row;
 use bq_core_api::{Config, QueueCore};
 use bq_host::{Mail, RunFault};
 use bq_line::Door;
-use bq_line::attendant::Progress;
+use bq_line::attendant::{Attendant, Progress};
 use bq_line::clock::Clock;
 use bq_line::control_line::ControlInput;
 use bq_line::line::Line;
@@ -24,15 +21,14 @@ use std::snapshot::Snapshot;
 pub enum Turn {
     /// Nothing is done.
     Nothing,
-    /// One action of this seat. If it submits a step, the seat then checks for the answer too. If
-    /// the seat does not exist, nothing is done. A seat without a line waits at its door until a
-    /// client comes, and for ever if its listener does not wait: an order over such doors lets the
-    /// seat look (`Row::look`) instead.
-    Seat(usize),
-    /// A command of this seat: it reads, submits a step and checks for the answer, and writes the
-    /// answer. What the seat doesn't do next is skipped, and the turn ends when nothing moves. If
-    /// the seat does not exist, nothing is done.
-    Command(usize),
+    /// This seat acts. If the seat does not exist or is between two connections, nothing is done.
+    Serve(usize, Extent),
+    /// This seat checks for its next connection at its door, without waiting, unless it has one.
+    Look(usize),
+    /// Sends what the connection of this seat holds back in the expectation of more answers.
+    HandOn(usize),
+    /// Connections that wait although all seats are taken are closed, if the doors do so.
+    TurnAway,
     /// The control line is read.
     Control(ControlReads),
     /// The core takes a tick if something is due, and all answers are sorted into the mail of their
@@ -40,6 +36,44 @@ pub enum Turn {
     /// loop takes what the system has to report. It sleeps until there is something if nothing can
     /// move.
     Time,
+}
+
+/// How much a seat does in a turn.
+#[derive(Clone, Copy, PartialEq, Eq)]
+pub enum Extent {
+    /// One action. If it submits a step, the seat then checks for the answer too.
+    Action,
+    /// The same, up to a step: nothing if the seat submits or writes next, or no bytes have come.
+    Read,
+    /// The same, up to an answer: nothing if the seat writes or reads a command next.
+    Step,
+    /// A command: the seat reads, submits a step and checks for the answer, and writes the answer.
+    /// What the seat doesn't do next is skipped, and the turn ends when nothing moves. Nothing if
+    /// no bytes have come.
+    Command,
+    /// One action if the seat writes.
+    Answer,
+}
+
+/// What a seat does next.
+#[derive(Clone, Copy, PartialEq, Eq)]
+pub enum Stands {
+    /// It checks for its next connection.
+    Between,
+    /// Nothing: no more connections come.
+    Done,
+    /// It reads a command, and no bytes have come as far as its connection knows.
+    Awaits,
+    /// It reads a command.
+    Reads,
+    /// It reads while an answer is outstanding.
+    ReadsOn,
+    /// It submits a step.
+    Submits,
+    /// It writes.
+    Writes,
+    /// It checks for an answer, or its connection ends.
+    Other,
 }
 
 /// How far the control line is read. Steps that it owes are submitted first.
@@ -69,6 +103,14 @@ pub enum ControlStands {
 pub struct News {
     /// What the last action of a seat moved, or what was missing.
     pub progress: Progress,
+    /// What the seat of the last turn does next.
+    pub stands: Stands,
+    /// Whether that seat has to read or write again although nothing moved and nothing will be
+    /// reported.
+    pub tries_again: bool,
+    /// The seat of the last turn if nothing moves at it until its connection is ready or it has
+    /// mail.
+    pub still: Option<usize>,
     /// In how many milliseconds something is due, as of the last `Turn::Time`. `None` if nothing
     /// is.
     pub due: Option<u64>,
@@ -76,6 +118,13 @@ pub struct News {
     /// not say.
     pub elapsed: u64,
     pub control: ControlStands,
+    /// How far the control line is read in this round, if at all, as of the last wait.
+    pub reads: Option<ControlReads>,
+    /// Whether a client may wait at a door.
+    pub may_come: bool,
+    /// The seat of the last turn if it checked for a client and found none. It checks again when
+    /// one may have come.
+    pub free: Option<usize>,
 }
 
 /// What a run began with, for the proofs alone: it has no bytes.
@@ -90,7 +139,10 @@ pub struct Began<D, C, I> {
 /// The seats, the doors, the clock, the control line and the core at a turn, for the proofs alone:
 /// it has no bytes.
 #[derive(Drop)]
-pub struct SoFar<C, I, K> {
+pub struct SoFar<L, D, C, I, K> {
+    pub seats: Snapshot<Vec<Attendant<L>, Global>>,
+    pub doors: Snapshot<Vec<D, Global>>,
+    pub mails: Snapshot<Vec<Mail, Global>>,
     pub clock: Snapshot<C>,
     pub control: Snapshot<I>,
     pub core: Snapshot<K>,
@@ -143,16 +195,7 @@ pub trait Turns {
         C: Clock + Drop,
         I: ControlInput + Drop,
         K: QueueCore + Drop,
-    >(
-        &mut self,
-        alloc: Global,
-        row: &mut Row<L, D>,
-        mails: &Vec<Mail, Global>,
-        news: News,
-        began: &Began<D, C, I>,
-        so_far: SoFar<C, I, K>,
-    ) -> Turn
-        requires tended { AreTended L.seen (door_seen D.is_out D.is_at_end D.lines_over) row.old }
+    >(&mut self, news: &News, began: &Began<D, C, I>, so_far: SoFar<L, D, C, I, K>) -> Turn
         // `began` is what the run of these turns began with.
         requires of_run { is_of (beginning began.now.config.value began.now.doors.value.items began.now.clock.value
             (I.remaining began.now.control.value) (I.may_fail began.now.control.value)) }
@@ -162,16 +205,19 @@ pub trait Turns {
         requires so_far { IsLoopSoFar C.given L.seen D.lines_over D.is_out D.same K.machine K.comparisons
             (beginning began.now.config.value began.now.doors.value.items began.now.clock.value
             (I.remaining began.now.control.value) (I.may_fail began.now.control.value))
-            row.old.seats.items row.old.doors.items so_far.clock.value (I.seen so_far.control.value)
+            so_far.seats.value.items so_far.doors.value.items so_far.clock.value (I.seen so_far.control.value)
             (I.remaining so_far.control.value) so_far.core.value }
         // No seat is forgotten: it acts, or it checks for a client, or nothing moves at it. Each
         // seat that has mail was woken for it. A wait of `news.due` ends in time.
         requires turn { IsAtTurn L.may_give L.may_take K.machine K.comparisons (seats self.old) (listed self.old) (looks self.old)
-            row.old.seats.items mails.now.items news.due news.control so_far.whole_core.value so_far.whole_control.value }
-        ensures keeps { KeepsRow L.seen (door_seen D.is_out D.is_at_end D.lines_over) D.same row.old row.new }
+            so_far.seats.value.items so_far.mails.value.items news.now.due news.now.control so_far.whole_core.value so_far.whole_control.value }
+        // The seat that checked for a client and found none is between two connections.
+        requires free { IsFreeSeat news.now.free so_far.seats.value.items }
+        // Nothing moves at the still seat.
+        requires still { IsStillSeat L.may_give L.may_take news.now.still so_far.seats.value.items so_far.mails.value.items }
         ensures seats { seats self.new ≡ seats self.old }
         ensures known { AreKnown L.may_give L.may_take (seats self.new) (listed self.new) (looks self.new) []
-            row.new.seats.items mails.now.items }
+            so_far.seats.value.items so_far.mails.value.items }
         // Only a seat that is let act does.
         ensures acts { IsListedIn (listed self.new) result };
 
@@ -183,4 +229,13 @@ pub trait Turns {
         ensures keeps { KeepsAll (listed self.old) (listed self.new) }
         ensures looking { (other : ℕ) → looks self.new other ≡ looks self.old other }
         ensures apart { AreApart (listed self.old) (looks self.old) → AreApart (listed self.new) (looks self.new) };
+
+    /// Returns true if the loop may sleep: no seat acts before it does, and none checks for a
+    /// client that may have come. The loop waits next, or asks the system what it has to report.
+    fn may_sleep(&mut self, may_come: bool) -> bool
+        ensures seats { seats self.new ≡ seats self.old }
+        ensures listed { (seat : ℕ) → listed self.new seat ≡ listed self.old seat }
+        ensures looks { (seat : ℕ) → looks self.new seat ≡ looks self.old seat }
+        ensures acts { result ≡ true → (seat : ℕ) → listed self.old seat ≡ false }
+        ensures checks { result ≡ true → may_come ≡ true → (seat : ℕ) → looks self.old seat ≡ false };
 }

@@ -9,13 +9,13 @@
 #![tactic(auto)]
 
 pub use bq_core::{Config, Core, CoreFault, Outs};
-pub use bq_event_loop::{EventLoopRun, run_event_loop};
+pub use bq_event_loop::{EventLoopRun, RunRefused, run_event_loop};
 pub use bq_host::RunFault;
 pub use bq_job::{Entry, LineEnd, Moment, NoMemory, Seat, Step};
 pub use bq_line::clock::{Clock, MachineClock, Notice, ScriptClock};
 pub use bq_line::control_line::{ControlInput, ControlLine, ControlReader, Heard, next_of};
 pub use bq_line::line::{
-    Connection, Duplex, IoLine, Line, MemLine, Part, ReadBuffer, Readiness, Socket,
+    Connection, Duplex, IoLine, Line, MemLine, NotWatched, Part, ReadBuffer, Readiness, Socket,
 };
 pub use bq_line::{
     Door, DoorFault, FreeDoors, Listen, ListenDoor, MemDoor, OpenDoors, Opening, Refusals, TcpDoor,

@@ -1,12 +1,10 @@
 //! The visits of a round: the actions that a visited seat does without waiting, before other seats
 //! have their turn.
 ghost use Rattle.std.specs.Prelude.{◌≡◌, ◌-◌, ◌&&◌, not, true, false, IsNone};
-ghost use Rattle.bq_event_loop.specs.Visits.{actions_of, cost_of, is_over_after, is_writing, left_after, only_writes, turn_in, turn_of};
+ghost use Rattle.bq_event_loop.specs.Visits.{actions_of, cost_of, extent_in, is_over_after, left_after, only_writes, turn_of};
 
-use crate::turns::Turn;
-use bq_line::attendant::{Attendant, LinePlace, Progress};
-use bq_line::line::Line;
-use bq_seat::Action;
+use crate::turns::{Extent, Stands, Turn};
+use bq_line::attendant::Progress;
 
 /// The largest number of actions in a visit.
 const MOST: u32 = 64;
@@ -144,10 +142,7 @@ impl Visit {
     pub fn turn(&self) -> Turn
         ensures { result ≡ turn_of self.now }
     {
-        if self.is_over {
-            return Turn::Seat(self.seat);
-        }
-        turn_in(self.part, self.seat)
+        Turn::Serve(self.seat, extent_in(self.is_over, self.part))
     }
 
     /// Notes another turn: the result of its last action, and how many microseconds the command
@@ -170,22 +165,22 @@ impl Visit {
         };
     }
 
-    /// Returns the reason for a pause, or `None` if the visit goes on: some actions are left, and in
-    /// the last part it begins no further command once it is over.
-    pub fn pause<L: Line + Drop>(&self, seat: &Attendant<L>) -> Option<Pause>
+    /// Returns the reason for a pause, or `None` if the visit goes on: some actions are left, and
+    /// in the last part it begins no further command once it is over.
+    pub fn pause(&self, stands: Stands, tries_again: bool) -> Option<Pause>
         ensures left { IsNone result → self.now.left ≡ 0 → ⊥ }
-        ensures over { IsNone result → self.now.part ≡ Part.Answers → self.now.is_over ≡ true → is_writing seat.now.place ≡ true }
+        ensures over { IsNone result → self.now.part ≡ Part.Answers → self.now.is_over ≡ true → stands ≡ Stands.Writes }
     {
         match self.part {
-            Part::Answers => self.end(seat),
-            part => self.end_of_part(part, seat),
+            Part::Answers => self.end(stands, tries_again),
+            part => self.end_of_part(part, stands),
         }
     }
 
-    fn end_of_part<L: Line + Drop>(&self, part: Part, seat: &Attendant<L>) -> Option<Pause>
+    fn end_of_part(&self, part: Part, stands: Stands) -> Option<Pause>
         ensures left { IsNone result → self.now.left ≡ 0 → ⊥ }
     {
-        if self.left == 0 || self.is_stuck() || ends_part(part, seat) {
+        if self.left == 0 || self.is_stuck() || ends_part(part, stands) {
             Some(Pause::PartDone)
         } else {
             None
@@ -193,19 +188,26 @@ impl Visit {
     }
 
     // The same in the last part, in which the visit may do everything.
-    fn end<L: Line + Drop>(&self, seat: &Attendant<L>) -> Option<Pause>
+    fn end(&self, stands: Stands, tries_again: bool) -> Option<Pause>
         ensures left { IsNone result → self.now.left ≡ 0 → ⊥ }
-        ensures over { IsNone result → self.now.is_over ≡ true → is_writing seat.now.place ≡ true }
+        ensures over { IsNone result → self.now.is_over ≡ true → stands ≡ Stands.Writes }
     {
-        if seat.is_between() {
-            Some(Pause::IsFree)
-        } else if seat.is_done() {
-            Some(Pause::IsDone)
-        } else if seat.awaits_bytes() {
-            Some(Pause::Rests)
-        } else if self.is_stuck() {
-            Some(self.rest(seat))
-        } else if self.is_used_up(&seat.place) {
+        match stands {
+            Stands::Between => Some(Pause::IsFree),
+            Stands::Done => Some(Pause::IsDone),
+            Stands::Awaits => Some(Pause::Rests),
+            _ => self.end_on_line(stands, tries_again),
+        }
+    }
+
+    // The same if its connection is open and bytes have come, or it does not read a command.
+    fn end_on_line(&self, stands: Stands, tries_again: bool) -> Option<Pause>
+        ensures left { IsNone result → self.now.left ≡ 0 → ⊥ }
+        ensures over { IsNone result → self.now.is_over ≡ true → stands ≡ Stands.Writes }
+    {
+        if self.is_stuck() {
+            Some(self.rest(tries_again))
+        } else if self.is_used_up(stands) {
             Some(Pause::GoesOn)
         } else {
             None
@@ -213,23 +215,23 @@ impl Visit {
     }
 
     // Returns true if no action is left, or the next one would begin a command and none begins.
-    fn is_used_up<L>(&self, place: &LinePlace<L>) -> bool
+    fn is_used_up(&self, stands: Stands) -> bool
         ensures left { result ≡ false → self.now.left ≡ 0 → ⊥ }
-        ensures over { result ≡ false → self.now.is_over ≡ true → is_writing place.now ≡ true }
+        ensures over { result ≡ false → self.now.is_over ≡ true → stands ≡ Stands.Writes }
     {
         if self.left == 0 {
             return true;
         }
         if self.is_over {
-            return !is_writing(place);
+            return !is_writing(stands);
         }
         false
     }
 
     // If nothing moves, it rests, unless a step was rejected and is submitted again, or a call of
-    // the line was interrupted and is made again.
-    fn rest<L: Line + Drop>(&self, seat: &Attendant<L>) -> Pause {
-        if self.last == Progress::NotAccepted || seat.tries_again() {
+    // the connection was interrupted and is made again.
+    fn rest(&self, tries_again: bool) -> Pause {
+        if self.last == Progress::NotAccepted || tries_again {
             Pause::GoesOn
         } else {
             Pause::Rests
@@ -247,13 +249,20 @@ impl Visit {
     }
 }
 
-// Returns a turn in this part of a round.
-fn turn_in(part: Part, seat: usize) -> Turn
-    ensures { result ≡ turn_in part seat }
+// Returns how much the seat of a visit does in a turn.
+fn extent_in(is_over: bool, part: Part) -> Extent
+    ensures { result ≡ extent_in is_over part }
 {
     match part {
-        Part::Answers => Turn::Command(seat),
-        Part::Reads | Part::Steps => Turn::Seat(seat),
+        Part::Reads => Extent::Read,
+        Part::Steps => Extent::Step,
+        Part::Answers => {
+            if is_over {
+                Extent::Answer
+            } else {
+                Extent::Command
+            }
+        }
     }
 }
 
@@ -278,17 +287,18 @@ fn left_after(progress: Progress, part: Part, left: u32) -> u32
 }
 
 // Returns true if the next action writes.
-fn is_writing<L>(place: &LinePlace<L>) -> bool
-    ensures { result ≡ is_writing place.now }
+fn is_writing(stands: Stands) -> bool
+    ensures { result ≡ true → stands ≡ Stands.Writes }
 {
-    matches!(place, LinePlace::On(_, Action::Write(_), _))
+    matches!(stands, Stands::Writes)
 }
 
 // Returns true if a part that is not the last ends before the next action.
-fn ends_part<L: Line + Drop>(part: Part, seat: &Attendant<L>) -> bool {
-    let is_next = match part {
-        Part::Reads => seat.submits() || seat.writes(),
-        _ => seat.writes() || (seat.reads() && !seat.reads_on()),
-    };
-    is_next || seat.is_between() || seat.is_done() || seat.awaits_bytes()
+fn ends_part(part: Part, stands: Stands) -> bool {
+    match stands {
+        Stands::Between | Stands::Done | Stands::Awaits | Stands::Writes => true,
+        Stands::Submits => matches!(part, Part::Reads),
+        Stands::Reads => !matches!(part, Part::Reads),
+        Stands::ReadsOn | Stands::Other => false,
+    }
 }

@@ -76,9 +76,9 @@ returns-clause-served g c over =
     let w = c.serve-is_over.ensures.served in
     let on = w.2 in
     let s : AreServed g.L.Line.seen at settings.max_job_size w.0 first on.reads last seats doors =
-    on.served settings.max_job_size [] first []
+    (on.served settings.max_job_size [] first []
     (begins_served g.L.Line.seen at settings first c.args.seats.items c.args.doors.items c.requires.made c.requires.many
-    c.requires.doored c.requires.new_seats c.requires.new_doors) in
+    c.requires.doored c.requires.new_seats c.requires.new_doors)).0 in
     let many : length seats ≡ settings.seats = on.many ∙ c.requires.many in
     let control = c.serve-is_over.new.control in
     let told = told_all (λ (line : ControlLine g.row.I.Denot). record { text = line.read; ended = line.ended; failed = line.failed })
@@ -110,9 +110,9 @@ returns-clause-at_end g c over =
     let w = c.serve-is_over.ensures.served in
     let on = w.2 in
     let s : AreServed g.L.Line.seen at settings.max_job_size w.0 first on.reads last seats doors =
-    on.served settings.max_job_size [] first []
+    (on.served settings.max_job_size [] first []
     (begins_served g.L.Line.seen at settings first c.args.seats.items c.args.doors.items c.requires.made c.requires.many
-    c.requires.doored c.requires.new_seats c.requires.new_doors) in
+    c.requires.doored c.requires.new_seats c.requires.new_doors)).0 in
     let many : length seats ≡ settings.seats = on.many ∙ c.requires.many in
     ends_closed g.L.Line.seen at settings first w.0 on.reads last seats doors c.requires.made many s (c.serve-is_over.ensures.done over)
 

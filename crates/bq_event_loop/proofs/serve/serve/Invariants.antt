@@ -3,7 +3,7 @@ use Rattle.bq_job.specs.declared.step.Step.{Step}
 use Rattle.bq_line.specs.Tending.{door_seen}
 use Rattle.bq_event_loop.specs.ControlTold.{TellsOn}
 use Rattle.bq_event_loop.specs.Serving.{AreReady, ServesOn}
-use Rattle.bq_event_loop.specs.Known.{AreKnown}
+use Rattle.bq_event_loop.specs.Known.{AreKnown, IsFreeSeat, IsStillSeat}
 use Rattle.bq_event_loop.specs.Sleeping.{IsWaitFor, stands_of}
 use Rattle.bq_event_loop.specs.WakeLists.{none_waits}
 use Rattle.bq_event_loop.proofs.serve.serve.Given as goal
@@ -21,5 +21,7 @@ invariant-loop g l = record {
       l.row.seats.items l.core.mails.items;
   woken : l.core.woken ≡ none_waits (length l.core.mails.items);
   due : IsWaitFor g.K.QueueCore.machine g.K.QueueCore.comparisons l.news.due l.core;
+  free : IsFreeSeat l.news.free l.row.seats.items;
+  still : IsStillSeat g.L.Line.may_give g.L.Line.may_take l.news.still l.row.seats.items l.core.mails.items;
   stands : l.news.control ≡ stands_of l.control.owes_drain l.control.stage;
 }

@@ -30,8 +30,8 @@ returns-then-is_over-clause-served g c =
       ),
     )
 
-pub returns-in-Seat-clause-served : goal.returns-in-Seat-clause-served
-returns-in-Seat-clause-served g c = (
+pub returns-in-Serve-clause-served : goal.returns-in-Serve-clause-served
+returns-in-Serve-clause-served g c = (
   [],
   tells_none g.I.ControlInput.seen g.I.ControlInput.remaining g.I.ControlInput.may_fail c.args.control.now,
   c.serve_seat-news.ensures.served,

@@ -1,5 +1,5 @@
 use Rattle.std.proofs.Common.{◌≡◌, length}
-use Rattle.bq_event_loop.specs.Known.{AreKnown}
+use Rattle.bq_event_loop.specs.Known.{AreKnown, KeepsAll}
 use Rattle.bq_event_loop.proofs.serve.wake_all.Given as goal
 
 abbrev pub invariant-loop-seat : goal.invariant-loop-seat
@@ -8,6 +8,7 @@ invariant-loop-seat g l = record {
   seats : l.core.woken.seats ≡ l.fn.core.woken.seats;
   known : AreKnown g.L.Line.may_give g.L.Line.may_take (g.T.Turns.seats l.turns) (g.T.Turns.listed l.turns) (g.T.Turns.looks l.turns)
       l.core.woken.waiting l.fn.row.seats.items l.core.mails.items;
+  keeps : KeepsAll (g.T.Turns.listed l.fn.turns) (g.T.Turns.listed l.turns);
 }
 
 abbrev pub decreases-loop-seat : goal.decreases-loop-seat

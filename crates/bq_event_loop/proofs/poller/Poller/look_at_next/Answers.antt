@@ -1,14 +1,16 @@
-use Rattle.std.proofs.Common.{None, ap, sym, subst}
-use Rattle.bq_event_loop.proofs.KnownLemmas.{all_checked, known_checks, known_same}
-use Rattle.bq_event_loop.specs.Known.{AreKnownTo}
+use Rattle.std.proofs.Common.{None, ap}
+use Rattle.bq_event_loop.proofs.KnownLemmas.{all_checked, known_checks, known_same, listed_self}
 use Rattle.bq_event_loop.proofs.poller.Poller.look_at_next.Goals as goal
 
-pub look-requires-clause-known : goal.look-requires-clause-known
-look-requires-clause-known g c =
+pub begin_visits-requires : goal.begin_visits-requires
+begin_visits-requires g c = record { known = c.requires.known }
+
+pub returns-clause-known : goal.returns-clause-known
+returns-clause-known g c =
     let e = c.next_free.ensures.rest in
-    known_checks g.L.Line.may_give g.L.Line.may_take c.args.row.now.seats.items c.args.mails.now.items c.args.self.now.queue
+    known_checks g.L.Line.may_give g.L.Line.may_take c.args.seats.now.value.items c.args.mails.now.value.items c.args.self.now.queue
     c.next_free.new.self
     c.in-Some.seat (ap (λ z. z.seats) e) c.in-Some.ensures.taken c.in-Some.ensures.gone (ap (λ z. z.queue) e) c.requires.known
 
-pub begin_visits-requires-clause-known : goal.begin_visits-requires-clause-known
-begin_visits-requires-clause-known g c = c.requires.known
+pub returns-clause-acts : goal.returns-clause-acts
+returns-clause-acts g c = listed_self c.next_free.new.self c.in-Some.seat

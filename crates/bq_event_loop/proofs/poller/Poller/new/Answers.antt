@@ -4,4 +4,4 @@ use Rattle.bq_event_loop.proofs.KnownLemmas.{all_known}
 use Rattle.bq_event_loop.proofs.poller.Poller.new.Goals as goal
 
 pub returns : goal.returns
-returns g c = record { knows = all_known c.args.seats c.in-Ok.queue (c.in-Ok.ensures ∙ ap all_free c.from.ensures) }
+returns c = record { knows = all_known c.args.seats c.in-Ok.queue (c.in-Ok.ensures ∙ ap all_free c.from.ensures) }

@@ -1,0 +1,111 @@
+//! What a loop knows of connections that were not accepted yet.
+ghost use Rattle.std.specs.Prelude.{◌≡◌, true, false, Some};
+ghost use Rattle.std.specs.Option.{option_map};
+ghost use Rattle.std.specs.Duration.{as_nanos};
+ghost use Rattle.bq_event_loop.specs.Accepting.{may_come, rests};
+ghost use Rattle.bq_event_loop.specs.Sleeping.{IsNoLonger};
+
+use crate::poller::{Accepts, longest_wait};
+use crate::row::Row;
+use bq_line::attendant::Looked;
+use bq_line::line::Line;
+use bq_line::{Door, TurnedAway};
+use std::rt;
+use std::time::Duration;
+
+/// How many connections are closed in a round while all seats are taken.
+const TURNED_AWAY: u32 = 64;
+
+/// What a loop knows of connections that were not accepted yet.
+#[derive(Drop)]
+pub struct Doors {
+    accepts: Accepts,
+    // Whether more connections may wait to be closed, since all seats are taken.
+    are_more_away: bool,
+}
+
+impl Doors {
+    /// Returns the state at the start, when connections may have come before anything was watched.
+    pub(crate) fn new() -> Doors
+        ensures { may_come result.accepts ≡ true }
+    {
+        Doors {
+            accepts: Accepts::new(),
+            are_more_away: false,
+        }
+    }
+
+    /// Returns true if a door should be checked.
+    pub(crate) fn may_come(&self) -> bool
+        ensures { result ≡ may_come self.now.accepts }
+    {
+        self.accepts.may_come()
+    }
+
+    /// Returns true if connections are left to be closed.
+    pub(crate) fn are_more_away(&self) -> bool
+        ensures { result ≡ self.now.are_more_away }
+    {
+        self.are_more_away
+    }
+
+    /// Notes that the system reported a connection.
+    pub(crate) fn one_may_have_come(&mut self) {
+        self.accepts.one_may_have_come();
+    }
+
+    /// Notes the result of a check for a connection, and whether one may have come before it.
+    pub(crate) fn note_looked<R: rt::Clock>(&mut self, rt: &R, may_have_come: bool, looked: Looked)
+        ensures seen { (looked ≡ Looked.NotYet → ⊥) → self.new.accepts.may_have_come ≡ self.old.accepts.may_have_come }
+        ensures rests { looked ≡ Looked.Later → rests self.new.accepts.rest ≡ true }
+    {
+        match looked {
+            Looked::Opened | Looked::NoMore => {}
+            Looked::NotYet => {
+                if may_have_come {
+                    self.accepts.none_there();
+                }
+            }
+            Looked::Later => self.accepts.rest(rt),
+        }
+    }
+
+    /// Lets a door close the connections that wait although all seats are taken, if it does so.
+    /// What is left after some of them is closed in the next round.
+    pub(crate) fn turn_away<R: rt::Clock, L: Line + Drop, D: Door<Line = L>>(
+        &mut self,
+        rt: &R,
+        row: &Row<L, D>,
+    ) {
+        for _ in 0..TURNED_AWAY {
+            match row.turn_away() {
+                TurnedAway::Closed => {}
+                TurnedAway::Waits => return,
+                TurnedAway::NoneThere => {
+                    self.accepts.none_there();
+                    return;
+                }
+                TurnedAway::Later => {
+                    self.accepts.rest(rt);
+                    return;
+                }
+            }
+        }
+        self.are_more_away = true;
+    }
+
+    /// Notes that a wait has ended.
+    pub(crate) fn pass<R: rt::Clock>(&mut self, rt: &R) {
+        self.are_more_away = false;
+        self.accepts.pass(rt);
+    }
+
+    /// Returns how long the loop may sleep: no longer than until something is due, in milliseconds,
+    /// or a pause of the doors ends. `None` is a wait without a limit.
+    pub(crate) fn longest_wait<R: rt::Clock>(&self, rt: &R, due: Option<u64>) -> Option<Duration>
+        ensures due { IsNoLonger (option_map as_nanos result) due }
+        ensures rest { rests self.now.accepts.rest ≡ true → IsNoLonger (option_map as_nanos result) (Some 100) }
+    {
+        longest_wait(due, self.accepts.rests_for(rt))
+    }
+}

@@ -1,0 +1,327 @@
+//! What a loop does after a turn: it looks at doors, and it waits for the system.
+ghost use Rattle.std.specs.Prelude.{◌≡◌, ◌⊎◌, ℕ, [], true, false, None, Some};
+ghost use Rattle.bq_line.specs.Tending.{door_seen};
+ghost use Rattle.bq_event_loop.specs.Accepting.{may_come};
+ghost use Rattle.bq_event_loop.specs.Known.{AreKnown, ChangesOnly, IsFreeSeat, IsListedIn, IsStillSeat};
+ghost use Rattle.bq_event_loop.specs.Rows.{AreTended, KeepsRow};
+ghost use Rattle.bq_event_loop.specs.Sleeping.{IsAtTurn};
+
+use crate::doors::Doors;
+use crate::row::Row;
+use crate::sleeper::{Report, Sleeper};
+use crate::still::has_no_mail;
+use crate::turns::{ControlStands, News, SoFar, Stands, Turn, Turns};
+use bq_core_api::QueueCore;
+use bq_host::Mail;
+use bq_line::attendant::{Looked, Progress};
+use bq_line::clock::Clock;
+use bq_line::control_line::ControlInput;
+use bq_line::line::Line;
+use bq_line::{Door, Watcher};
+use std::alloc::Global;
+use std::io;
+use std::os::fd::RawFd;
+
+/// Has the system report the connection of one seat.
+#[derive(Clone, Copy)]
+struct LineWatcher<'w, W> {
+    sleeper: &'w W,
+    seat: usize,
+}
+
+impl<'w, W: Sleeper> Watcher for LineWatcher<'w, W> {
+    fn watch(&self, fd: RawFd) -> io::Result<()> {
+        self.sleeper.watch(fd, self.seat)
+    }
+}
+
+/// Does what follows a turn: a seat checks for a client, the control line is watched again, or the
+/// loop waits. `so_far` is passed for the contract alone.
+#[inline(always)]
+pub fn end_turn<
+    T: Turns,
+    W: Sleeper,
+    L: Line + Drop,
+    D: Door<Line = L>,
+    C: Clock + Drop,
+    I: ControlInput + Drop,
+    K: QueueCore + Drop,
+>(
+    turn: Turn,
+    turns: &mut T,
+    sleeper: &mut W,
+    doors: &mut Doors,
+    alloc: Global,
+    row: &mut Row<L, D>,
+    mails: &Vec<Mail, Global>,
+    news: &mut News,
+    so_far: &SoFar<L, D, C, I, K>,
+)
+    requires tended { AreTended L.seen (door_seen D.is_out D.is_at_end D.lines_over) row.old }
+    requires turn { IsAtTurn L.may_give L.may_take K.machine K.comparisons (T.seats turns.old) (T.listed turns.old) (T.looks turns.old)
+        row.old.seats.items mails.now.items news.old.due news.old.control so_far.now.whole_core.value so_far.now.whole_control.value }
+    requires acts { IsListedIn (T.listed turns.old) turn }
+    ensures keeps { KeepsRow L.seen (door_seen D.is_out D.is_at_end D.lines_over) D.same row.old row.new }
+    ensures known { AreKnown L.may_give L.may_take (T.seats turns.new) (T.listed turns.new) (T.looks turns.new) []
+        row.new.seats.items mails.now.items }
+    ensures free { IsFreeSeat news.new.free row.new.seats.items }
+    ensures still { IsStillSeat L.may_give L.may_take news.new.still row.new.seats.items mails.now.items }
+    ensures due { news.new.due ≡ news.old.due }
+    ensures control { news.new.control ≡ news.old.control }
+{
+    news.free = None;
+    news.still = None;
+    match turn {
+        Turn::Serve(seat, _) => note_seat(row, mails, seat, news),
+        Turn::HandOn(seat) => row.hand_on(seat),
+        Turn::Look(seat) => look(sleeper, doors, alloc, row, seat, news),
+        Turn::TurnAway => {
+            doors.turn_away(sleeper.system(), row);
+            news.may_come = doors.may_come();
+        }
+        Turn::Control(_) => sleeper.watch_control(news.control),
+        Turn::Time => wait(turns, sleeper, doors, row, mails, news, so_far),
+        Turn::Nothing => {}
+    }
+}
+
+// Notes what a seat does next after its turn. If nothing moves, its connection sends what it holds
+// back.
+// Otherwise the last answers of a batch would wait for the client's acknowledgement.
+fn note_seat<L: Line + Drop, D: Door<Line = L>>(
+    row: &mut Row<L, D>,
+    mails: &Vec<Mail, Global>,
+    seat: usize,
+    news: &mut News,
+)
+    requires tended { AreTended L.seen (door_seen D.is_out D.is_at_end D.lines_over) row.old }
+    ensures keeps { KeepsRow L.seen (door_seen D.is_out D.is_at_end D.lines_over) D.same row.old row.new }
+    ensures only { ChangesOnly seat row.old.seats.items row.new.seats.items }
+    ensures still { IsStillSeat L.may_give L.may_take news.new.still row.new.seats.items mails.now.items }
+    ensures free { news.new.free ≡ news.old.free }
+    ensures due { news.new.due ≡ news.old.due }
+    ensures control { news.new.control ≡ news.old.control }
+{
+    news.stands = row.stands(seat);
+    news.tries_again = row.tries_again(seat);
+    news.still = if may_rest(news.stands, news.progress) {
+        row.hand_on(seat);
+        still_seat(row, mails, seat)
+    } else {
+        None
+    };
+}
+
+// Returns true if a seat that stands so may rest: it has nothing to do, or nothing moved.
+fn may_rest(stands: Stands, progress: Progress) -> bool {
+    match stands {
+        Stands::Done | Stands::Awaits => true,
+        _ => !progress.has_moved(),
+    }
+}
+
+// Returns this seat if nothing moves at it until its connection is ready or it has mail.
+fn still_seat<L: Line + Drop, D: Door<Line = L>>(
+    row: &Row<L, D>,
+    mails: &Vec<Mail, Global>,
+    seat: usize,
+) -> Option<usize>
+    ensures { IsStillSeat L.may_give L.may_take result row.now.seats.items mails.now.items }
+{
+    if row.is_still(seat, has_no_mail(mails, seat)) {
+        Some(seat)
+    } else {
+        None
+    }
+}
+
+// Lets a seat check for its next connection, which is watched from then on.
+fn look<W: Sleeper, L: Line + Drop, D: Door<Line = L>>(
+    sleeper: &W,
+    doors: &mut Doors,
+    alloc: Global,
+    row: &mut Row<L, D>,
+    seat: usize,
+    news: &mut News,
+)
+    requires tended { AreTended L.seen (door_seen D.is_out D.is_at_end D.lines_over) row.old }
+    ensures keeps { KeepsRow L.seen (door_seen D.is_out D.is_at_end D.lines_over) D.same row.old row.new }
+    ensures only { ChangesOnly seat row.old.seats.items row.new.seats.items }
+    ensures free { IsFreeSeat news.new.free row.new.seats.items }
+    ensures still { news.new.still ≡ news.old.still }
+    ensures due { news.new.due ≡ news.old.due }
+    ensures control { news.new.control ≡ news.old.control }
+{
+    let may_have_come = doors.may_come();
+    let watcher = LineWatcher { sleeper, seat };
+    let looked = row.look(alloc, seat, may_have_come, &watcher);
+    doors.note_looked(sleeper.system(), may_have_come, looked);
+    news.may_come = doors.may_come();
+    news.free = free_after(looked, seat);
+    news.progress = progress_of(looked);
+}
+
+// Returns the seat if it found no client and checks again when one may have come.
+fn free_after(looked: Looked, seat: usize) -> Option<usize>
+    ensures { (free : ℕ) → result ≡ Some free → (free ≡ seat) × ((looked ≡ Looked.NotYet) ⊎ (looked ≡ Looked.Later)) }
+{
+    match looked {
+        Looked::Opened | Looked::NoMore => None,
+        Looked::NotYet | Looked::Later => Some(seat),
+    }
+}
+
+fn progress_of(looked: Looked) -> Progress {
+    match looked {
+        Looked::Opened | Looked::NoMore => Progress::Moved,
+        Looked::NotYet | Looked::Later => Progress::NothingToDo,
+    }
+}
+
+// Waits until the system reports something, or something is due. If the loop has something to do,
+// it only asks the system.
+fn wait<
+    T: Turns,
+    W: Sleeper,
+    L: Line + Drop,
+    D: Door<Line = L>,
+    C: Clock + Drop,
+    I: ControlInput + Drop,
+    K: QueueCore + Drop,
+>(
+    turns: &mut T,
+    sleeper: &mut W,
+    doors: &mut Doors,
+    row: &mut Row<L, D>,
+    mails: &Vec<Mail, Global>,
+    news: &mut News,
+    so_far: &SoFar<L, D, C, I, K>,
+)
+    requires tended { AreTended L.seen (door_seen D.is_out D.is_at_end D.lines_over) row.old }
+    requires turn { IsAtTurn L.may_give L.may_take K.machine K.comparisons (T.seats turns.old) (T.listed turns.old) (T.looks turns.old)
+        row.old.seats.items mails.now.items news.old.due news.old.control so_far.now.whole_core.value so_far.now.whole_control.value }
+    ensures keeps { KeepsRow L.seen (door_seen D.is_out D.is_at_end D.lines_over) D.same row.old row.new }
+    ensures known { AreKnown L.may_give L.may_take (T.seats turns.new) (T.listed turns.new) (T.looks turns.new) []
+        row.new.seats.items mails.now.items }
+    ensures free { news.new.free ≡ news.old.free }
+    ensures still { news.new.still ≡ news.old.still }
+    ensures due { news.new.due ≡ news.old.due }
+    ensures control { news.new.control ≡ news.old.control }
+{
+    sleep_or_ask(turns, sleeper, doors, row, mails, news, so_far);
+    doors.pass(sleeper.system());
+    note_reports(turns, sleeper, doors, row, mails);
+    news.may_come = doors.may_come();
+    news.reads = sleeper.control_reads(news.control);
+}
+
+// Waits until the system reports something, or only asks it if the loop has something to do.
+fn sleep_or_ask<
+    T: Turns,
+    W: Sleeper,
+    L: Line + Drop,
+    D: Door<Line = L>,
+    C: Clock + Drop,
+    I: ControlInput + Drop,
+    K: QueueCore + Drop,
+>(
+    turns: &mut T,
+    sleeper: &mut W,
+    doors: &Doors,
+    row: &Row<L, D>,
+    mails: &Vec<Mail, Global>,
+    news: &News,
+    so_far: &SoFar<L, D, C, I, K>,
+)
+    requires turn { IsAtTurn L.may_give L.may_take K.machine K.comparisons (T.seats turns.old) (T.listed turns.old) (T.looks turns.old)
+        row.now.seats.items mails.now.items news.now.due news.now.control so_far.now.whole_core.value so_far.now.whole_control.value }
+    ensures { AreKnown L.may_give L.may_take (T.seats turns.new) (T.listed turns.new) (T.looks turns.new) []
+        row.now.seats.items mails.now.items }
+{
+    if is_busy(turns, sleeper, doors, news) {
+        sleeper.ask();
+        return;
+    }
+    let most = doors.longest_wait(sleeper.system(), news.due);
+    sleeper.sleep(turns, row, mails, so_far, doors, news.due, most);
+}
+
+// Returns true if the loop must not sleep: a seat acts, or checks for a client that may have come,
+// the control line is read or owes a step, connections are left to close, or something is due now.
+fn is_busy<T: Turns, W: Sleeper>(turns: &mut T, sleeper: &W, doors: &Doors, news: &News) -> bool
+    ensures seats { T.seats turns.new ≡ T.seats turns.old }
+    ensures listed { (seat : ℕ) → T.listed turns.new seat ≡ T.listed turns.old seat }
+    ensures looks { (seat : ℕ) → T.looks turns.new seat ≡ T.looks turns.old seat }
+    ensures acts { result ≡ false → (seat : ℕ) → T.listed turns.new seat ≡ false }
+    ensures checks { result ≡ false → may_come doors.now.accepts ≡ true → (seat : ℕ) → T.looks turns.new seat ≡ false }
+    ensures away { result ≡ false → doors.now.are_more_away ≡ false }
+    ensures due { result ≡ false → news.now.due ≡ Some 0 → ⊥ }
+    ensures owes { result ≡ false → news.now.control ≡ ControlStands.Owes → ⊥ }
+    ensures control { result ≡ false → W.awaits_control sleeper.now ≡ true }
+{
+    if !turns.may_sleep(doors.may_come()) {
+        return true;
+    }
+    if doors.are_more_away() {
+        return true;
+    }
+    if let Some(0) = news.due {
+        return true;
+    }
+    if owes(news.control) {
+        return true;
+    }
+    sleeper.control_reads(news.control).is_some()
+}
+
+// Returns true if the control line owes a step.
+fn owes(control: ControlStands) -> bool
+    ensures { result ≡ false → control ≡ ControlStands.Owes → ⊥ }
+{
+    matches!(control, ControlStands::Owes)
+}
+
+// Notes what the system reported: connections that are ready, or a client that may have connected.
+fn note_reports<T: Turns, W: Sleeper, L: Line + Drop, D: Door<Line = L>>(
+    turns: &mut T,
+    sleeper: &mut W,
+    doors: &mut Doors,
+    row: &mut Row<L, D>,
+    mails: &Vec<Mail, Global>,
+)
+    requires tended { AreTended L.seen (door_seen D.is_out D.is_at_end D.lines_over) row.old }
+    requires known { AreKnown L.may_give L.may_take (T.seats turns.old) (T.listed turns.old) (T.looks turns.old) []
+        row.old.seats.items mails.now.items }
+    ensures keeps { KeepsRow L.seen (door_seen D.is_out D.is_at_end D.lines_over) D.same row.old row.new }
+    ensures known { AreKnown L.may_give L.may_take (T.seats turns.new) (T.listed turns.new) (T.looks turns.new) []
+        row.new.seats.items mails.now.items }
+{
+    for number in 0..sleeper.reports() {
+        let report = sleeper.report(number);
+        note_report(report, turns, doors, row, mails);
+    }
+}
+
+fn note_report<T: Turns, L: Line + Drop, D: Door<Line = L>>(
+    report: Report,
+    turns: &mut T,
+    doors: &mut Doors,
+    row: &mut Row<L, D>,
+    mails: &Vec<Mail, Global>,
+)
+    requires tended { AreTended L.seen (door_seen D.is_out D.is_at_end D.lines_over) row.old }
+    requires known { AreKnown L.may_give L.may_take (T.seats turns.old) (T.listed turns.old) (T.looks turns.old) []
+        row.old.seats.items mails.now.items }
+    ensures keeps { KeepsRow L.seen (door_seen D.is_out D.is_at_end D.lines_over) D.same row.old row.new }
+    ensures known { AreKnown L.may_give L.may_take (T.seats turns.new) (T.listed turns.new) (T.looks turns.new) []
+        row.new.seats.items mails.now.items }
+{
+    match report {
+        Report::Line(seat, ready) => {
+            row.note_ready(seat, ready);
+            turns.wake(seat);
+        }
+        Report::Doors => doors.one_may_have_come(),
+        Report::Nothing => {}
+    }
+}

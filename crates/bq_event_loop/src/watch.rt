@@ -1,0 +1,185 @@
+//! The system as epoll (`mio`) reports it.
+ghost use Rattle.std.specs.Prelude.{◌≡◌, None, true, IfOk, IfSome};
+ghost use Rattle.bq_event_loop.specs.Sleeping.{is_awaited};
+
+use crate::doors::Doors;
+use crate::poller::{CONTROL, ControlCame, ControlWatch};
+use crate::row::Row;
+use crate::sleeper::{Report, Sleeper};
+use crate::turns::{ControlReads, ControlStands, SoFar, Turns, TurnsFault};
+use bq_core_api::QueueCore;
+use bq_host::Mail;
+use bq_line::Door;
+use bq_line::clock::Clock;
+use bq_line::control_line::ControlInput;
+use bq_line::line::{Line, Readiness};
+use mio::event::Event;
+use mio::unix::SourceFd;
+use mio::{Events, Interest, Poll, Registry, Token};
+use std::alloc::Global;
+use std::net::Net;
+use std::os::fd::RawFd;
+use std::time::Duration;
+use std::{io, rt};
+
+/// The token of the doors. The token of a connection is the number of its seat.
+const DOORS: Token = Token(usize::MAX - 1);
+
+/// How many events one wait takes from the system.
+const EVENTS: usize = 256;
+
+/// Waits for connections, doors and the control line by epoll. All of its memory is allocated when
+/// it is created.
+#[derive(Drop)]
+pub struct Watch<'r, R> {
+    rt: &'r R,
+    poll: Poll,
+    events: Events,
+    control: ControlWatch,
+}
+
+impl<'r, R: Net> Watch<'r, R> {
+    /// Returns what watches these doors and the control line. `control` is the descriptor of the
+    /// control line. If it is `None`, or epoll rejects it because it belongs to a file, the control
+    /// line is read to its end before any door is checked.
+    ///
+    /// Returns `NoMemory` if an allocation failed. Returns `Refused` if the system refused epoll or
+    /// does not report a door or the control line, since that would never be looked at, and if the
+    /// doors have more than one listener.
+    pub fn new<L: Line + Drop, D: Door<Line = L>>(
+        rt: &'r R,
+        alloc: Global,
+        doors: &[D],
+        control: Option<RawFd>,
+    ) -> Result<Watch<'r, R>, TurnsFault> {
+        let Ok(events) = Events::with_capacity(alloc, EVENTS) else {
+            return Err(TurnsFault::NoMemory);
+        };
+        let Ok(poll) = Poll::new(rt) else {
+            return Err(TurnsFault::Refused);
+        };
+        watch_doors(poll.registry(), doors)?;
+        let control = ControlWatch::new(poll.registry(), control)?;
+        Ok(Watch {
+            rt,
+            poll,
+            events,
+            control,
+        })
+    }
+}
+
+impl<'r, R: rt::Clock> Sleeper for Watch<'r, R> {
+    type System = R;
+
+    ghost awaits_control = { λ watch. is_awaited watch.control };
+
+    fn system(&self) -> &R {
+        self.rt
+    }
+
+    // Urgent data is reported too: a read stops at it, and the bytes after it would stay unread.
+    fn watch(&self, fd: RawFd, seat: usize) -> io::Result<()> {
+        let all = Interest::READABLE | Interest::WRITABLE | Interest::PRIORITY;
+        self.poll
+            .registry()
+            .register(&mut SourceFd(&fd), Token(seat), all)
+    }
+
+    fn control_reads(&self, stands: ControlStands) -> Option<ControlReads> {
+        self.control.reads(stands)
+    }
+
+    fn watch_control(&mut self, stands: ControlStands) {
+        self.control.watch_on(self.poll.registry(), stands);
+    }
+
+    fn sleep<
+        T: Turns,
+        L: Line + Drop,
+        D: Door<Line = L>,
+        C: Clock + Drop,
+        I: ControlInput + Drop,
+        K: QueueCore + Drop,
+    >(
+        &mut self,
+        _turns: &T,
+        _row: &Row<L, D>,
+        _mails: &Vec<Mail, Global>,
+        _so_far: &SoFar<L, D, C, I, K>,
+        _doors: &Doors,
+        _due: Option<u64>,
+        most: Option<Duration>,
+    ) {
+        // A failed wait reports nothing.
+        let _polled = self.poll.poll(&mut self.events, most);
+    }
+
+    fn ask(&mut self) {
+        let _polled = self.poll.poll(&mut self.events, Some(Duration::ZERO));
+    }
+
+    fn reports(&self) -> usize {
+        self.events.iter().as_slice().len()
+    }
+
+    fn report(&mut self, number: usize) -> Report {
+        let Some(event) = self.events.iter().as_slice().get(number) else {
+            return Report::Nothing;
+        };
+        let token = event.token();
+        if token == DOORS {
+            return Report::Doors;
+        }
+        if token == CONTROL {
+            if let Some(came) = ControlCame::of(event) {
+                self.control.more_came(came);
+            }
+            return Report::Nothing;
+        }
+        Report::Line(token.0, readiness_of(event))
+    }
+}
+
+// Registers the listener of the doors. They have to share it: what is known of connections that
+// wait is known of one listener.
+fn watch_doors<L: Line + Drop, D: Door<Line = L>>(
+    registry: &Registry,
+    doors: &[D],
+) -> Result<(), TurnsFault> {
+    let mut watched = None;
+    for door in doors {
+        if let Some(fd) = door.source() {
+            watch_listener(registry, watched, fd)?;
+            watched = Some(fd);
+        }
+    }
+    Ok(())
+}
+
+// Registers the listener of a door, unless it is the one that is registered. Another one is
+// refused.
+fn watch_listener(registry: &Registry, watched: Option<RawFd>, fd: RawFd) -> Result<(), TurnsFault>
+    ensures one { IfOk result (λ done. IfSome watched (λ first. fd ≡ first)) }
+{
+    if let Some(first) = watched {
+        return if fd == first {
+            Ok(())
+        } else {
+            Err(TurnsFault::Refused)
+        };
+    }
+    match registry.register(&mut SourceFd(&fd), DOORS, Interest::READABLE) {
+        Ok(()) => Ok(()),
+        Err(_) => Err(TurnsFault::Refused),
+    }
+}
+
+fn readiness_of(event: &Event) -> Readiness {
+    let is_closing = event.is_read_closed() || event.is_error() || event.is_priority();
+    Readiness {
+        reads: event.is_readable() || is_closing,
+        writes: event.is_writable() || event.is_error(),
+        is_closing,
+    }
+}
