@@ -1,3 +1,3 @@
 pub mod BeginLemmas
 pub mod DoorLemmas
-pub mod TurnLemmas
+pub mod WaitLemmas

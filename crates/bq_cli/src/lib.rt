@@ -22,7 +22,7 @@ mod journal;
 mod listening;
 mod log;
 mod logging;
-mod lone_turns;
+mod lone_watch;
 mod program;
 mod server;
 mod shared;

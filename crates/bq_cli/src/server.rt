@@ -8,15 +8,16 @@ ghost use Rattle.bq_cli.specs.Servers.{IsDoorAt, IsServerLoop, IsServerRun, IsSt
 ghost use Rattle.bq_cli.specs.Servers.{IsStatusOfServer, IsStatusOfThreads, MayRefuse};
 ghost use Rattle.bq_cli.specs.Servers.{came_of_doors, came_of_loop, came_of_run, settings_of};
 ghost use Rattle.bq_event_loop.specs.EventLoopRuns.{IsEventLoopRun, IsEventLoopSoFar};
+ghost use Rattle.bq_event_loop.specs.Refused.{IsRefusedBy};
 ghost use Rattle.bq_run.specs.ThreadRuns.{IsRunOf};
 ghost use Rattle.bq_core_api.specs.Limits.{are_in_range};
 
 use crate::ending::Ending;
-use crate::lone_turns::LoneTurns;
+use crate::lone_watch::LoneWatch;
 use crate::telling_clock::TellingClock;
 use bq_core::{Config, Core};
 use bq_core_api::QueueCore;
-use bq_event_loop::{EventLoopRun, run_turns};
+use bq_event_loop::{EventLoopRun, Poller, RunRefused, run_turns};
 use bq_host::RunFault;
 use bq_job::NoMemory;
 use bq_line::control_line::ControlReader;
@@ -237,7 +238,7 @@ fn serve_by_threads<R: Threads + Wait + Clock + Print + Eprint + Sync, I: Contro
 
 /// Reports how this run of a server by an event loop ended, unless another thread has done so.
 /// Returns the status of the program.
-pub fn status_of_loop<'l, R: Wait + Clock + Eprint, C: Drop, I: Drop>(
+pub fn status_of_loop<'l, R: Clock + Eprint, C: Drop, I: Drop>(
     rt: &R,
     ending: &Ending,
     came: &Result<EventLoopRun<TcpLine, TcpDoor<'l, R>, C, I, Core>, Fault>,
@@ -248,7 +249,7 @@ pub fn status_of_loop<'l, R: Wait + Clock + Eprint, C: Drop, I: Drop>(
 }
 
 /// Does the same for a run by threads.
-pub fn status_of_threads<'l, R: Wait + Clock + Eprint, C: Drop, I: Drop>(
+pub fn status_of_threads<'l, R: Clock + Eprint, C: Drop, I: Drop>(
     rt: &R,
     ending: &Ending,
     came: &Result<Run<TcpDoor<'l, R>, C, I, Core>, Fault>,
@@ -332,7 +333,7 @@ pub fn run_loop<'l, R: Net + Wait + Clock + Print + Eprint, I: ControlReader + D
         tell.ending,
     ) {
         Ok(run) => Ok(run),
-        Err(fault) => Err(fault_of_loop(fault)),
+        Err(refused) => Err(fault_of_loop(refused.fault)),
     }
 }
 
@@ -387,7 +388,7 @@ pub fn serve_doors_by_loop<
     control: I,
     source: Option<RawFd>,
     ending: &Ending,
-) -> Result<EventLoopRun<TcpLine, TcpDoor<'l, R>, C, I, Core>, RunFault>
+) -> Result<EventLoopRun<TcpLine, TcpDoor<'l, R>, C, I, Core>, RunRefused<TcpDoor<'l, R>>>
     requires new { All (λ door. IsNewDoor (door_seen ⟦<TcpDoor<'l, R> as Door>⟧.is_out
         ⟦<TcpDoor<'l, R> as Door>⟧.is_at_end ⟦<TcpDoor<'l, R> as Door>⟧.lines_over door)) doors.items }
     ensures served { IfOk result (λ run. run.is_over ≡ true → IsEventLoopRun C.given ⟦<TcpDoor<'l, R> as Door>⟧.lines_over
@@ -402,11 +403,22 @@ pub fn serve_doors_by_loop<
         × (⟦<TcpDoor<'l, R> as Door>⟧.is_at_end door ≡ true)) run.doors.items) }
     ensures same { IfOk result
         (λ run. AreSame ⟦<TcpDoor<'l, R> as Door>⟧.same doors.entry.items run.doors.items) }
-    ensures bad_configuration { IsErrOf result RunFault.BadConfiguration
+    // A run that did not begin opened no door.
+    ensures unopened { IfErr result (λ refused. refused.doors ≡ doors.entry) }
+    ensures bad_configuration { IsRefusedBy result RunFault.BadConfiguration
         ↔ IsTrue (not (are_in_range (settings_of options.now) && vec_len doors.entry == options.now.seats)) }
 {
-    let turns = LoneTurns::new(rt, alloc, options.seats, doors.as_slice(), ending, source);
-    run_turns(alloc, config_of(options), doors, clock, control, turns)
+    let turns = Poller::new(alloc, options.seats);
+    let sleeper = LoneWatch::new(rt, alloc, doors.as_slice(), ending, source);
+    run_turns(
+        alloc,
+        config_of(options),
+        doors,
+        clock,
+        control,
+        turns,
+        sleeper,
+    )
 }
 
 // The settings of a run by these options.
@@ -422,7 +434,7 @@ fn config_of(options: &Options) -> Config
 }
 
 // Returns the fault of a server, or that some connection could not be accepted.
-fn came_of<'l, R: Wait + Clock + Eprint, C: Drop, I: Drop>(
+fn came_of<'l, R: Clock + Eprint, C: Drop, I: Drop>(
     came: &Result<Run<TcpDoor<'l, R>, C, I, Core>, Fault>,
 ) -> Result<(), Fault>
     ensures { result ≡ came_of_run (λ door. door.met_fault) came.now }
@@ -434,7 +446,7 @@ fn came_of<'l, R: Wait + Clock + Eprint, C: Drop, I: Drop>(
 }
 
 // Returns the same for an event loop. If it was broken off, that is a fault too.
-fn came_of_loop<'l, R: Wait + Clock + Eprint, C: Drop, I: Drop>(
+fn came_of_loop<'l, R: Clock + Eprint, C: Drop, I: Drop>(
     came: &Result<EventLoopRun<TcpLine, TcpDoor<'l, R>, C, I, Core>, Fault>,
 ) -> Result<(), Fault>
     ensures { result ≡ came_of_loop (λ door. door.met_fault) came.now }
@@ -451,7 +463,7 @@ fn came_of_loop<'l, R: Wait + Clock + Eprint, C: Drop, I: Drop>(
     }
 }
 
-fn came_of_doors<R: Wait + Clock + Eprint>(doors: &[TcpDoor<'_, R>]) -> Result<(), Fault>
+fn came_of_doors<R: Clock + Eprint>(doors: &[TcpDoor<'_, R>]) -> Result<(), Fault>
     ensures { result ≡ came_of_doors (λ door. door.met_fault) doors.now }
 {
     if met_fault(doors) {
@@ -461,7 +473,7 @@ fn came_of_doors<R: Wait + Clock + Eprint>(doors: &[TcpDoor<'_, R>]) -> Result<(
     }
 }
 
-fn met_fault<R: Wait + Clock + Eprint>(doors: &[TcpDoor<'_, R>]) -> bool
+fn met_fault<R: Clock + Eprint>(doors: &[TcpDoor<'_, R>]) -> bool
     ensures { result ≡ list_any (λ door. door.met_fault) doors.now }
 {
     doors.iter().any(|door| door.met_fault())
