@@ -10,9 +10,13 @@ mod failing_lines;
 #[cfg(test)]
 mod flow;
 #[cfg(test)]
+mod held_bytes;
+#[cfg(test)]
 mod long_answers;
 #[cfg(test)]
 mod mails;
+#[cfg(test)]
+mod nobody;
 #[cfg(test)]
 mod order;
 #[cfg(test)]

@@ -1,22 +1,16 @@
 //! Orders in which the seats of a run act.
-ghost use Rattle.std.specs.Prelude.{◌≡◌, true, false, length};
-ghost use Rattle.bq_line.specs.Tending.{door_seen};
-ghost use Rattle.bq_event_loop.specs.Rows.{AreTended, KeepsRow};
+ghost use Rattle.std.specs.Prelude.{true, false};
 
 use crate::together::Together;
 use bq_core_api::QueueCore;
-use bq_event_loop::{Began, ControlReads, News, Row, SoFar, Turn, Turns};
-use bq_host::Mail;
+use bq_event_loop::{Began, ControlReads, Extent, News, SoFar, Stands, Turn, Turns};
+use bq_line::Door;
 use bq_line::clock::Clock;
 use bq_line::control_line::ControlInput;
 use bq_line::line::Line;
-use bq_line::{Door, Watcher};
-use std::alloc::Global;
-use std::io;
-use std::os::fd::RawFd;
 
 /// The largest number of seats in a run.
-const MOST: usize = 8;
+pub const MOST: usize = 8;
 
 /// A run that takes more turns is given up.
 const TURNS: u64 = 400_000;
@@ -54,12 +48,16 @@ enum Stage {
 pub struct Order<'t> {
     rule: Rule,
     reads: ControlReads,
+    seats: usize,
     all: &'t Together,
     stage: Stage,
     // How many of the last actions of each seat moved nothing.
     unmoved: [u8; MOST],
-    // The seat of the last turn.
-    last: Option<usize>,
+    // Whether each seat is between two connections, and whether it has to try again.
+    between: [bool; MOST],
+    tries_again: [bool; MOST],
+    // The seat of the last turn, and whether it checked for a connection.
+    last: Option<(usize, bool)>,
     // The seat after which the search for the next one begins.
     after: usize,
     drawn: u32,
@@ -67,18 +65,21 @@ pub struct Order<'t> {
 }
 
 impl<'t> Order<'t> {
-    /// Returns an order by this rule. The control line is read this far each time; with `ToEnd` it
-    /// is read before anything else.
-    pub fn new(rule: Rule, reads: ControlReads, all: &'t Together) -> Order<'t> {
+    /// Returns an order of this many seats by this rule. The control line is read this far each time;
+    /// with `ToEnd` it is read before anything else.
+    pub fn new(rule: Rule, reads: ControlReads, seats: usize, all: &'t Together) -> Order<'t> {
         Order {
             rule,
             reads,
+            seats,
             all,
             stage: match reads {
                 ControlReads::ToEnd => Stage::Control,
                 _ => Stage::Seats,
             },
             unmoved: [0; MOST],
+            between: [true; MOST],
+            tries_again: [false; MOST],
             last: None,
             after: 0,
             drawn: 1,
@@ -88,16 +89,31 @@ impl<'t> Order<'t> {
 
     // Notes whether the last turn moved something. If it did, every other seat can act, unless
     // seats act only after they are woken.
-    fn note(&mut self, moved: bool) {
-        let Some(seat) = self.last else {
+    fn note(&mut self, news: &News) {
+        let Some((seat, looked)) = self.last else {
             return;
         };
+        let moved = news.progress.has_moved();
         if moved && !matches!(self.rule, Rule::Woken) {
             self.unmoved = [0; MOST];
         } else if let Some(unmoved) = self.unmoved.get_mut(seat) {
             *unmoved = if moved { 0 } else { unmoved.saturating_add(1) };
         }
+        self.note_stands(seat, looked, news);
         self.last = None;
+    }
+
+    fn note_stands(&mut self, seat: usize, looked: bool, news: &News) {
+        if let Some(between) = self.between.get_mut(seat) {
+            *between = if looked {
+                news.free.is_some()
+            } else {
+                news.stands == Stands::Between
+            };
+        }
+        if let Some(tries_again) = self.tries_again.get_mut(seat) {
+            *tries_again = !looked && news.tries_again;
+        }
     }
 
     // Counts a turn. A run that takes too many is given up.
@@ -135,16 +151,11 @@ impl<'t> Order<'t> {
     }
 
     // Returns the next seat that can act.
-    fn choose<L: Line + Drop, D: Door<Line = L>>(&mut self, row: &Row<L, D>) -> Option<usize> {
-        let seats = row.len();
-        let begin = self.begin(seats);
-        for place in 0..seats {
-            let seat = self.seat_at(begin, place, seats);
-            let tries_again = match row.seat(seat) {
-                Some(attendant) => attendant.tries_again(),
-                None => false,
-            };
-            if self.may_go_on(seat, tries_again) {
+    fn choose(&mut self) -> Option<usize> {
+        let begin = self.begin(self.seats);
+        for place in 0..self.seats {
+            let seat = self.seat_at(begin, place, self.seats);
+            if self.may_go_on(seat) {
                 self.after = seat;
                 return Some(seat);
             }
@@ -152,40 +163,46 @@ impl<'t> Order<'t> {
         None
     }
 
-    fn may_go_on(&self, seat: usize, tries_again: bool) -> bool {
+    fn may_go_on(&self, seat: usize) -> bool {
         match self.unmoved.get(seat) {
-            Some(unmoved) => *unmoved < 2 || tries_again,
+            Some(unmoved) => *unmoved < 2 || self.tries(seat) || self.all.is_ready(seat),
             None => false,
         }
     }
 
-    // Returns the next turn of a round.
-    fn turn(&mut self, seat: Option<usize>) -> Turn {
-        match (self.stage, seat) {
-            (Stage::Seats, Some(seat)) => {
-                self.last = Some(seat);
-                match self.rule {
-                    Rule::Commands => Turn::Command(seat),
-                    _ => Turn::Seat(seat),
-                }
-            }
-            (Stage::Seats, None) => {
-                self.stage = Stage::Time;
-                Turn::Nothing
-            }
-            (Stage::Time, _) => {
-                self.stage = Stage::Control;
-                Turn::Time
-            }
-            (Stage::Control, _) => {
-                self.begin_round();
-                Turn::Control(self.reads)
-            }
+    fn tries(&self, seat: usize) -> bool {
+        match self.tries_again.get(seat) {
+            Some(tries_again) => *tries_again,
+            None => false,
         }
     }
 
-    // Begins a round. With most rules it tries each seat again, since the seat's line may be ready
-    // by now. In a run that was given up each line fails.
+    fn is_between(&self, seat: usize) -> bool {
+        match self.between.get(seat) {
+            Some(between) => *between,
+            None => false,
+        }
+    }
+
+    // Returns the next turn of a seat. A seat between two connections checks for the next one.
+    fn seat_turn(&mut self) -> Turn {
+        let Some(seat) = self.choose() else {
+            self.stage = Stage::Time;
+            return Turn::Nothing;
+        };
+        let looks = self.is_between(seat);
+        self.last = Some((seat, looks));
+        if looks {
+            return Turn::Look(seat);
+        }
+        match self.rule {
+            Rule::Commands => Turn::Serve(seat, Extent::Command),
+            _ => Turn::Serve(seat, Extent::Action),
+        }
+    }
+
+    // Begins a round. With most rules it tries each seat again, since the seat's connection may be
+    // ready by now. In a run that was given up each connection fails.
     fn begin_round(&mut self) {
         self.stage = Stage::Seats;
         if !matches!(self.rule, Rule::Woken) || self.all.has_given_up() {
@@ -211,25 +228,20 @@ impl<'t> Turns for Order<'t> {
         C: Clock + Drop,
         I: ControlInput + Drop,
         K: QueueCore + Drop,
-    >(
-        &mut self,
-        alloc: Global,
-        row: &mut Row<L, D>,
-        _mails: &Vec<Mail, Global>,
-        news: News,
-        _began: &Began<D, C, I>,
-        _so_far: SoFar<C, I, K>,
-    ) -> Turn {
-        self.note(news.progress.has_moved());
+    >(&mut self, news: &News, _began: &Began<D, C, I>, _so_far: SoFar<L, D, C, I, K>) -> Turn {
+        self.note(news);
         self.count();
-        if !matches!(self.stage, Stage::Seats) {
-            return self.turn(None);
+        match self.stage {
+            Stage::Seats => self.seat_turn(),
+            Stage::Time => {
+                self.stage = Stage::Control;
+                Turn::Time
+            }
+            Stage::Control => {
+                self.begin_round();
+                Turn::Control(self.reads)
+            }
         }
-        let seat = self.choose(row);
-        if let Some(seat) = seat {
-            look_if_free(alloc, row, seat, self.rule);
-        }
-        self.turn(seat)
     }
 
     fn wake(&mut self, seat: usize) {
@@ -237,31 +249,9 @@ impl<'t> Turns for Order<'t> {
             *unmoved = 0;
         }
     }
-}
 
-// The lines of scripts are never waited for.
-#[derive(Clone, Copy)]
-struct Nobody;
-
-impl Watcher for Nobody {
-    fn watch(&self, _fd: RawFd) -> io::Result<()> {
-        Ok(())
-    }
-}
-
-// With some rules a seat checks for its next line before its turn. With the others it opens its
-// door in its turn.
-fn look_if_free<L: Line + Drop, D: Door<Line = L>>(
-    alloc: Global,
-    row: &mut Row<L, D>,
-    seat: usize,
-    rule: Rule,
-)
-    requires tended { AreTended L.seen (door_seen D.is_out D.is_at_end D.lines_over) row.old }
-    ensures keeps { KeepsRow L.seen (door_seen D.is_out D.is_at_end D.lines_over) D.same row.old row.new }
-    ensures many { length row.new.seats.items ≡ length row.old.seats.items }
-{
-    if matches!(rule, Rule::Next | Rule::Woken) {
-        let _looked = row.look(alloc, seat, true, &Nobody);
+    // It never sleeps, since the connections of scripts are never waited for.
+    fn may_sleep(&mut self, _may_come: bool) -> bool {
+        false
     }
 }

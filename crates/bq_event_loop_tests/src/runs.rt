@@ -1,5 +1,6 @@
 //! Runs of doors in memory.
 
+use crate::nobody::Nobody;
 use crate::order::Order;
 use crate::script_door::{ScriptDoor, doors_of};
 use crate::series::Series;
@@ -8,7 +9,7 @@ use crate::together::Together;
 use crate::visits::{Run, Table};
 use bq_core::Core;
 use bq_core_api::Config;
-use bq_event_loop::{EventLoopRun, TurnsFault, run_turns};
+use bq_event_loop::{EventLoopRun, RunRefused, TurnsFault, run_turns};
 use bq_host::RunFault;
 use bq_job::{Moment, USUAL_BODY};
 use bq_line::Door;
@@ -50,11 +51,12 @@ fn are_left_so(doors: Vec<ScriptDoor<'_>, Global>, setting: &Setting) -> bool {
 // Returns the turns of a run, or this fault.
 fn turns_of<'t>(
     setting: &Setting,
+    seats: u16,
     fault: Option<TurnsFault>,
     all: &'t Together,
 ) -> Result<Order<'t>, TurnsFault> {
     match fault {
-        None => Ok(Order::new(setting.rule, setting.reads, all)),
+        None => Ok(Order::new(setting.rule, setting.reads, usize::from(seats), all)),
         Some(fault) => Err(fault),
     }
 }
@@ -75,11 +77,14 @@ pub fn ran_so(
     };
     let doors = doors_of(alloc, table, run, setting, all);
     let clock = clock_of(alloc, setting.readings);
-    let turns = turns_of(setting, fault, all);
-    let ran: Result<Ran<'_>, RunFault> = run_turns(alloc, config, doors.all, clock, control, turns);
+    let turns = turns_of(setting, config.seats, fault, all);
+    let nobody = Ok(Nobody::new());
+    let ran: Result<Ran<'_>, RunRefused<ScriptDoor<'_>>> = run_turns(
+        alloc, config, doors.all, clock, control, turns, nobody,
+    );
     match ran {
         Ok(ran) => Ok(ran.is_over && are_left_so(ran.doors, setting)),
-        Err(fault) => Err(fault),
+        Err(refused) => Err(refused.fault),
     }
 }
 

@@ -132,6 +132,15 @@ impl<'t> Script<'t> {
         }
     }
 
+    // Notes how many bytes all clients have to receive before it goes on, if it waits for that.
+    fn note_awaited(&self) {
+        let count = match self.part {
+            Part::All(count) => count,
+            _ => u64::MAX,
+        };
+        self.all.note_awaited(self.visit.door, count);
+    }
+
     // Reads from its part, which is not done.
     fn read_part(&mut self, buf: &mut [u8]) -> Result<usize, StreamError>
         ensures { ReadsAtMost result buf.new }
@@ -167,8 +176,10 @@ impl<'t> Script<'t> {
             return Err(StreamError::Fault);
         }
         if self.all.written() < self.stops {
+            self.all.note_awaited(self.visit.door, self.stops);
             return Err(StreamError::NotYet);
         }
+        self.all.note_awaited(self.visit.door, u64::MAX);
         match self.takes.take(most.min(self.room)) {
             Some(count) => Ok(count),
             None => Err(StreamError::NotYet),
@@ -202,6 +213,7 @@ impl<'t> Duplex for Script<'t> {
             return Err(StreamError::Fault);
         }
         self.pass_parts();
+        self.note_awaited();
         if self.awaits() {
             return Err(StreamError::NotYet);
         }

@@ -51,6 +51,7 @@ impl<'t> ScriptDoor<'t> {
 
 impl<'t> Door for ScriptDoor<'t> {
     ghost use Rattle.std.proofs.Common.{refl};
+    ghost use Rattle.std.specs.Prelude.{true};
 
     type Line = IoLine<Script<'t>>;
 
@@ -62,7 +63,12 @@ impl<'t> Door for ScriptDoor<'t> {
 
     ghost same = { λ first last. last.seat ≡ first.seat };
 
+    // The streams of its clients may fail.
+    ghost may_fail = { λ d. true };
+
     ghost same_self = { λ d. refl };
+
+    ghost same_streams = { λ first last same. refl };
 
     fn open(&mut self) -> Result<Option<IoLine<Script<'t>>>, DoorFault> {
         self.all.note_opened();

@@ -1,5 +1,6 @@
 //! What the connections of a run have in common.
 
+use crate::order::MOST;
 use std::sync::atomic::{AtomicBool, AtomicU64, Ordering};
 
 /// What the connections of a run have in common.
@@ -8,6 +9,8 @@ pub struct Together {
     written: AtomicU64,
     opened: AtomicU64,
     has_given_up: AtomicBool,
+    // How many bytes all clients have to receive before the one at each seat goes on, or `u64::MAX`.
+    awaited: [AtomicU64; MOST],
 }
 
 impl Together {
@@ -17,6 +20,16 @@ impl Together {
             written: AtomicU64::new(0),
             opened: AtomicU64::new(0),
             has_given_up: AtomicBool::new(false),
+            awaited: [
+                AtomicU64::new(u64::MAX),
+                AtomicU64::new(u64::MAX),
+                AtomicU64::new(u64::MAX),
+                AtomicU64::new(u64::MAX),
+                AtomicU64::new(u64::MAX),
+                AtomicU64::new(u64::MAX),
+                AtomicU64::new(u64::MAX),
+                AtomicU64::new(u64::MAX),
+            ],
         }
     }
 
@@ -30,7 +43,22 @@ impl Together {
         self.written.load(Ordering::SeqCst)
     }
 
-    /// Counts a call that opens a door or checks for its next line.
+    /// Notes that the client at a seat waits until all clients have received this many bytes.
+    pub fn note_awaited(&self, seat: usize, count: u64) {
+        if let Some(awaited) = self.awaited.get(seat) {
+            awaited.store(count, Ordering::SeqCst);
+        }
+    }
+
+    /// Returns true if the client at a seat has waited for bytes of others, and these were received.
+    pub fn is_ready(&self, seat: usize) -> bool {
+        match self.awaited.get(seat) {
+            Some(awaited) => awaited.load(Ordering::SeqCst) <= self.written(),
+            None => false,
+        }
+    }
+
+    /// Counts a call that opens a door or checks for its next connection.
     pub fn note_opened(&self) {
         self.opened.fetch_add(1, Ordering::SeqCst);
     }
