@@ -1,18 +1,20 @@
 -- A computed run as part of a history, and the connections of a door with their steps.
 use Rattle.std.proofs.Common.{◌≡◌, ℕ, suc, Bool, true, false, List, [], ◌∷◌, ◌++◌}
-use Rattle.std.proofs.Common.{map, length, Option, ◌⊎◌, refl, ap, inl, arith, rules, subst}
+use Rattle.std.proofs.Common.{map, length, Option, ◌⊎◌, refl, ap, inl, inr, arith, rules, subst, ◌∙◌, append_assoc}
+use Rattle.std.specs.Prelude.{codes}
 use Rattle.std.proofs.lemmas.{Bool.cases_Bool, Grind.common_steps}
 use Rattle.std.specs.List.{list_any}
 use Rattle.bq_job.specs.promise.{AreAllAnswered, AreDoorsOwed, AreLinesOwed, ArePickedFrom, AreSeatsUpTo, Entry, IsControlDone}
-use Rattle.bq_job.specs.promise.{IsDoorOwed, IsLineOwed, IsOverBy, IsRun, IsStepsOfLine, IsTimedBy, IsWritten, LineOver, heard, steps_at}
+use Rattle.bq_job.specs.promise.{IsDoorOwed, IsLineOwed, IsOverBy, IsRun, IsStepsOfLine, IsTimedBy, IsWritten, LineHeard, LineOver}
+use Rattle.bq_job.specs.promise.{IsDoorOwedSoFar, MayTellEnd, answered_count, heard, steps_at}
 use Rattle.bq_job.specs.beside.{AreSameRequests, machine_after, reading, transition, transitions}
 use Rattle.bq_job.specs.{declared.request.Request.TheVariants.Reserve, machine.{Settings, has_closed, new_machine}}
-use Rattle.bq_wire_tests.specs.examples.HistoryExamples.{AreServedOver, given_over, readings_of, seated, usual}
+use Rattle.bq_wire_tests.specs.examples.HistoryExamples.{AreServedOver, closing_after, ended_line, given_over, readings_of, seated, usual}
 use Rattle.bq_job.specs.{machine.Machine.Machine, reading.Reading.Reads}
 use Rattle.bq_job.specs.declared.{answer.Answer.Answer, request.Request.Request, step.Step.Step}
 use Rattle.bq_job.specs.declared.step.Step.TheVariants as steps
 use Rattle.bq_job.specs.declared.answer.Answer.TheVariants as answers
-use Rattle.bq_job.proofs.{ComputedRunLemmas.computed_goes, ReadsLemmas.reading-Reads}
+use Rattle.bq_job.proofs.{ComputedRunLemmas.computed_goes, CutLemmas.same_cut, ReadsLemmas.reading-Reads}
 
 -- all of the moments are some of the moments
 pub picked_all : (moments : List ℕ) → ArePickedFrom moments moments
@@ -90,3 +92,28 @@ lines_are_shut size (line ∷ lines) own given h = grind (arith, common_steps, c
 pub dropped_none : (lines : List LineOver) (given : List Answer)
     → IsDoorOwed usual lines (steps.Connect ∷ steps.Ask Reserve ∷ steps.Gone ∷ []) given → ⊥
 dropped_none lines given h = grind (arith, common_steps, lines_are_shut, close_before)
+
+-- A connection that submitted a reserve wants an answer to it.
+pub reserve_wants : (line : LineHeard) (asked : List Request) (end_steps more current rest : List Step) → MayTellEnd line asked end_steps
+    → steps.Connect ∷ steps.Ask Reserve ∷ rest
+    ≡ ((steps.Connect ∷ [] ++ map steps.Ask asked ++ end_steps ++ steps.Close ∷ []) ++ more) ++ current
+    → answered_count asked ≡ 0 → ⊥
+reserve_wants line [] end_steps more current rest (inl e) is none = let z = rw e at is in cc
+reserve_wants line [] end_steps more current rest (inr e) is none = let z = rw e.0 at is in cc
+reserve_wants line (request ∷ asked) end_steps more current rest m is none =
+    let same : request ≡ Reserve = cc in
+    let wants : answered_count (Reserve ∷ asked) ≡ 0 = subst (λ (r : Request). answered_count (r ∷ asked) ≡ 0) same none in
+    omega arith
+
+-- The reserve of a connection that has ended is not answered by the `Closed` of a later one.
+pub not_closed_later : IsDoorOwedSoFar usual (closing_after (ended_line (codes "reserve\r\n") []))
+    (steps.Connect ∷ steps.Ask Reserve ∷ steps.Close ∷ steps.Connect ∷ steps.Close ∷ []) (answers.Closed ∷ answers.Closed ∷ []) → ⊥
+not_closed_later h =
+    let l = h.of_lines in
+    let s = l.4.steps in
+    let cut = same_cut [] l.2 (answers.Closed ∷ []) (l.3 ++ h.later) refl l.5
+    (h.answers_are ∙ ap (λ (xs : List Answer). xs ++ h.later) l.7 ∙ append_assoc l.2 (answers.Closed ∷ l.3) h.later) in
+    reserve_wants (heard (ended_line (codes "reserve\r\n") []).seen) s.asked s.end_steps l.1 h.current
+    (steps.Close ∷ steps.Connect ∷ steps.Close ∷ []) s.ends
+    (h.taken_is ∙ ap (λ (xs : List Step). xs ++ h.current) (l.6 ∙ ap (λ (xs : List Step). xs ++ l.1) s.steps_are))
+    (let a = l.4.answered in let n = ap length cut.0 in omega arith)

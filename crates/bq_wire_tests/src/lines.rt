@@ -120,7 +120,7 @@ fn all_ask_the_same(alloc: Global, lines: &str) -> bool {
 }
 
 #[test]
-fn all_commands(rt: HostRuntime) {
+fn lines_of_all_commands(rt: HostRuntime) {
     assert!(rt; all_ask_the_same(rt.alloc(), COMMANDS));
     assert!(rt;
         asks(
@@ -129,14 +129,6 @@ fn all_commands(rt: HostRuntime) {
             "put 1 2 3 of 97 98 99 100;"
         )
     );
-}
-
-#[test]
-fn bad_words(rt: HostRuntime) {
     assert!(rt; all_ask(rt.alloc(), BAD_WORDS, "102;"));
-}
-
-#[test]
-fn unknown_words(rt: HostRuntime) {
     assert!(rt; all_ask(rt.alloc(), UNKNOWN, "101;"));
 }

@@ -1,12 +1,12 @@
 -- Short words for worked examples of histories: connections that have ended, and the steps of all
 -- clients.
-use Rattle.std.specs.Prelude.{ℕ, true, false, List, map, length, flat_map, Option, Some, None}
+use Rattle.std.specs.Prelude.{ℕ, true, false, List, [], ◌∷◌, map, length, flat_map, Option, Some, None}
 use Rattle.bq_job.specs.declared.line_end.LineEnd.TheVariants as ends
 use Rattle.bq_job.specs.declared.line_end.LineFault.TheVariants as faults
 use Rattle.bq_job.specs.declared.step.Step.TheVariants as steps
 use Rattle.bq_job.specs.{beside.{machine_after, transitions}, machine.GivenAnswer}
 use Rattle.bq_wire_tests.specs.examples.Examples.{event, plain}
-use Rattle.bq_job.specs.{machine.{Settings, new_machine}, promise.{Entry, IsHistoryOf, LineOver}}
+use Rattle.bq_job.specs.{machine.{Settings, new_machine}, promise.{DoorSoFar, Entry, IsHistoryOf, LineOver}}
 
 -- the default limit on bodies
 abbrev pub usual : ℕ
@@ -37,6 +37,12 @@ unread_line read written =
 abbrev pub unwritten_line : List ℕ → List ℕ → LineOver
 unwritten_line read written =
     record { seen = record { read = read; written = written; ended = false; fault = Some faults.Write }; over = ends.WriteFault }
+
+-- a door with this connection, which has ended, and with an open one that reached the end of its
+-- input
+abbrev pub closing_after : LineOver → DoorSoFar
+closing_after line =
+    record { over = line ∷ []; out = Some (record { read = []; written = []; ended = true; fault = None }); is_out = true }
 
 -- the seat gets no more connections
 abbrev pub gone : ℕ → Entry

@@ -6,9 +6,9 @@ ghost use Rattle.bq_job.specs.declared.step.Step.{Step};
 ghost use Rattle.bq_job.specs.declared.answer.Answer.TheVariants.{Closed, Deleted, Inserted, Kicked};
 ghost use Rattle.bq_job.specs.declared.request.Request.TheVariants.{Put, Quit, Reserve};
 ghost use Rattle.bq_job.specs.declared.step.Step.TheVariants.{Ask, Close, Connect, Drain, Gone};
-ghost use Rattle.bq_job.specs.promise.{IsControlDone, IsDoorOwed, IsHistoryOf, IsLineOwed, IsTimedBy, LineOver};
+ghost use Rattle.bq_job.specs.promise.{IsControlDone, IsDoorOwed, IsDoorOwedSoFar, IsHistoryOf, IsLineOwed, IsTimedBy, LineOver};
 ghost use Rattle.bq_wire_tests.specs.examples.Examples.{ask, at, close, connect};
-ghost use Rattle.bq_wire_tests.specs.examples.HistoryExamples.{AreServedOver, drain_at, ended_line, gone, quit_line, seated};
+ghost use Rattle.bq_wire_tests.specs.examples.HistoryExamples.{AreServedOver, closing_after, drain_at, ended_line, gone, quit_line, seated};
 ghost use Rattle.bq_wire_tests.specs.examples.HistoryExamples.{shut_line, unread_line, unwritten_line, usual};
 ghost use Rattle.bq_job.specs.machine.{Machine.Machine};
 ghost use Rattle.std.specs.Prelude.{ℕ, Bool, false, ◌≡◌, List, [], ◌∷◌, Option, Some, codes};
@@ -65,6 +65,13 @@ fn no_line_is_owed_so()
         → IsDoorOwed usual lines (Connect ∷ Ask Reserve ∷ Gone ∷ []) given → ⊥ }
 {}
 
+/// A door whose first connection has ended while its second one is open and was closed. The reserve
+/// of the first client is not answered by the `Closed` of the second one.
+fn no_open_door_is_owed_so()
+    ensures answered_by_a_later_close { IsDoorOwedSoFar usual (closing_after (ended_line (codes "reserve\r\n") []))
+        (Connect ∷ Ask Reserve ∷ Close ∷ Connect ∷ Close ∷ []) (Closed ∷ Closed ∷ []) → ⊥ }
+{}
+
 /// A door that was never opened. Its history is not two drains alone, since without control input
 /// there are no two drains, and the history has no answers.
 #[tactic(auto, using(crate::proofs::HistoryLemmas::none_behind))]
@@ -83,5 +90,6 @@ fn examples_of_histories() {
     doors_are_served();
     moments_never_fall();
     no_line_is_owed_so();
+    no_open_door_is_owed_so();
     door_never_opened();
 }

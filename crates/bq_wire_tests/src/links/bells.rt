@@ -94,11 +94,7 @@ fn end_waits<R: Clock + Wait>(rt: &R, alloc: Global, bells: Bells) -> bool {
 }
 
 #[test]
-fn each_end_wakes_the_core(rt: HostRuntime) {
+fn bells_end_waits(rt: HostRuntime) {
     assert!(rt; end_waits(&rt, rt.alloc(), Bells::OfCore));
-}
-
-#[test]
-fn each_end_hears_its_bell(rt: HostRuntime) {
     assert!(rt; end_waits(&rt, rt.alloc(), Bells::OfSeats));
 }

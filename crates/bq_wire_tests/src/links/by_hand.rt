@@ -121,11 +121,7 @@ pub fn fills_and_empties_ring(core: &mut CoreEnd, first: &mut SeatEnd, second: &
 }
 
 #[test]
-fn intake_by_hand(rt: HostRuntime) {
+fn links_by_hand(rt: HostRuntime) {
     assert!(rt; works(&rt, rt.alloc(), Part::Intake));
-}
-
-#[test]
-fn ring_by_hand(rt: HostRuntime) {
     assert!(rt; works(&rt, rt.alloc(), Part::Ring));
 }
