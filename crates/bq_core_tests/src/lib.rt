@@ -17,8 +17,6 @@ mod outs;
 #[cfg(test)]
 mod play;
 #[cfg(test)]
-mod statistics;
-#[cfg(test)]
 mod texts;
 #[cfg(test)]
 mod worked;

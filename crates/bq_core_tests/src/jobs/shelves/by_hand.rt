@@ -44,10 +44,5 @@ fn works(alloc: Global, shelf: &mut Shelf<u64, char>) -> bool {
 
 #[test]
 fn shelf_by_hand(rt: HostRuntime) {
-    assert!(rt; works(rt.alloc(), &mut Shelf::new()));
-}
-
-#[test]
-fn number_of_the_fault(rt: HostRuntime) {
-    assert!(rt; NoMemory.code() == 301);
+    assert!(rt; works(rt.alloc(), &mut Shelf::new()) && NoMemory.code() == 301);
 }

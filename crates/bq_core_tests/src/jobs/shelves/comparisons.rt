@@ -14,11 +14,6 @@ fn digits_by_hand()
     ensures many { binary_digits 10001 ≡ 14 }
 {}
 
-#[test]
-fn digits() {
-    digits_by_hand();
-}
-
 /// The fewest and the most comparisons that a call made.
 #[derive(Clone, Copy)]
 struct Spread {
@@ -130,7 +125,7 @@ fn compares_few(shelf: &mut Shelf<u64, u64>) -> bool {
 
 #[test]
 fn comparisons_of_a_call(rt: HostRuntime) {
+    digits_by_hand();
     let mut shelf = Shelf::new();
-    assert!(rt; shelf.reserve(rt.alloc(), 1_024).is_ok());
-    assert!(rt; compares_few(&mut shelf));
+    assert!(rt; shelf.reserve(rt.alloc(), 1_024).is_ok() && compares_few(&mut shelf));
 }
