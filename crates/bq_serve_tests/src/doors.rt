@@ -22,6 +22,7 @@ pub struct CountedDoor<'c> {
 
 impl<'c> Door for CountedDoor<'c> {
     ghost use Rattle.std.proofs.Common.{refl};
+    ghost use Rattle.std.specs.Prelude.{true};
 
     type Line = MemLine;
 
@@ -33,7 +34,12 @@ impl<'c> Door for CountedDoor<'c> {
 
     ghost same = { λ first last. ⟦<MemDoor as Door>⟧.same first.door last.door };
 
+    // The streams of its clients may fail.
+    ghost may_fail = { λ d. true };
+
     ghost same_self = { λ d. refl };
+
+    ghost same_streams = { λ first last same. refl };
 
     fn open(&mut self) -> Result<Option<MemLine>, DoorFault> {
         self.opened.fetch_add(1, Ordering::SeqCst);

@@ -10,6 +10,8 @@ mod cases;
 #[cfg(test)]
 mod doors;
 #[cfg(test)]
+mod groups;
+#[cfg(test)]
 mod lock;
 #[cfg(test)]
 mod memory;

@@ -1,7 +1,7 @@
 //! The run around a lock.
 
 use super::journal::is_whole;
-use crate::cases::{Came, Case, Group, MOST, Wanted, run_of};
+use crate::cases::{Came, Case, Wanted};
 use crate::scene::Scene;
 use bq_host::RunFault;
 use bq_job::{Answer, Step};
@@ -57,17 +57,4 @@ pub fn around_a_lock<R: Threads + Wait + Sync>(rt: &R, alloc: Global, case: &Cas
         }
         Err(fault) => case.failed(fault, opened.load(Ordering::SeqCst)),
     }
-}
-
-/// Makes each run of a group, and returns true if all come out as wanted.
-pub fn all_come_out<R: Threads + Wait + Sync>(rt: &R, alloc: Global, group: Group) -> bool {
-    for number in 0..MOST {
-        let Some(case) = run_of(group, number) else {
-            return true;
-        };
-        if !matches!(around_a_lock(rt, alloc, &case), Came::AsWanted) {
-            return false;
-        }
-    }
-    false
 }

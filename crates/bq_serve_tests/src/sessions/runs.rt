@@ -1,7 +1,7 @@
 //! The run by threads over links.
 ghost use Rattle.std.specs.Prelude.{◌≡◌, ◌<◌};
 
-use crate::cases::{Came, Case, Group, MOST, Wanted, run_of};
+use crate::cases::{Came, Case, Wanted};
 use crate::scene::Scene;
 use crate::stepping::take;
 use bq_core::{Core, Outs};
@@ -64,17 +64,4 @@ pub fn by_threads<R: Threads + Wait + Sync>(rt: &R, alloc: Global, case: &Case) 
         }
         Err(fault) => case.failed(fault, opened.load(Ordering::SeqCst)),
     }
-}
-
-/// Makes each run of a group, and returns true if all come out as wanted.
-pub fn all_come_out<R: Threads + Wait + Sync>(rt: &R, alloc: Global, group: Group) -> bool {
-    for number in 0..MOST {
-        let Some(case) = run_of(group, number) else {
-            return true;
-        };
-        if !matches!(by_threads(rt, alloc, &case), Came::AsWanted) {
-            return false;
-        }
-    }
-    false
 }

@@ -68,7 +68,12 @@ impl<'m> Door for GuestDoor<'m> {
 
     ghost same = { λ first last. last.seat ≡ first.seat };
 
+    // The stream of its client may fail.
+    ghost may_fail = { λ d. true };
+
     ghost same_self = { λ d. refl };
+
+    ghost same_streams = { λ first last same. refl };
 
     fn open(&mut self) -> Result<Option<IoLine<Guest<'m>>>, DoorFault> {
         match self.coming.take() {
