@@ -138,8 +138,8 @@ fn is_met(alloc: Global, row: &str) -> bool {
     }
 }
 
-/// Returns true if the words of each row have the result after the bar.
-pub fn are_met(alloc: Global, rows: &str) -> bool {
+// Returns true if the words of each row have the result after the bar.
+fn are_met(alloc: Global, rows: &str) -> bool {
     for row in rows.split('\n') {
         if !is_met(alloc, row) {
             return false;
@@ -148,10 +148,23 @@ pub fn are_met(alloc: Global, rows: &str) -> bool {
     true
 }
 
-#[test]
-fn what_words_choose(rt: HostRuntime) {
-    assert!(rt; are_met(rt.alloc(), CHOSEN));
-}
+// Options with a number, at both ends of their range.
+static ENDS: &str = "bq --max-job-size 1|- 1 1 - 0 - -\n\
+    bq --max-job-size 1048576|- 1 1048576 - 0 - -\n\
+    bq --max-jobs 1|- 1 65535 1 0 - -\n\
+    bq --max-jobs 4294967295|- 1 65535 4294967295 0 - -\n\
+    bqd --listen=a --seats 1|a 1 65535 - 0 - -\n\
+    bqd --listen=a --seats 256|a 256 65535 - 0 - -\n\
+    bqd --listen=a --max-job-size 1|a 16 1 - 0 - -\n\
+    bqd --listen=a --max-job-size 1048576|a 16 1048576 - 0 - -\n\
+    bqd --listen=a -z 1|a 16 1 - 0 - -\n\
+    bqd --listen=a -z 1048576|a 16 1048576 - 0 - -\n\
+    bqd --listen=a --max-jobs 1|a 16 65535 1 0 - -\n\
+    bqd --listen=a --max-jobs 4294967295|a 16 65535 4294967295 0 - -\n\
+    bqd --listen=a --requeue-delay 0|a 16 65535 - 0 - -\n\
+    bqd --listen=a --requeue-delay 4294967295|a 16 65535 - 4294967295 - -\n\
+    bqd --listen=a --sessions 1|a 16 65535 - 0 1 -\n\
+    bqd --listen=a --sessions 4294967295|a 16 65535 - 0 4294967295 -";
 
 // Words that are rejected, some with a word of the text that says why.
 static BAD: &str = "bq --max-job-size 0|bad\n\
@@ -182,6 +195,8 @@ static BAD: &str = "bq --max-job-size 0|bad\n\
     bq -V|bad '-V'";
 
 #[test]
-fn bad_options(rt: HostRuntime) {
+fn options_in_words(rt: HostRuntime) {
+    assert!(rt; are_met(rt.alloc(), CHOSEN));
+    assert!(rt; are_met(rt.alloc(), ENDS));
     assert!(rt; are_met(rt.alloc(), BAD));
 }

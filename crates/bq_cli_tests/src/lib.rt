@@ -12,8 +12,6 @@ mod heard;
 #[cfg(test)]
 mod one_line;
 #[cfg(test)]
-mod ranges;
-#[cfg(test)]
 mod readings;
 #[cfg(test)]
 mod session;

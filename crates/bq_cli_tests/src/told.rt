@@ -5,6 +5,7 @@ use crate::heard::{Heard, options, serves};
 use bq_program::{
     Fault, LogForm, Need, OptionFault, Program, Stop, tell_cannot_listen, tell_fault, tell_stop,
 };
+use std::alloc::Global;
 use std::io;
 use std::io::ErrorKind;
 use std::sync::Wait;
@@ -53,65 +54,64 @@ static REPORTS: &str = "bq: read failed\n\
     bqd: epoll was refused\nbqd: could not watch the listener and standard input\n\
     bqd: bad configuration\n\
     bqd: a connection could not be accepted\n\
-    bqd: too many turns\n";
+    bqd: too many turns\n\
+    <3>bqd: write failed\n\
+    <3>bqd: epoll was refused\n<3>bqd: could not watch the listener and standard input\n\
+    bqd: cannot listen\nbqd: 127.0.0.1:11300: address in use\n";
 
 // Returns true if exactly this text is on standard error, and nothing on standard output.
 fn has_told<R: Wait>(heard: &Heard<R>, text: &str) -> bool {
     heard.has_errors(text) && !heard.has_printed()
 }
 
+// Reports what `REPORTS` has. Returns the last status.
+fn tell_all<R: Wait>(heard: &Heard<R>) -> u8 {
+    for (program, fault) in FAULTS {
+        let _status = tell_fault(heard, *program, LogForm::Plain, *fault);
+    }
+    for fault in [Fault::WriteFailed, Fault::EpollRefused] {
+        let _status = tell_fault(heard, Program::Bqd, LogForm::Journal, fault);
+    }
+    let error = io::Error::from(ErrorKind::AddrInUse);
+    tell_cannot_listen(
+        heard,
+        Program::Bqd,
+        LogForm::Plain,
+        "127.0.0.1:11300",
+        &error,
+    )
+}
+
 #[test]
 fn faults_are_told(rt: HostRuntime) {
     let heard = Heard::new(rt, rt.alloc());
-    for (program, fault) in FAULTS {
-        let _status = tell_fault(&heard, *program, LogForm::Plain, *fault);
-    }
-    assert!(rt; has_told(&heard, REPORTS));
-}
-
-// The same for a journal: sd-daemon(3) has the priority of an error, 3.
-static REPORTS_OF_A_JOURNAL: &str = "<3>bqd: write failed\n\
-    <3>bqd: epoll was refused\n<3>bqd: could not watch the listener and standard input\n";
-
-#[test]
-fn faults_have_a_priority(rt: HostRuntime) {
-    let heard = Heard::new(rt, rt.alloc());
-    for fault in [Fault::WriteFailed, Fault::EpollRefused] {
-        let _status = tell_fault(&heard, Program::Bqd, LogForm::Journal, fault);
-    }
-    assert!(rt; has_told(&heard, REPORTS_OF_A_JOURNAL));
-}
-
-#[test]
-fn address_is_told(rt: HostRuntime) {
-    let heard = Heard::new(rt, rt.alloc());
-    let error = io::Error::from(ErrorKind::AddrInUse);
-    let address = "127.0.0.1:11300";
-    let status = tell_cannot_listen(&heard, Program::Bqd, LogForm::Plain, address, &error);
-    let told = "bqd: cannot listen\nbqd: 127.0.0.1:11300: address in use\n";
-    assert!(rt; status == 1 && has_told(&heard, told));
+    assert!(rt; tell_all(&heard) == 1 && has_told(&heard, REPORTS));
 }
 
 // Words that are no options, and what is wrong with them.
 static UNREADABLE: &str = "error: the port is none\n\nFor more information, try '--help'.\n";
 
-// Returns true if a program that has these words reports exactly this, and ends with status 2.
-fn tells_of_options<R: Wait>(heard: &Heard<R>, form: LogForm, words: String, text: &str) -> bool {
+// The reports of them, without and with the priority of each line.
+static UNREAD: &str = "error: the port is none\n\nFor more information, try '--help'.\n\
+    <3>error: the port is none\n<3>\n<3>For more information, try '--help'.\n";
+
+// Reports these words. Returns the status, or 0 if an allocation fails.
+fn tell_words<R: Wait>(heard: &Heard<R>, alloc: Global, form: LogForm) -> u8 {
+    let Ok(words) = String::from_str(alloc, UNREADABLE) else {
+        return 0;
+    };
     let stop = Stop::Options(OptionFault::BadOptions(words));
-    tell_stop(heard, Program::Bqd, form, &stop) == 2 && has_told(heard, text)
+    tell_stop(heard, Program::Bqd, form, &stop)
+}
+
+fn are_told<R: Wait>(heard: &Heard<R>, alloc: Global) -> bool {
+    tell_words(heard, alloc, LogForm::Plain) == 2
+        && tell_words(heard, alloc, LogForm::Journal) == 2
+        && has_told(heard, UNREAD)
 }
 
 #[test]
 fn bad_options_are_told(rt: HostRuntime) {
     let heard = Heard::new(rt, rt.alloc());
-    let words = String::from_str(rt.alloc(), UNREADABLE).expect(&rt, "memory");
-    assert!(rt; tells_of_options(&heard, LogForm::Plain, words, UNREADABLE));
-}
-
-#[test]
-fn bad_options_have_a_priority(rt: HostRuntime) {
-    let heard = Heard::new(rt, rt.alloc());
-    let words = String::from_str(rt.alloc(), UNREADABLE).expect(&rt, "memory");
-    let told = "<3>error: the port is none\n<3>\n<3>For more information, try '--help'.\n";
-    assert!(rt; tells_of_options(&heard, LogForm::Journal, words, told));
+    assert!(rt; are_told(&heard, rt.alloc()));
 }
