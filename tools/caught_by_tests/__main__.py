@@ -20,7 +20,7 @@ that does not compile.
 
 Then tests/runs, the tests of the crate, tests/memory_faults and a part of tests/model are run until one fails, and before
 them the part that ends.txt names. A part counts if it fails each time with the bug, and never without it, in tries by
-turns: on a busy machine tests that wait can fail by themselves.
+turns: on a busy computer tests that wait can fail by themselves.
 
 With --proofs the check of its crate is asked about each bug first, over the work that is kept in out/, and only what it
 lets through is tried by tests. With FILEs these edits are tried and no others. They may be those of

@@ -57,7 +57,7 @@ def over(folder, *names):
 
 def trials(tests):
     """Returns the trials in their order, the quickest first. `tests` are the crates with tests of the changed one."""
-    # The longest test takes 15 seconds of a processor without a proof, and a minute and more on a busy machine.
+    # The longest test takes 15 seconds of a processor without a proof, and a minute and more on a busy computer.
     runner = [TOOLCHAIN / "bin/rattle-test", "--seconds", "300"]
     return [
         Trial("runs", r"^FAILED \w+\.run_(\w+)(?: \(\S+\))?:", ["bq", "bqd"], over("tests/runs", "bq", "bqd"), takes_names=True),
