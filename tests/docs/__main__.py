@@ -4,12 +4,12 @@
 
 Each command of README.md, docs/OPERATING.md, docs/MOVING.md and the man pages is run with the given programs, or it
 is known why it isn't; of the other pages it is known. What pages name as code or link to has to be in the tree, a name
-in the file that its link leads to, and what they link to in the package among its pages. A figure on several pages has
-to be the same on each. The counts of docs/HEADLINE.md have to be those of the definitions, and those of lines and planted
-bugs those of the tree. Code that docs/PROOF.md quotes has to be in the file that it links to. The diagram of
-docs/ARCHITECTURE.md has to be that of crates.txt, and the version of CHANGELOG.md that of the programs. Dates have to be
-in order. Long sentences and phrases that have a plainer form are counted (prose.py). The last line is 'N passed, M
-failed'; status 1 if one failed.
+in the file that its link leads to, and what they link to in the package among its pages. A page that is named is linked.
+A figure on several pages has to be the same on each. The counts of docs/HEADLINE.md have to be those of the definitions,
+and those of lines and planted bugs those of the tree. Code that docs/PROOF.md quotes has to be in the file that it links
+to. The diagram of docs/ARCHITECTURE.md has to be that of crates.txt, and the version of CHANGELOG.md that of the
+programs. Dates have to be in order, what is tried by hand has to be dated, and README.md short. Long sentences and
+phrases that have a plainer form are counted (prose.py). The last line is 'N passed, M failed'; status 1 if one failed.
 """
 import argparse
 import os
@@ -26,6 +26,7 @@ import commands
 import dates
 import figures
 import layers
+import lengths
 import names
 import prose
 import quotes
@@ -84,11 +85,15 @@ def main():
         held += 1
         faults += names.misplaced()
         held += 1
+        faults += names.unlinked()
+        held += 1
         faults += commands.left_to_nobody()
         held += 1
         faults += reach.faults()
         held += 1
         faults += layers.faults()
+        held += 1
+        faults += lengths.faults()
         held += 1
         faults += versions.faults()
         held += 1

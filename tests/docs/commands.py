@@ -28,7 +28,7 @@ CONTROL = "/run/bqd.control"
 
 RULES = []
 
-# How many seconds a command of a page may take. The command that makes a package takes a while on a busy machine.
+# How many seconds a command of a page may take. The command that makes a package takes a while on a busy computer.
 LONGEST = 5 * PATIENCE
 
 # Most of the time that a package takes is its compression, which is not what is tried.

@@ -141,9 +141,9 @@ def is_known(text, options):
         return all(it in options or it in keys() or re.fullmatch("[A-Z]+(:[A-Z]+)?|[0-9.:]+", it) for it in text.split())
     # A form of the protocol, such as `peek <id>`.
     text = re.sub(r"( <\w+>)+$", "", text)
-    built = re.fullmatch(r"crates/(\w+)/out/\1", text)
+    built = re.fullmatch(r"crates/(\w+)/out/\1(_tests)?", text)
     if built:
-        return is_path(f"crates/{built[1]}/src/main.rt")
+        return is_path(f"crates/{built[1]}/src/{'lib' if built[2] else 'main'}.rt")
     member = re.fullmatch(r"(?:\w+::)*(\w+)(?:::|\.)(\w+)(?:\(\))?", text)
     if member and not is_path(text):
         return is_member(*member.groups())
@@ -170,6 +170,17 @@ def links_in(page):
         for found in re.findall(r"\]\(([^)\s]+)\)", line):
             if "://" not in found:
                 yield number, found
+
+
+def unlinked():
+    """Returns the pages that a page names in its sentences without a link."""
+    found = []
+    for page in markdown():
+        text = re.sub(r"^```\w*\n.*?^```", lambda block: "\n" * block[0].count("\n"), page.read_text(), flags=re.M | re.S)
+        for number, line in enumerate(text.split("\n"), 1):
+            bare = re.sub(r"`[^`]*`|\[[^\]]*\]\([^)\s]*\)", "code", line)
+            found += [f"{page.relative_to(ROOT)}:{number}: {it} is no link" for it in re.findall(r"(?<![\w/])[\w/]*[A-Z]+\.md\b", bare)]
+    return found
 
 
 def anchors(page):

@@ -1,9 +1,20 @@
-"""The code that docs/PROOF.md quotes: it has to be in the file that the page links to before it."""
+"""The code that docs/PROOF.md quotes: it has to be in the file that the page links to before it, or in the toolchain."""
 import re
+import sys
 
 from pages import ROOT
 
+sys.path.insert(1, str(ROOT / "tools"))
+
+from machine import TOOLCHAIN  # noqa: E402
+
 PAGE = ROOT / "docs/PROOF.md"
+
+# The files of the toolchain that are quoted, by how the quotation begins.
+OF_THE_TOOLCHAIN = {
+    "  ensures rule: MatchOption": "rattle/crossbeam_queue/CALLING.md",
+    "abbrev pub Held": "rattle/crossbeam_queue/specs/Fifo.antt",
+}
 
 # What a quotation leaves out.
 LEFT_OUT = re.compile(r"^ *// \.\. .*$")
@@ -14,7 +25,10 @@ def quoted():
     text = PAGE.read_text()
     for found in re.finditer(r"^```\n(.*?)^```", text, re.M | re.S):
         links = re.findall(r"\]\(([^)#\s]+)\)", text[:found.start()])
-        if links and not found[1].startswith("./proofs/"):
+        given = [file for begun, file in OF_THE_TOOLCHAIN.items() if found[1].startswith(begun)]
+        if given:
+            yield TOOLCHAIN / given[0], found[1].splitlines()
+        elif links and not found[1].startswith("./proofs/"):
             yield (PAGE.parent / links[-1]).resolve(), found[1].splitlines()
 
 

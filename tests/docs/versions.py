@@ -1,4 +1,4 @@
-"""Checks that the version of the programs is one number: that of the server, which CHANGELOG.md begins with."""
+"""Checks that the version is one number everywhere: in the programs, in README.md, and at the head of CHANGELOG.md."""
 import re
 
 from pages import ROOT
@@ -7,6 +7,7 @@ from pages import ROOT
 PLACES = {
     "crates/bq_program/src/command_line/commands.rt": r'VERSION: &str = "([^"]*)"',
     "CHANGELOG.md": r"^## (\S+) \(",
+    "README.md": r"^Version ([\d.]+\d)",
     "packaging/programs/queue_client/version.py": r'^VERSION = "([^"]*)"',
 }
 
