@@ -1,4 +1,4 @@
-"""What this machine has: the toolchain, processors and memory."""
+"""What this computer has: the toolchain, processors and memory."""
 import os
 import pathlib
 import re

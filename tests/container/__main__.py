@@ -5,7 +5,7 @@
 It needs root, Debian's debootstrap, systemd-container, dpkg-dev and binutils, and the network. It makes a folder with
 Debian 12 (--root keeps such a folder, for the next time), builds the package of these programs, and boots a copy of the
 folder with a network of its own. In it inside.py goes step by step; what was done is printed. The commands of the pages
-that tests/docs leaves to a machine with systemd have to be those that inside.py runs.
+that tests/docs leaves to a container with systemd have to be those that inside.py runs.
 
 Run it by hand, and before a release; packaging/README.md says when it last ran. It takes two minutes, and three more to
 make the folder, which takes 300 MB. The last line is 'N passed, M failed', and the status is 1 if one failed.

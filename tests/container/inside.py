@@ -275,7 +275,7 @@ def step_upgrade():
 
 
 def step_drain():
-    """It drains to the end and stops, as root of the machine."""
+    """It drains to the end and stops, as root of the container."""
     work(PORT)
     page("bqd-drain --limit 600 && systemctl stop bqd")
     same(state("bqd"), "inactive")
@@ -313,7 +313,7 @@ def step_installed_alone():
 
 
 def step_commands_of_pages():
-    """The commands that tests/docs leaves to this machine are those that were run."""
+    """The commands that tests/docs leaves to this container are those that were run."""
     same({it for it in commands.shown() if commands.is_for_a_machine(it)} - RUN, set())
 
 

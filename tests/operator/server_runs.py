@@ -128,7 +128,7 @@ def takes_puts(server):
 
 
 def has_ipv6():
-    """Returns whether this machine has an IPv6 loopback address."""
+    """Returns whether this computer has an IPv6 loopback address."""
     try:
         socket.create_server(("::1", 0), family=socket.AF_INET6).close()
         return True

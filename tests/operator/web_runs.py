@@ -35,7 +35,7 @@ def web(*words):
 
 
 def run_web_bad_words():
-    """Bad options end with status 2, and actions are rejected if other machines can reach them."""
+    """Bad options end with status 2, and actions are rejected if other computers can reach them."""
     for bad in [
         ["127.0.0.1:1"],
         ["--listen", "127.0.0.1:65536"],

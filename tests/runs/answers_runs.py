@@ -13,7 +13,7 @@ from servers import Server, awaits, value
 # sent before would delay it by 0.04.
 SOON = 0.025
 
-# How often it is tried, since a busy machine can be late without the server's fault, and how often it has to be soon.
+# How often it is tried, since a busy computer can be late without the server's fault, and how often it has to be soon.
 TRIES = 40
 SOON_TRIES = 4
 WARM_UP = 10

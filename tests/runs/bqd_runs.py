@@ -20,7 +20,7 @@ LOOPBACK = "127.0.0.1"
 SOON = 0.005
 LATE = 0.05
 
-# How often it is tried, since a busy machine can be late without the server's fault, and how often a job has to be
+# How often it is tried, since a busy computer can be late without the server's fault, and how often a job has to be
 # soon, since it may be by chance.
 TRIES = 8
 MANY_TRIES = 60
@@ -94,13 +94,13 @@ def cannot_listen(bqd, address, why, *words):
 
 
 def run_cannot_listen(bqd):
-    """An address in use, one of another machine, one that is not permitted, and a text that is no address."""
+    """An address in use, one of another computer, one that is not permitted, and a text that is no address."""
     with socket.create_server((LOOPBACK, 0)) as listener:
         port = listener.getsockname()[1]
         taken = f"{LOOPBACK}:{port}"
         cannot_listen(bqd, taken, "Address already in use (os error 98)", "--listen", taken)
         cannot_listen(bqd, taken, "Address already in use (os error 98)", "-l", LOOPBACK, "-p", str(port))
-    # An address that is reserved for documentation, and belongs to no machine.
+    # An address that is reserved for documentation, and belongs to no computer.
     cannot_listen(bqd, "192.0.2.1:0", "Cannot assign requested address (os error 99)", "--listen", "192.0.2.1:0")
     found = ended(bqd, "--listen", "")
     same((found.status, found.output), (1, b""))
@@ -134,7 +134,7 @@ def run_one_client(bqd):
 
 
 def run_listens_there_alone(bqd):
-    """It listens at the chosen address, and at no other of the machine."""
+    """It listens at the chosen address, and at no other of the computer."""
     with Server(bqd, "--seats", "1") as server:
         server.client().asks(b"list-tube-used\r\n", b"USING default\r\n")
         with socket.socket() as other:

@@ -14,10 +14,10 @@ from waiting_runs import often
 # How long a seat sleeps that could not get a resource for a connection, in seconds.
 REST = 0.1
 
-# How many seconds an operation of a tenth of a second may take on a busy machine.
+# How many seconds an operation of a tenth of a second may take on a busy computer.
 LONG = 5.0
 
-# How late the end of a lease may be, in seconds, and how often it is tried, since a busy machine can be late by itself.
+# How late the end of a lease may be, in seconds, and how often it is tried, since a busy computer can be late by itself.
 LATE = 0.05
 TRIES = 8
 

@@ -1,5 +1,5 @@
 /* Loaded before libc (LD_PRELOAD): writes how many bytes of the heap a program holds to the file HELD_IN, as eight
-   bytes in the machine's byte order. */
+   bytes in the computer's byte order. */
 #include <fcntl.h>
 #include <malloc.h>
 #include <stdatomic.h>

@@ -109,7 +109,7 @@ def run_ends_beside_a_blocked_standard_error(bqd):
 
 
 def run_last_notices_are_written(bqd):
-    """Notices are written before the server ends if standard error is read soon, which a busy machine does at least
+    """Notices are written before the server ends if standard error is read soon, which a busy computer does at least
     once."""
     def tried():
         with FullPipe() as pipe, Server(bqd, "--seats", "1", stderr=pipe.writing, env=faults(accepts=errno.EBADF, times=1)) as server:

@@ -11,11 +11,11 @@ from programs import Ended, same
 from queue_model.engines import of_loop
 from servers import TAKEN, Server, value_told
 
-# Within how many seconds an answer comes after it is due, unless the machine is busy: then it is tried again.
+# Within how many seconds an answer comes after it is due, unless the computer is busy: then it is tried again.
 SOON = 0.005
 TRIES = 8
 
-# Within how many seconds draining is reported. Three threads act one after another, and on a busy machine each waits for
+# Within how many seconds draining is reported. Three threads act one after another, and on a busy computer each waits for
 # a processor. A core that is not woken would sleep for an hour.
 SOON_BY_THREE = 0.1
 
@@ -407,7 +407,7 @@ def time_in_a_second(*servers):
     """Returns how much processor time the servers take in a second, and how much they want, each in seconds, or None if
     none takes more than a twentieth or wants more than half of it.
 
-    On a busy machine a server that never sleeps may get little. It still wants all of the time.
+    On a busy computer a server that never sleeps may get little. It still wants all of the time.
     """
     def times():
         return [(it.time_worked(), it.time_wanted()) for it in servers]

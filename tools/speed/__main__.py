@@ -7,7 +7,7 @@ Each round starts beanstalkd, bqd (with each of its engines) and the floor anew,
 puts the same load on each (load.c). The floor (floor.c) is a server on one thread with next to no queue: it shows what
 the system costs. Both are built with cc. The output is a table of ratios for each, to beanstalkd: the median over the
 rounds with its quartiles. --engine measures only one engine. --save FILE keeps every round as a line of a table, after a
-line about the machine. --pin LIST binds servers and load to these processors.
+line about the computer. --pin LIST binds servers and load to these processors.
 
 --page prints the tables of docs/SPEED.md and the rows of README.md from such files, a group of columns for each. --plot
 FILE draws the medians of the first.
@@ -58,7 +58,7 @@ SCENARIOS = [
 LABELS = {"one": "1 connection", "four": "4 connections", "sixteen": "16 connections", "sixty-four": "64 connections",
           "ahead": "50 commands at once, 1 connection", "ahead-16": "50 commands at once, 16 connections",
           "shared": "16 producers, 16 workers, one tube",
-          "idle": "50 commands at once, 250 workers wait", "deep": "among 100,000 jobs", "hand-off": "a put to a waiting worker: its time"}
+          "idle": "50 commands at once, 250 workers wait", "deep": "among 100,000 jobs", "hand-off": "a put to a waiting worker: speed"}
 
 # The loads whose times are shown, and those that README.md has.
 LATENCIES = ["one", "sixty-four", "ahead", "large", "hand-off"]
@@ -278,7 +278,7 @@ def plot(label, rows, note):
 
 
 def read_rows(path):
-    """Returns the line about the machine, and the rows."""
+    """Returns the line about the computer, and the rows."""
     lines = pathlib.Path(path).read_text().splitlines()
     note = lines[0][2:] if lines and lines[0].startswith("# ") else ""
     cells = [it.split("\t") for it in lines if not it.startswith("#")]

@@ -2,7 +2,7 @@
 
 Each connection has a tube of its own. In a cycle all of them put a job, then all reserve, then all delete. A server runs
 for some cycles and anew for three times as many, and the difference leaves its start and its end out. The count does not
-depend on what else the machine does.
+depend on what else the computer does.
 """
 import re
 import socket

@@ -4,7 +4,7 @@ The order of their steps isn't known while they run. So each client uses tubes a
 jobs into the box of the next client and waits for those in its own box. Its answers then depend on the others in two
 ways only: the ids of its puts, and that whatever it takes from its box was put before. Afterwards one history with
 these answers is made: each client's requests in order, and all puts in the order of their ids. No other order matters:
-for each id in turn, the machine takes the steps of the client that put it, up to that put. Its clock stands still, and
+for each id in turn, the model takes the steps of the client that put it, up to that put. Its clock stands still, and
 ages and times left aren't compared. For the same reason only a put has a delay, and all delays are equal: delayed jobs
 are due in the order of their ids, whenever they were put.
 """
@@ -139,7 +139,7 @@ class Talker:
         return [int(answer.split()[1]) for _, _, answer in self.steps if answer and answer.startswith(b"INSERTED ")]
 
     def goes_into(self, machine, last=None):
-        """Runs this client's next steps on the machine, up to the put with this id, or all of them."""
+        """Runs this client's next steps on the model, up to the put with this id, or all of them."""
         while self.taken_over < len(self.steps):
             event, request, wanted = self.steps[self.taken_over]
             self.taken_over += 1

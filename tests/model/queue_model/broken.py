@@ -1,4 +1,4 @@
-"""Machines with one rule changed. Each must be found to differ from the programs."""
+"""Models with one rule changed. Each must be found to differ from the programs."""
 from .machine import BURIED, DELAYED, READY, URGENT_BELOW, Machine
 
 

@@ -1,4 +1,4 @@
-"""Random input: commands that mostly fit the machine's state, and bytes that don't."""
+"""Random input: commands that mostly fit the model's state, and bytes that don't."""
 from .machine import BURIED, DELAYED, READY, RESERVED
 from .reader import COMMANDS, LONGEST_LINE
 

@@ -1,12 +1,12 @@
 """Many clients of `bqd`, one command at a time, so that the order of the steps is known.
 
-The server's clock is also the machine's, so nothing may depend on milliseconds. The machine takes each step at a moment
+The server's clock is also the model's, so nothing may depend on milliseconds. The model takes each step at a moment
 that isn't after the server's step, and the run reads all answers to the step within SLACK of that moment. So whatever
-begins with a step (a lease, a delay, a pause, a wait) ends at the server when it ends at the machine, or less than SLACK
+begins with a step (a lease, a delay, a pause, a wait) ends at the server when it ends at the model, or less than SLACK
 later. The moments at which something happens by itself are more than SLACK apart, and no client sends while one of them
 is nearer than SLACK. A run can't be judged if an answer is read too late, even if it is the right one, or if statistics
 are received only after the moment that they depend on. If a client disconnects while its reserve waits, the server
-notices within a second; the machine takes that step when the run requested the last statistics that still counted the
+notices within a second; the model takes that step when the run requested the last statistics that still counted the
 client. Ages and times left are in whole seconds, and may be off by one.
 """
 import random
@@ -45,7 +45,7 @@ Action = namedtuple("Action", "kind client pieces")
 
 
 class Differs(Exception):
-    """The server did something else than the machine."""
+    """The server did something else than the model."""
 
 
 class Unclear(Exception):
@@ -125,7 +125,7 @@ class Client:
 
 
 class Run:
-    """A server, its clients and the machine."""
+    """A server, its clients and the model."""
 
     def __init__(self, server, rules, settings, patience):
         self.server, self.settings, self.patience = server, settings, patience
@@ -190,7 +190,7 @@ class Run:
     # -- actions ----------------------------------------------------------------------------------
 
     def judged(self, happens, *of):
-        """Lets something happen, and compares the result with the machine."""
+        """Lets something happen, and compares the result with the model."""
         try:
             happens(*of)
         except Differs:
@@ -219,7 +219,7 @@ class Run:
 
     def hold_to_mean_something(self, action):
         """Checks that an action consists of complete requests, none of them after one that waits. It is tried on a copy
-        of the machine."""
+        of the model."""
         if not self.is_asking(action.client):
             raise Left()
         requests, rest = requests_of(b"".join(action.pieces), self.settings.max_job_size)
@@ -400,7 +400,7 @@ class Run:
 
 
 class Script:
-    """Chooses actions that fit the machine."""
+    """Chooses actions that fit the model."""
 
     def __init__(self, seed, clients):
         self.random = random.Random(seed)

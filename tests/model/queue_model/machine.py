@@ -1,4 +1,4 @@
-"""The machine: one list of jobs, searched in full, with tubes and counts computed anew.
+"""The model: one list of jobs, searched in full, with tubes and counts computed anew.
 
 A step is a moment, a seat and an event, and gives answers to seats. Moments are in milliseconds.
 """
@@ -126,7 +126,7 @@ class Machine:
         self.is_draining = False
 
     def copy(self):
-        """Returns a copy of the machine, to try a step on."""
+        """Returns a copy of the model, to try a step on."""
         other = object.__new__(type(self))
         other.__dict__.update(self.__dict__)
         other.jobs = {number: job.copy() for number, job in self.jobs.items()}
@@ -218,7 +218,7 @@ class Machine:
         for job in self.held_by(seat):
             job.make_ready_after(self.now, self.settings.requeue_delay)
 
-    # -- what holds of the machine now ------------------------------------------------------------
+    # -- what holds of the model now ------------------------------------------------------------
 
     def rank(self, job):
         """The place of a ready job: the least goes first."""
@@ -452,4 +452,4 @@ class Machine:
         return texts.names(sorted(seat.watched))
 
     def do_quit(self, _seat):
-        """Does nothing: the line's close follows."""
+        """Does nothing: the connection's close follows."""

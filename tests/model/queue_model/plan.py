@@ -17,7 +17,7 @@ BESIDE, BESIDE_CLIENTS = 3, 64
 SOAKS, SOAK_SECONDS = 2, 10
 TUBES = 10_000
 PROCESSES = 5
-LATE_TRIES = 4  # for runs that couldn't be judged, after all others: a machine is slow for a minute, not for ever
+LATE_TRIES = 4  # for runs that couldn't be judged, after all others: a computer is slow for a minute, not for ever
 
 
 def pool():
@@ -104,7 +104,7 @@ def summed(reports):
 
 
 def finds(bq, bqd, known, name, seed):
-    """Returns where a broken machine is found to differ, and after how many seconds, or None."""
+    """Returns where a broken model is found to differ, and after how many seconds, or None."""
     rules, begun = BROKEN[name], time.monotonic()
     found = sessions.batch(bq, known["bq"], rules, "%s/%s" % (seed, name), 30, will_shrink=False)
     for at in range(12):
@@ -116,7 +116,7 @@ def finds(bq, bqd, known, name, seed):
 
 
 def self_check(bq, bqd, seed):
-    """Checks that each broken machine is found. Returns how many were found and how many weren't."""
+    """Checks that each broken model is found. Returns how many were found and how many weren't."""
     known, passed, failed = options_known(bq, bqd), 0, 0
     with pool() as processes:
         calls = {name: processes.submit(finds, bq, bqd, known, name, seed) for name in BROKEN}

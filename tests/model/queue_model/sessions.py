@@ -1,4 +1,4 @@
-"""Random sessions of one client: `bq --still` writes exactly the bytes that the machine answers."""
+"""Random sessions of one client: `bq --still` writes exactly the bytes that the model answers."""
 import random
 
 from . import programs, report, shrink
@@ -26,7 +26,7 @@ def answers_to(rules, settings, text):
 
 
 def made_session(seed, rules, settings):
-    """Returns the texts of a random session, chosen to fit the machine."""
+    """Returns the texts of a random session, chosen to fit the model."""
     chance = random.Random(seed)
     chooser, machine, texts, kept = Chooser(chance, STILL), rules(settings), [], b""
     machine.step(0, SEAT, "connect")
