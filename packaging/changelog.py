@@ -2,7 +2,7 @@
 """Prints CHANGELOG.md as the changelog of the Debian package: packaging/changelog.py
 
 Each version is a heading `## VERSION (DATE)`, and each change an item `- ..`. A line before items that is no item heads
-them. The maintainer is that of the package.
+them. A link becomes its text. The maintainer is that of the package.
 """
 import datetime
 import pathlib
@@ -23,7 +23,7 @@ def changes(text):
     found, heading = [], ""
     for line in filter(None, text.splitlines()):
         if line.startswith("- "):
-            words = f"{heading}{line[2:]}".replace("`", "")
+            words = re.sub(r"\[([^\]]*)\]\([^)]*\)", r"\1", f"{heading}{line[2:]}").replace("`", "")
             found += textwrap.wrap(words, 76, initial_indent="  * ", subsequent_indent="    ", break_on_hyphens=False)
         else:
             heading = f"{line.rstrip(':')}: "

@@ -1,1 +1,1 @@
-"""Which processes of this machine listen, serve a connection, or read a control line, as /proc of Linux shows it."""
+"""Which processes of this computer listen, serve a connection, or read a control line, as /proc of Linux shows it."""

@@ -50,7 +50,7 @@ def sockets_around(pid):
 def end(word):
     """Returns the address and the port of an end, as `0100007F:2C24` for port 11300 of 127.0.0.1.
 
-    The address is written as numbers of four bytes in the machine's own order.
+    The address is written as numbers of four bytes in the computer's own order.
     """
     address, port = word.split(":")
     data = bytes.fromhex(address)

@@ -28,7 +28,7 @@ def shown_place(where):
 
 
 def is_local(where):
-    """Returns true if only this machine reaches the place: a Unix socket, or a host whose addresses are all loopback.
+    """Returns true if only this computer reaches the place: a Unix socket, or a host whose addresses are all loopback.
     """
     if isinstance(where, str):
         return True
