@@ -1,6 +1,6 @@
 -- The invariant of the lock's content holds after each operation.
 use Rattle.std.proofs.Common.{◌≡◌, ℕ, ◌<◌, ◌≤◌, ◌⊎◌, Bool, true, false, not, ◌&&◌, List, [], ◌∷◌, ◌++◌}
-use Rattle.std.proofs.Common.{Option, Some, None, drop, length, refl, sym, ap, ◌∙◌, arith, subst, inl, inr, replicate}
+use Rattle.std.proofs.Common.{Option, Some, None, drop, length, map, refl, sym, ap, ◌∙◌, arith, subst, inl, inr, replicate}
 use Rattle.std.specs.Prelude.{◌==◌, IfSome, IsNone, IsSome}
 use Rattle.std.proofs.lemmas.Bool.{cases_Bool, cases_lt, eqb-true, eqb-false, false≢true}
 use Rattle.std.proofs.lemmas.List.{get_or_past, get_or-replicate, get_or-set_other, get_or-set_same}
@@ -79,6 +79,25 @@ noted_of (Some step) old at seat what left_out unshared new same room without ad
   new_is = added
       ∙ ap (λ (s : Step). with_entry (record { moment = at; seat = seat; step = s; left_out = left_out }) unshared old) same;
 })
+
+-- The effect of a step whose answers were delivered and that was noted.
+pub stepped : (copy : Option Step) (m n : Machine) (boxes new_boxes : List (List Answer)) (answered new_answered : List ℕ)
+    (old new : JournalState) (at seat : ℕ) (what : Step) (left_out unshared : Bool) (given : List GivenAnswer)
+    → IsStep m at seat what (record { left_out = left_out; unshared = unshared }) given n
+    → AreDelivered given boxes new_boxes → new_answered ≡ map (λ (g : GivenAnswer). g.0) given
+    → IfSome copy (λ step. step ≡ what) → (IsSome copy → length old.entries < old.capacity)
+    → (IsNone copy → new ≡ without_entry old)
+    → IfSome copy (λ step. new ≡ with_entry (record { moment = at; seat = seat; step = step; left_out = left_out }) unshared old)
+    → TakesStepUnless (IsNone copy) (locked_of m boxes answered old) at seat what (locked_of n new_boxes new_answered new)
+stepped copy m n boxes new_boxes answered new_answered old new at seat what left_out unshared given step delivered told same room without added =
+    record {
+      outcome = record { left_out = left_out; unshared = unshared };
+      given = given;
+      step = step;
+      delivered = delivered;
+      answered = told;
+      noted = noted_of copy old at seat what left_out unshared new same room without added;
+    }
 
 -- If there is no copy only because it was refused, the entry was left out only for that.
 pub refused_of : {none refused : Type 0} (old : LockedState) (at seat : ℕ) (what : Step) (new : LockedState)

@@ -12,16 +12,16 @@ use Rattle.bq_lock.specs.declared.shared_desk.Look.{Look}
 use Rattle.bq_lock.specs.declared.shared_desk.Look.TheVariants as looks
 
 -- The clock was read once, and its latest moment follows the reading.
-abbrev pub Hears : {C : Type 0} → (C → List (Option ℕ) → C → Type 0) → LockedDesk C → LockedDesk C → Type 0
+abbrev pub Hears : {C K : Type 0} → (C → List (Option ℕ) → C → Type 0) → LockedDesk C K → LockedDesk C K → Type 0
 Hears given old new = (reading : Option ℕ) × HasHeard given old.time reading new.time
 
 -- The step was taken at the moment of one reading.
-abbrev pub HasTaken : {C : Type 0} → (C → List (Option ℕ) → C → Type 0) → ℕ → Step → LockedDesk C → LockedDesk C → Type 0
+abbrev pub HasTaken : {C K : Type 0} → (C → List (Option ℕ) → C → Type 0) → ℕ → Step → LockedDesk C K → LockedDesk C K → Type 0
 HasTaken given seat what old new = Hears given old new × TakesStep old.locked new.time.moment seat what new.locked
 
 -- If nothing will ever be due, nothing happens. Otherwise the clock is read once, and a tick is
 -- taken exactly if the moment after the reading has reached the due moment.
-abbrev pub HasPassed : {C : Type 0} → (C → List (Option ℕ) → C → Type 0) → ℕ → Option ℕ → LockedDesk C → LockedDesk C → Type 0
+abbrev pub HasPassed : {C K : Type 0} → (C → List (Option ℕ) → C → Type 0) → ℕ → Option ℕ → LockedDesk C K → LockedDesk C K → Type 0
 HasPassed given seat None old new = new ≡ old
 HasPassed given seat (Some due) old new =
     Hears given old new
@@ -38,17 +38,17 @@ Tells (looks.Mail answer) fetched = fetched ≡ Some answer
 Tells (looks.Nothing rest) fetched = fetched ≡ None
 
 -- the desk after the oldest answer for a seat was taken out
-abbrev pub once_fetched : {C : Type 0} → ℕ → LockedDesk C → LockedDesk C
+abbrev pub once_fetched : {C K : Type 0} → ℕ → LockedDesk C K → LockedDesk C K
 once_fetched seat desk = record desk { locked = record desk.locked { outboxes = without_oldest seat desk.locked.outboxes } }
 
 -- A tick was taken if one was due, and then the oldest answer was taken out of the seat's outbox.
-abbrev pub HasLooked : {C : Type 0} → (C → List (Option ℕ) → C → Type 0) → ℕ → LockedDesk C → Look → LockedDesk C → Type 0
-HasLooked {C} given seat old look new =
-    (at_look : LockedDesk C) × HasPassed given seat (next_due old.locked.machine) old at_look
+abbrev pub HasLooked : {C K : Type 0} → (C → List (Option ℕ) → C → Type 0) → ℕ → LockedDesk C K → Look → LockedDesk C K → Type 0
+HasLooked {C} {K} given seat old look new =
+    (at_look : LockedDesk C K) × HasPassed given seat (next_due old.locked.machine) old at_look
     × Tells look (oldest_for seat at_look.locked.outboxes) × (new ≡ once_fetched seat at_look)
 
 -- The step was taken, and then the oldest answer for its seat was taken out.
-abbrev pub HasServed : {C : Type 0} → (C → List (Option ℕ) → C → Type 0) → ℕ → Step → LockedDesk C → Option Answer → LockedDesk C → Type 0
-HasServed {C} given seat what old answer new =
-    (at_step : LockedDesk C) × HasTaken given seat what old at_step × (answer ≡ oldest_for seat at_step.locked.outboxes)
+abbrev pub HasServed : {C K : Type 0} → (C → List (Option ℕ) → C → Type 0) → ℕ → Step → LockedDesk C K → Option Answer → LockedDesk C K → Type 0
+HasServed {C} {K} given seat what old answer new =
+    (at_step : LockedDesk C K) × HasTaken given seat what old at_step × (answer ≡ oldest_for seat at_step.locked.outboxes)
     × (new ≡ once_fetched seat at_step)

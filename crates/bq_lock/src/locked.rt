@@ -7,7 +7,7 @@ ghost use Rattle.bq_lock.specs.LockedSteps.{TakesStep, TakesStepUnless};
 
 mod outboxes;
 
-use bq_core::{Config, Core, Outs};
+use bq_core_api::{Config, Outs, QueueCore};
 use bq_host::{CopySource, Journal, RunFault, SharedBodies, new_core};
 use bq_job::{Answer, Entry, Moment, Seat, Step};
 use outboxes::Outboxes;
@@ -20,41 +20,41 @@ use std::marker::Model;
 /// An outbox holds the last four answers to its seat that were not fetched yet. The size of the
 /// journal is fixed when it is created; with size 0 it costs nothing.
 #[derive(Drop)]
-pub struct Locked {
+pub struct Locked<K: QueueCore> {
     alloc: Global,
-    core: Core,
+    core: K,
     outs: Outs,
     outboxes: Outboxes,
     journal: Journal,
 }
 
-impl Model for Locked {
+impl<K: QueueCore> Model for Locked<K> {
     ghost use Rattle.std.specs.Prelude.{◌<◌};
     ghost use Rattle.std.specs.Vec.{vec_capacity};
     ghost use Rattle.bq_lock.specs.LockedState.{IsLawfulHold, LockedState, locked_of};
 
     ghost Value = { LockedState };
 
-    ghost view = { λ l. locked_of l.core.machine l.outboxes.mails.items l.outboxes.answered.items l.journal };
+    ghost view = { λ l. locked_of (K.machine l.core) l.outboxes.mails.items l.outboxes.answered.items l.journal };
 
     // There is room for the answers of a step.
-    ghost invariant = { λ l. IsLawfulHold (locked_of l.core.machine l.outboxes.mails.items l.outboxes.answered.items l.journal)
-        × (l.core.machine.settings.seats < l.outs.most) × (l.core.machine.settings.seats < vec_capacity l.outboxes.answered) };
+    ghost invariant = { λ l. IsLawfulHold (locked_of (K.machine l.core) l.outboxes.mails.items l.outboxes.answered.items l.journal)
+        × ((K.machine l.core).settings.seats < l.outs.most) × ((K.machine l.core).settings.seats < vec_capacity l.outboxes.answered) };
 }
 
-impl Locked {
+impl<K: QueueCore + Drop> Locked<K> {
     /// Returns a new core with empty outboxes, and room for this many entries in the journal. All
     /// memory but that for jobs and answers is allocated here.
     ///
     /// The error is `BadConfiguration` if the configuration is out of its ranges, and otherwise
     /// `NoMemory`.
-    pub fn new(alloc: Global, config: Config, capacity: usize) -> Result<Locked, RunFault>
+    pub fn new(alloc: Global, config: Config, capacity: usize) -> Result<Locked<K>, RunFault>
         ensures made { IfOk result (λ locked. locked ≡ new_locked config capacity) }
         ensures bad_configuration { IsErrOf result RunFault.BadConfiguration ↔ IsTrue
             (not (are_in_range config)) }
         ensures no_thread { IsErrOf result RunFault.ThreadRefused ↔ ⊥ }
     {
-        let (core, outs) = new_core::<Core>(alloc, config)?;
+        let (core, outs) = new_core::<K>(alloc, config)?;
         let Ok(outboxes) = Outboxes::new(alloc, config.seats) else {
             return Err(RunFault::NoMemory);
         };
@@ -99,7 +99,8 @@ impl Locked {
         ensures taken { TakesStepUnless (IsNone copy) self.old at seat what self.new }
         ensures holds { IsLawfulHold self.new }
     {
-        self.core.step(self.alloc, at, seat, what, &mut self.outs);
+        self.core
+            .step_in_place(self.alloc, at, seat, &what, &mut self.outs);
         self.journal.note(at, seat, copy, &self.outs);
         self.outboxes.deliver(&mut self.outs);
     }

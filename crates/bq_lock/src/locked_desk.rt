@@ -4,24 +4,25 @@ ghost use Rattle.std.specs.Prelude.{◌≡◌, ◌≤◌};
 use crate::bells::Rings;
 use crate::locked::Locked;
 use crate::shared_desk::{LONGEST_REST, Look, OwnedDesk};
+use bq_core_api::QueueCore;
 use bq_host::HeardClock;
 use bq_job::{Answer, Seat, Step};
 use bq_line::clock::Clock;
 
 /// The content of the one lock of a run: the core with its outboxes, and the clock.
 #[derive(Drop)]
-pub struct LockedDesk<C> {
-    pub locked: Locked,
+pub struct LockedDesk<C, K: QueueCore> {
+    pub locked: Locked<K>,
     pub time: HeardClock<C>,
 }
 
-impl<C: Clock + Drop> LockedDesk<C> {
+impl<C: Clock + Drop, K: QueueCore + Drop> LockedDesk<C, K> {
     ghost use Rattle.bq_job.specs.beside.NextDue.{next_due};
     ghost use Rattle.bq_lock.specs.LockedDesks.{EndsInTime, HasLooked, HasPassed, HasServed, HasTaken};
     ghost use Rattle.bq_lock.specs.Rung.{AreRung, AreRungByTick, others};
 
     /// Returns a new desk.
-    pub fn new(locked: Locked, clock: C) -> LockedDesk<C>
+    pub fn new(locked: Locked<K>, clock: C) -> LockedDesk<C, K>
         ensures locked { result.locked ≡ locked }
         ensures clock { result.time.clock ≡ clock }
         ensures heard { result.time.moment ≡ 0 }
@@ -89,7 +90,7 @@ impl<C: Clock + Drop> LockedDesk<C> {
     }
 }
 
-impl<C: Clock + Drop> OwnedDesk for LockedDesk<C> {
+impl<C: Clock + Drop, K: QueueCore + Drop> OwnedDesk for LockedDesk<C, K> {
     fn take(&mut self, seat: Seat, what: Step) -> Rings {
         self.step(seat, what)
     }

@@ -9,7 +9,7 @@ ghost use Rattle.bq_line.specs.Tending.{AreSame, IsNewDoor, door_seen};
 use crate::doors_served::serve_at_desk;
 use crate::locked::Locked;
 use crate::locked_desk::LockedDesk;
-use bq_core::Config;
+use bq_core_api::{Config, QueueCore};
 use bq_host::RunFault;
 use bq_line::Door;
 use bq_line::clock::Clock;
@@ -22,10 +22,10 @@ use std::thread::Threads;
 /// A run around one lock that has ended: the doors and the clock as they were left, and the content
 /// of the lock.
 #[derive(Drop)]
-pub struct LockedRun<D, C> {
+pub struct LockedRun<D, C, K: QueueCore> {
     pub doors: Vec<D, Global>,
     pub clock: C,
-    pub locked: Locked,
+    pub locked: Locked<K>,
 }
 
 /// Serves the connections of all doors, each at a seat and in a thread of its own, until no more
@@ -43,6 +43,7 @@ pub fn run_locked<
     D: Door<Line = L> + Drop + Send,
     C: Clock + Drop + Send,
     I: ControlReader + Drop,
+    K: QueueCore + Drop + Send,
 >(
     rt: &R,
     alloc: Global,
@@ -51,7 +52,7 @@ pub fn run_locked<
     clock: C,
     mut control: I,
     capacity: usize,
-) -> Result<LockedRun<D, C>, RunFault>
+) -> Result<LockedRun<D, C, K>, RunFault>
     // No door has a connection that is open or was served, and no door is at its end.
     requires new { All
         (λ door. IsNewDoor (door_seen D.is_out D.is_at_end D.lines_over door)) doors.items }

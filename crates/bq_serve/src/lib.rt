@@ -22,12 +22,13 @@ pub use bq_line::{
     Watcher,
 };
 pub use bq_link::{Anything, CoreEnd, Intake, IntakeInvariant, NoTicks, SeatEnd, links};
-pub use bq_lock::{Locked, LockedRun, run_locked};
 pub use bq_run_one::{One, run_one};
 pub use bq_seat::SeatMachine;
 pub use bq_thread_work::control_work::control_work;
 pub use bq_thread_work::core_work::{CoreRoom, core_work};
 pub use bq_thread_work::seat_work::seat_work;
+pub use locked::{Locked, LockedRun, run_locked};
 pub use sessions::{Run, run_sessions};
 
+mod locked;
 mod sessions;

@@ -5,7 +5,7 @@ ghost use Rattle.bq_job.specs.machine.Dispatch.{GivenAnswer};
 ghost use Rattle.bq_lock.specs.LockedState.{AreFew, oldest_for, without_oldest};
 ghost use Rattle.bq_lock.specs.LockedSteps.{AreDelivered};
 
-use bq_core::Outs;
+use bq_core_api::Outs;
 use bq_host::{Mail, new_mails};
 use bq_job::{Answer, NoMemory, Seat};
 use std::alloc::Global;

@@ -2,8 +2,8 @@
 
 use bq_host::CopySource;
 use bq_job::{Step, USUAL_BODY};
-use bq_lock::Locked;
 use bq_scenes::settings::config;
+use bq_serve::Locked;
 use std::alloc::Global;
 
 /// A source that refuses one of the copies.

@@ -7,7 +7,7 @@ use crate::doors::CountedDoor;
 use crate::stepping::take;
 use bq_core::{Config, Core, Outs};
 use bq_job::{Answer, Entry, LineEnd, Seat, Step};
-use bq_lock::Locked;
+use bq_serve::Locked;
 use bq_wire::{HeadBuf, answer_body, answer_head, answer_tail};
 use std::alloc::Global;
 

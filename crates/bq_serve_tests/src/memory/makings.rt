@@ -8,9 +8,9 @@ use bq_index::Shelf;
 use bq_job::{Body, Counts, Job, JobState, TubeName, USUAL_BODY};
 use bq_jobs::Jobs;
 use bq_link::{Anything, links};
-use bq_lock::Locked;
 use bq_scenes::settings::config;
 use bq_seat::SeatMachine;
+use bq_serve::Locked;
 use bq_wire::RequestReader;
 use std::alloc::Global;
 

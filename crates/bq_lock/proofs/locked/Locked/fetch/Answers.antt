@@ -1,23 +1,17 @@
 use Rattle.std.proofs.Common.{◌<◌, ap, subst, sym}
 use Rattle.std.specs.Vec.{vec_capacity}
-use Rattle.bq_lock.specs.LockedState.{IsLawfulHold, locked_of}
 use Rattle.bq_lock.proofs.LockedLemmas.{hold_fetched}
 use Rattle.bq_lock.proofs.locked.Locked.fetch.Goals as goal
 
-abbrev holds : (c : goal.After-fetch) → IsLawfulHold
-    (locked_of c.self.inside.core.machine c.fetch.new.self.mails.items c.fetch.new.self.answered.items c.self.inside.journal)
-holds c =
-    hold_fetched c.self.inside.core.machine c.self.inside.outboxes.mails.items c.fetch.new.self.mails.items
-    c.self.inside.outboxes.answered.items c.fetch.new.self.answered.items c.self.inside.journal c.args.seat
-    c.fetch.ensures.rest (ap (λ v. v.items) c.fetch.ensures.answered) c.self.invariant.0
-
 pub invariant_of-self : goal.invariant_of-self
-invariant_of-self c = (
-  holds c,
+invariant_of-self g c = (
+  hold_fetched (g.K.QueueCore.machine c.self.inside.core) c.self.inside.outboxes.mails.items c.fetch.new.self.mails.items
+      c.self.inside.outboxes.answered.items c.fetch.new.self.answered.items c.self.inside.journal c.args.seat
+      c.fetch.ensures.rest (ap (λ v. v.items) c.fetch.ensures.answered) c.self.invariant.0,
   c.self.invariant.1,
-  subst (λ v. c.self.inside.core.machine.settings.seats < vec_capacity v)
+  subst (λ v. (g.K.QueueCore.machine c.self.inside.core).settings.seats < vec_capacity v)
       (sym c.fetch.ensures.answered) c.self.invariant.2,
 )
 
 pub returns-clause-holds : goal.returns-clause-holds
-returns-clause-holds c = holds c
+returns-clause-holds g c = (invariant_of-self g c).0
