@@ -3,19 +3,13 @@
 #![tactic(auto)]
 
 #[cfg(test)]
-mod bodies;
-#[cfg(test)]
 mod cut_readings;
 #[cfg(test)]
 mod examples;
 #[cfg(test)]
-mod lines;
-#[cfg(test)]
 mod links;
 #[cfg(test)]
 mod noted;
-#[cfg(test)]
-mod numbers;
 #[cfg(test)]
 mod pieces;
 #[cfg(test)]
@@ -23,4 +17,4 @@ mod readers;
 #[cfg(test)]
 mod seat_machine;
 #[cfg(test)]
-mod tube_names;
+mod values;

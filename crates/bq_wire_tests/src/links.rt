@@ -4,4 +4,3 @@ mod bells;
 mod by_hand;
 mod ends;
 mod in_order;
-mod parts;

@@ -42,26 +42,6 @@ fn event_of<'b>(event: &str, bytes: &'b [u8]) -> Option<Event<'b>>
     }
 }
 
-// Passes the event to the method of its own.
-fn pass(alloc: Global, machine: &mut SeatMachine, event: Event<'_>, next: &mut Action)
-    requires { FitsPiece event }
-{
-    match event {
-        Event::Opened => machine.opened(next),
-        Event::Submitted => machine.submitted(alloc, next),
-        Event::Bytes(bytes) => machine.bytes(alloc, bytes, next),
-        Event::NothingYet => machine.nothing_yet(next),
-        Event::EndOfInput => machine.end_of_input(next),
-        Event::ReadFault => machine.read_fault(next),
-        Event::Mail(answer) => {
-            *next = Action::Write(answer);
-            machine.mail(next);
-        }
-        Event::WriteDone => machine.write_done(alloc, next),
-        Event::WriteFault => machine.write_fault(next),
-    }
-}
-
 // A word for each kind of action.
 fn name_of(action: &Action) -> &'static str {
     match action {
@@ -86,55 +66,44 @@ fn name_of(action: &Action) -> &'static str {
     }
 }
 
-// Returns true if the event answers an action with this name.
-fn answers(event: &str, last: &str) -> bool {
+// Returns the events that answer an action with this name, separated by `|`.
+fn answers_to(last: &str) -> &'static str {
     match last {
-        "read" => {
-            event.starts_with("bytes ")
-                || matches!(event, "nothing yet" | "end of input" | "read fault")
-        }
-        "poll" => matches!(event, "nothing yet" | "not found" | "closed"),
-        "write" => matches!(event, "write done" | "write fault"),
-        over if over.starts_with("over") => event == "opened",
-        _ => event == "submitted",
+        "read" => "bytes delete 1~|nothing yet|end of input|read fault",
+        "poll" => "nothing yet|not found|closed",
+        "write" => "write done|write fault",
+        over if over.starts_with("over") => "opened",
+        _ => "submitted",
     }
 }
 
-// Passes the event as a value, or to the method of its own. Returns the name of the action that
-// answers it.
-fn answer_to(
-    alloc: Global,
-    machine: &mut SeatMachine,
-    event: Event<'_>,
-    is_in_place: bool,
-) -> &'static str
-    requires { FitsPiece event }
-{
-    if !is_in_place {
-        return name_of(&machine.on(alloc, event));
+// Returns true if this event of `ALL_EVENTS` answers an action with this name.
+fn answers(event: &str, last: &str) -> bool {
+    for answer in answers_to(last).split('|') {
+        if answer == event {
+            return true;
+        }
     }
-    let mut next = Action::PollMail;
-    pass(alloc, machine, event, &mut next);
-    name_of(&next)
+    false
 }
 
 // Returns the name of the action that answers the event of a row.
-fn told(alloc: Global, machine: &mut SeatMachine, event: &str, is_in_place: bool) -> &'static str {
+fn told(alloc: Global, machine: &mut SeatMachine, event: &str) -> &'static str {
     let mut bytes = Vec::new(alloc);
     if !push_text(&mut bytes, event.strip_prefix("bytes ").unwrap_or("")) {
         return "no memory";
     }
     match event_of(event, bytes.as_slice()) {
-        Some(event) => answer_to(alloc, machine, event, is_in_place),
+        Some(event) => name_of(&machine.on(alloc, event)),
         None => "no event",
     }
 }
 
 // Passes the machine each event that does not answer an action with this name. Returns true if all
 // are stray.
-fn are_stray(alloc: Global, machine: &mut SeatMachine, last: &str, is_in_place: bool) -> bool {
+fn are_stray(alloc: Global, machine: &mut SeatMachine, last: &str) -> bool {
     for event in ALL_EVENTS.split('\n') {
-        if !answers(event, last) && told(alloc, machine, event, is_in_place) != "stray" {
+        if !answers(event, last) && told(alloc, machine, event) != "stray" {
             return false;
         }
     }
@@ -148,23 +117,22 @@ fn play_row(
     machine: &mut SeatMachine,
     last: &str,
     row: &str,
-    is_in_place: bool,
 ) -> Option<&'static str> {
-    if !are_stray(alloc, machine, last, is_in_place) {
+    if !are_stray(alloc, machine, last) {
         return None;
     }
     let Some((event, wanted)) = row.split_once('|') else {
         return None;
     };
-    let next = told(alloc, machine, event, is_in_place);
+    let next = told(alloc, machine, event);
     if next == wanted { Some(next) } else { None }
 }
 
 // Connections one after another. Each row has an event, and the action that answers it.
-fn play_at(alloc: Global, machine: &mut SeatMachine, session: &str, is_in_place: bool) -> bool {
+fn play_at(alloc: Global, machine: &mut SeatMachine, session: &str) -> bool {
     let mut last = "over";
     for row in session.split('\n') {
-        match play_row(alloc, machine, last, row, is_in_place) {
+        match play_row(alloc, machine, last, row) {
             Some(next) => last = next,
             None => return false,
         }
@@ -172,15 +140,11 @@ fn play_at(alloc: Global, machine: &mut SeatMachine, session: &str, is_in_place:
     true
 }
 
-fn play_anew(alloc: Global, session: &str, is_in_place: bool) -> bool {
+fn play(alloc: Global, session: &str) -> bool {
     match SeatMachine::new(alloc, 65535) {
-        Ok(mut machine) => play_at(alloc, &mut machine, session, is_in_place),
+        Ok(mut machine) => play_at(alloc, &mut machine, session),
         Err(_) => false,
     }
-}
-
-fn play(alloc: Global, session: &str) -> bool {
-    play_anew(alloc, session, false) && play_anew(alloc, session, true)
 }
 
 // A connection with commands after a wait, and then one that comes in pieces, with a quit inside a
@@ -266,7 +230,6 @@ const FAULTS: &str = "opened|connect\n\
 
 #[test]
 fn whole_lines(rt: HostRuntime) {
-    assert!(rt; play(rt.alloc(), WAITS));
-    assert!(rt; play(rt.alloc(), ENDS));
-    assert!(rt; play(rt.alloc(), FAULTS));
+    let alloc = rt.alloc();
+    assert!(rt; play(alloc, WAITS) && play(alloc, ENDS) && play(alloc, FAULTS));
 }

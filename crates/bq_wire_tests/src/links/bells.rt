@@ -1,10 +1,9 @@
 //! Wake-ups: a waiting thread is woken up by what it waits for, even if that came before it waited.
-ghost use Rattle.std.specs.Prelude.{◌≡◌, ◌+◌, All, length};
+ghost use Rattle.std.specs.Prelude.{◌≡◌};
 
-use crate::links::ends::{Shared, last_end, links_of_four, submit_one};
+use crate::links::ends::{Shared, submit_one};
 use bq_job::Step;
 use bq_link::{CoreEnd, SeatEnd};
-use std::alloc::Global;
 use std::sync::Wait;
 use std::time::{Clock, Duration, Instant};
 
@@ -20,81 +19,52 @@ fn was_woken<R: Clock>(rt: &R, start: Instant) -> bool {
     }
 }
 
-// The core waits after this end has submitted a step, and takes the step.
-fn wakes_the_core<R: Wait>(rt: &R, intake: &Shared, core: &mut CoreEnd, end: SeatEnd) -> bool
-    requires core { core.old.intake ≡ intake.now.id }
-    requires seat { end.intake ≡ intake.now.id }
+// Returns true if the core waits and then takes a step.
+fn takes_after_a_wait<R: Wait>(rt: &R, intake: &Shared, core: &mut CoreEnd) -> bool
+    requires { core.old.intake ≡ intake.now.id }
     ensures { core.new.intake ≡ core.old.intake }
 {
-    let mut end = end;
-    submit_one(rt, intake, &mut end, Step::Tick);
     core.wait(rt, intake, long());
     core.take(rt, intake).is_some()
 }
 
-// The same if the step is submitted in place.
-fn wakes_in_place<R: Wait>(rt: &R, intake: &Shared, core: &mut CoreEnd, end: SeatEnd) -> bool
-    requires core { core.old.intake ≡ intake.now.id }
-    requires seat { end.intake ≡ intake.now.id }
-    ensures { core.new.intake ≡ core.old.intake }
+// Submits a step in place.
+fn submits_in_place<R: Wait>(rt: &R, intake: &Shared, end: &mut SeatEnd) -> bool
+    requires { end.old.intake ≡ intake.now.id }
 {
-    let mut end = end;
-    let is_submitted = end.submit_in_place(rt, intake, &mut Step::Tick);
-    core.wait(rt, intake, long());
-    let taken = core.take(rt, intake);
-    is_submitted && taken.is_some()
+    let mut step = Step::Tick;
+    end.submit_in_place(rt, intake, &mut step)
 }
 
-// Each of four ends wakes the core once, two of them by a step that is submitted in place.
-fn all_wake<R: Wait>(rt: &R, intake: &Shared, core: &mut CoreEnd, seats: &mut Vec<SeatEnd>) -> bool
+// An end waits after it was woken up.
+fn hears<R: Wait>(rt: &R, intake: &Shared, end: &mut SeatEnd) {
+    intake.wake(end.number());
+    end.wait(rt, intake, long());
+}
+
+/// Returns true if each wait ends long before its time: the core waits after a step of each of two
+/// ends, one of which submits it in place, and each end after it was woken up.
+pub fn end_waits<R: Clock + Wait>(
+    rt: &R,
+    intake: &Shared,
+    core: &mut CoreEnd,
+    first: &mut SeatEnd,
+    second: &mut SeatEnd,
+) -> bool
     requires core { core.old.intake ≡ intake.now.id }
-    requires here { All (λ s. s.intake ≡ intake.now.id) seats.old.items }
-    requires count { length seats.old.items ≡ 4 }
+    requires first { first.old.intake ≡ intake.now.id }
+    requires second { second.old.intake ≡ intake.now.id }
 {
-    wakes_the_core(rt, intake, core, last_end(intake, seats))
-        && wakes_the_core(rt, intake, core, last_end(intake, seats))
-        && wakes_in_place(rt, intake, core, last_end(intake, seats))
-        && wakes_in_place(rt, intake, core, last_end(intake, seats))
-}
-
-// Each of four ends waits after it was woken up.
-fn all_hear<R: Wait>(rt: &R, intake: &Shared, seats: &mut Vec<SeatEnd>) -> bool {
-    if seats.len() != 4 {
-        return false;
-    }
-    for end in seats {
-        intake.wake(end.number());
-        end.wait(rt, intake, long());
-    }
-    // There is no such seat.
-    intake.wake(7);
-    true
-}
-
-// Whose bells are rung.
-#[derive(Clone, Copy)]
-enum Bells {
-    OfCore,
-    OfSeats,
-}
-
-// Returns true if these bells of new links end every wait long before its time.
-fn end_waits<R: Clock + Wait>(rt: &R, alloc: Global, bells: Bells) -> bool {
     let Ok(start) = Instant::now(rt) else {
         return false;
     };
-    let Ok((intake, mut core, mut seats)) = links_of_four(alloc) else {
-        return false;
-    };
-    let are_heard = match bells {
-        Bells::OfCore => all_wake(rt, &intake, &mut core, &mut seats),
-        Bells::OfSeats => all_hear(rt, &intake, &mut seats),
-    };
+    submit_one(rt, intake, first, Step::Tick);
+    let are_heard = takes_after_a_wait(rt, intake, core)
+        && submits_in_place(rt, intake, second)
+        && takes_after_a_wait(rt, intake, core);
+    hears(rt, intake, first);
+    hears(rt, intake, second);
+    // There is no such seat.
+    intake.wake(7);
     are_heard && was_woken(rt, start)
-}
-
-#[test]
-fn bells_end_waits(rt: HostRuntime) {
-    assert!(rt; end_waits(&rt, rt.alloc(), Bells::OfCore));
-    assert!(rt; end_waits(&rt, rt.alloc(), Bells::OfSeats));
 }

@@ -1,5 +1,5 @@
 //! Ends to test, and operations that several tests use.
-ghost use Rattle.std.specs.Prelude.{◌≡◌, ◌+◌, ◌<◌, ◌≤◌, All, IfOk, length};
+ghost use Rattle.std.specs.Prelude.{◌≡◌, ◌+◌, ◌≤◌, IfOk, length};
 ghost use Rattle.bq_link.specs.EndStates.{IsPair, IsSameCore, IsSameSeat};
 
 use bq_job::{NoMemory, Seat, Step};
@@ -24,29 +24,6 @@ pub fn last_ends(alloc: Global, count: u16) -> Result<(Shared, CoreEnd, SeatEnd,
     let second = seats.pop().unwrap();
     let first = seats.pop().unwrap();
     Ok((intake, core, first, second))
-}
-
-/// Removes and returns the last end.
-pub fn last_end(intake: &Shared, seats: &mut Vec<SeatEnd>) -> SeatEnd
-    requires some { 0 < length seats.old.items }
-    requires here { All (λ s. s.intake ≡ intake.now.id) seats.old.items }
-    ensures end { result.intake ≡ intake.now.id }
-    ensures here { All (λ s. s.intake ≡ intake.now.id) seats.new.items }
-    ensures count { length seats.old.items ≡ length seats.new.items + 1 }
-{
-    seats.pop().unwrap()
-}
-
-/// Returns the links of four seats, without the end of the control line: the intake, the core's end
-/// and the seats' ends.
-pub fn links_of_four(alloc: Global) -> Result<(Shared, CoreEnd, Vec<SeatEnd>), NoMemory>
-    ensures core { IfOk result (λ r. r.1.intake ≡ r.0.id) }
-    ensures seats { IfOk result (λ r. All (λ s. s.intake ≡ r.0.id) r.2.items) }
-    ensures count { IfOk result (λ r. length r.2.items ≡ 4) }
-{
-    let (intake, core, mut seats) = links(alloc, 4)?;
-    let _control = last_end(&intake, &mut seats);
-    Ok((intake, core, seats))
 }
 
 /// Submits a step, and tries again while the intake is full.

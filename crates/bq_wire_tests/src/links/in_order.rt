@@ -6,7 +6,6 @@ use crate::links::ends::{Shared, last_ends, submit_one};
 use bq_job::{Request, Seat, Step};
 use bq_link::{CoreEnd, SeatEnd};
 use std::sync::Wait;
-use std::test::Fail;
 use std::thread;
 use std::thread::Threads;
 
@@ -47,29 +46,42 @@ fn is_in_order(seat: Seat, step: &Step, first: &mut u64, second: &mut u64) -> bo
     }
 }
 
+// Takes a step, if one waits. Returns whether it was the next touch of its seat.
+fn takes_next<R: Wait>(
+    rt: &R,
+    intake: &Shared,
+    core: &mut CoreEnd,
+    first: &mut u64,
+    second: &mut u64,
+) -> Option<bool>
+    requires { core.old.intake ≡ intake.now.id }
+    ensures { core.new.intake ≡ core.old.intake }
+{
+    let (seat, step) = core.take(rt, intake)?;
+    Some(is_in_order(seat, &step, first, second))
+}
+
 // Takes all steps of two seats, and returns true if each seat's were its touches, once and in
 // order.
 fn take_all<R: Wait>(rt: &R, intake: &Shared, core: &mut CoreEnd) -> bool
     requires { core.old.intake ≡ intake.now.id }
 {
-    let mut first = 1;
-    let mut second = 1;
-    let mut taken = 0u64;
+    let mut first: u64 = 1;
+    let mut second: u64 = 1;
+    let mut taken: u64 = 0;
     for _ in rt.forever() {
+        match takes_next(rt, intake, core, &mut first, &mut second) {
+            Some(true) => taken = taken.wrapping_add(1),
+            Some(false) => return false,
+            None => thread::yield_now(),
+        }
         if taken == 2 * STEPS {
             break;
         }
-        match core.take(rt, intake) {
-            Some((seat, step)) => {
-                if !is_in_order(seat, &step, &mut first, &mut second) {
-                    return false;
-                }
-                taken = taken.wrapping_add(1);
-            }
-            None => thread::yield_now(),
-        }
     }
-    first == STEPS + 1 && second == STEPS + 1 && core.take(rt, intake).is_none()
+    first == STEPS + 1
+        && second == STEPS + 1
+        && takes_next(rt, intake, core, &mut first, &mut second).is_none()
 }
 
 fn submit_two<R: Threads + Wait + Sync>(rt: &R, intake: &Shared, a: SeatEnd, b: SeatEnd)
@@ -89,8 +101,8 @@ fn submit_two<R: Threads + Wait + Sync>(rt: &R, intake: &Shared, a: SeatEnd, b: 
 // Two seats submit 2,000 steps through an intake of four places, so that many find it full and are
 // tried again.
 #[test]
-fn two_seats_in_order(rt: HostRuntime) -> Result<(), Fail> {
-    let (intake, core, a, b) = last_ends(rt.alloc(), 1)?;
+fn two_seats_in_order(rt: HostRuntime) {
+    let (intake, core, a, b) = last_ends(rt.alloc(), 1).expect(&rt, "the memory for the links");
     let shared = &intake;
     let (_, are_in_order) = thread::join(
         &rt,
@@ -105,5 +117,4 @@ fn two_seats_in_order(rt: HostRuntime) -> Result<(), Fail> {
         },
     );
     assert!(rt; are_in_order);
-    Ok(())
 }
