@@ -1,6 +1,6 @@
 //! Words of a command line, and the options or the text that they give.
 
-use bq_program::{OptionFault, Options, Program, WhenFull, options};
+use bq_program::{OptionFault, Options, Program, WhenFull, names_port, options, with_usual_port};
 use std::alloc::{AllocError, Global};
 
 /// Returns the words of a line.
@@ -27,26 +27,28 @@ fn chosen(alloc: Global, line: &str) -> Result<Options, OptionFault> {
 
 // Words with options: the address, the seats, the size of bodies, the limit on jobs, the delay of
 // jobs whose connection is lost, the connections of each seat, and whether the clock stands still
-// or one thread serves all seats. `-V` is there for users of beanstalkd, and changes nothing.
+// or one thread serves all seats. Numbers are also at both ends of their ranges. `-V` is there for users of beanstalkd, and changes nothing.
 static CHOSEN: &str = "bq|- 1 65535 - 0 - -\n\
     bq --still|- 1 65535 - 0 - still\n\
     bq --max-job-size 1|- 1 1 - 0 - -\n\
-    bq --max-job-size 65536|- 1 65536 - 0 - -\n\
     bq --still --max-job-size=1048576|- 1 1048576 - 0 - still\n\
+    bq --max-jobs 1|- 1 65535 1 0 - -\n\
+    bq --max-jobs 4294967295|- 1 65535 4294967295 0 - -\n\
+    bqd --listen a|a 16 65535 - 0 - -\n\
     bqd --listen 127.0.0.1:11300|127.0.0.1:11300 16 65535 - 0 - -\n\
     bqd --listen=[::1]:11300 --seats 1|[::1]:11300 1 65535 - 0 - -\n\
     bqd --listen a --seats 2 --sessions 1|a 2 65535 - 0 1 -\n\
-    bqd --listen a --max-job-size 1|a 16 1 - 0 - -\n\
     bqd --listen a --seats 256|a 256 65535 - 0 - -\n\
+    bqd --listen a --max-job-size 1|a 16 1 - 0 - -\n\
+    bqd --listen=a --max-job-size 1048576|a 16 1048576 - 0 - -\n\
     bqd --listen a --sessions 4294967295|a 16 65535 - 0 4294967295 -\n\
+    bqd --listen a --max-jobs 1|a 16 65535 1 0 - -\n\
+    bqd --listen a --max-jobs 4294967295|a 16 65535 4294967295 0 - -\n\
+    bqd --listen a --requeue-delay 0|a 16 65535 - 0 - -\n\
+    bqd --listen a --requeue-delay=4294967295|a 16 65535 - 4294967295 - -\n\
     bqd -l 127.0.0.1 -p 11300 -z 1048576|127.0.0.1:11300 16 1048576 - 0 - -\n\
     bqd -p 0 -l ::1|[::1]:0 16 65535 - 0 - -\n\
-    bqd -l [::1] --port 65535 -z65536|[::1]:65535 16 65536 - 0 - -\n\
-    bq --max-jobs 1|- 1 65535 1 0 - -\n\
-    bqd --listen a|a 16 65535 - 0 - -\n\
-    bqd --listen a --max-jobs 4294967295|a 16 65535 4294967295 0 - -\n\
-    bqd --listen a --requeue-delay 5|a 16 65535 - 5 - -\n\
-    bqd --listen a --requeue-delay=4294967295|a 16 65535 - 4294967295 - -\n\
+    bqd -l [::1] --port 65535 -z1|[::1]:65535 16 1 - 0 - -\n\
     bqd -V -l a|a 16 65535 - 0 - -\n\
     bqd -l a -VVV|a 16 65535 - 0 - -\n\
     bqd -V -l a -V -z 65535 -V|a 16 65535 - 0 - -\n\
@@ -148,24 +150,6 @@ fn are_met(alloc: Global, rows: &str) -> bool {
     true
 }
 
-// Options with a number, at both ends of their range.
-static ENDS: &str = "bq --max-job-size 1|- 1 1 - 0 - -\n\
-    bq --max-job-size 1048576|- 1 1048576 - 0 - -\n\
-    bq --max-jobs 1|- 1 65535 1 0 - -\n\
-    bq --max-jobs 4294967295|- 1 65535 4294967295 0 - -\n\
-    bqd --listen=a --seats 1|a 1 65535 - 0 - -\n\
-    bqd --listen=a --seats 256|a 256 65535 - 0 - -\n\
-    bqd --listen=a --max-job-size 1|a 16 1 - 0 - -\n\
-    bqd --listen=a --max-job-size 1048576|a 16 1048576 - 0 - -\n\
-    bqd --listen=a -z 1|a 16 1 - 0 - -\n\
-    bqd --listen=a -z 1048576|a 16 1048576 - 0 - -\n\
-    bqd --listen=a --max-jobs 1|a 16 65535 1 0 - -\n\
-    bqd --listen=a --max-jobs 4294967295|a 16 65535 4294967295 0 - -\n\
-    bqd --listen=a --requeue-delay 0|a 16 65535 - 0 - -\n\
-    bqd --listen=a --requeue-delay 4294967295|a 16 65535 - 4294967295 - -\n\
-    bqd --listen=a --sessions 1|a 16 65535 - 0 1 -\n\
-    bqd --listen=a --sessions 4294967295|a 16 65535 - 0 4294967295 -";
-
 // Words that are rejected, some with a word of the text that says why.
 static BAD: &str = "bq --max-job-size 0|bad\n\
     bq --max-job-size 1048577|bad\n\
@@ -194,9 +178,38 @@ static BAD: &str = "bq --max-job-size 0|bad\n\
     bqd --listen a --event-loop --when-full never|bad\n\
     bq -V|bad '-V'";
 
+// Addresses, and each with beanstalkd's port if it names none.
+static ADDRESSES: &str = "127.0.0.1:80|127.0.0.1:80\n\
+    [::1]:80|[::1]:80\n\
+    localhost:|localhost:\n\
+    127.0.0.1|127.0.0.1:11300\n\
+    localhost|localhost:11300\n\
+    ::1|[::1]:11300\n\
+    [::1]|[::1]:11300";
+
+// Returns true if this is what is bound.
+fn is_bound(alloc: Global, address: &str, bound: &str) -> bool {
+    if names_port(address) {
+        return address == bound;
+    }
+    match with_usual_port(alloc, address) {
+        Ok(found) => found.as_str() == bound,
+        Err(_) => false,
+    }
+}
+
+fn are_bound(alloc: Global) -> bool {
+    for row in ADDRESSES.split('\n') {
+        let (address, bound) = row.split_once('|').unwrap_or((row, ""));
+        if !is_bound(alloc, address, bound) {
+            return false;
+        }
+    }
+    true
+}
+
 #[test]
 fn options_in_words(rt: HostRuntime) {
-    assert!(rt; are_met(rt.alloc(), CHOSEN));
-    assert!(rt; are_met(rt.alloc(), ENDS));
-    assert!(rt; are_met(rt.alloc(), BAD));
+    let alloc = rt.alloc();
+    assert!(rt; are_met(alloc, CHOSEN) && are_met(alloc, BAD) && are_bound(alloc));
 }

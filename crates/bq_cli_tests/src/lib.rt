@@ -4,8 +4,6 @@
 #![tactic(auto)]
 
 #[cfg(test)]
-mod address;
-#[cfg(test)]
 mod command_line;
 #[cfg(test)]
 mod heard;
@@ -14,8 +12,8 @@ mod one_line;
 #[cfg(test)]
 mod readings;
 #[cfg(test)]
+mod served;
+#[cfg(test)]
 mod session;
 #[cfg(test)]
 mod told;
-#[cfg(test)]
-mod two_seats;

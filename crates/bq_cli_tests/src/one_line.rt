@@ -10,6 +10,7 @@ use bq_core_api::Config;
 use bq_job::USUAL_BODY;
 use bq_scenes::rows::column;
 use bq_scenes::settings::config;
+use refused::are_refused;
 use runs::{Client, ran_so};
 use scripted::SCRIPTED;
 use std::alloc::Global;
@@ -61,13 +62,14 @@ fn are_met<R: Wait>(rt: &R, alloc: Global, rows: &'static str) -> bool {
     true
 }
 
-#[test]
-fn scripted_sessions(rt: HostRuntime) {
-    assert!(rt; are_met(&rt, rt.alloc(), SCRIPTED));
+fn all_are_met<R: Wait>(rt: &R, alloc: Global) -> bool {
+    are_met(rt, alloc, WORKED)
+        && are_met(rt, alloc, COMMANDS)
+        && are_met(rt, alloc, SCRIPTED)
+        && are_refused(rt, alloc)
 }
 
 #[test]
 fn worked_sessions(rt: HostRuntime) {
-    assert!(rt; are_met(&rt, rt.alloc(), WORKED));
-    assert!(rt; are_met(&rt, rt.alloc(), COMMANDS));
+    assert!(rt; all_are_met(&rt, rt.alloc()));
 }

@@ -147,12 +147,13 @@ fn is_met<R: Wait + Clock>(rt: &R, alloc: Global, row: &'static str) -> bool {
     }
 }
 
-// From the words to the end of the connection and the bytes that the client receives.
-#[test]
-fn sessions_of_words(rt: HostRuntime) {
+fn are_met<R: Wait + Clock>(rt: &R, alloc: Global) -> bool {
     for row in EXAMPLES.split("\n\n") {
-        assert!(rt; is_met(&rt, rt.alloc(), row));
+        if !is_met(rt, alloc, row) {
+            return false;
+        }
     }
+    true
 }
 
 // Serves a client whose stream never fails. Its connection has met no fault.
@@ -183,8 +184,9 @@ fn is_served_surely<R: Wait + Clock>(rt: &R, alloc: Global) -> bool {
     }
 }
 
-// A client over a stream that never fails is served to the end of its input.
+// From the words to the end of the connection and the bytes that the client receives, over streams
+// that may fail and one that never does.
 #[test]
-fn session_over_a_sure_stream(rt: HostRuntime) {
-    assert!(rt; is_served_surely(&rt, rt.alloc()));
+fn sessions_of_words(rt: HostRuntime) {
+    assert!(rt; are_met(&rt, rt.alloc()) && is_served_surely(&rt, rt.alloc()));
 }

@@ -1,7 +1,6 @@
-//! What the programs report on standard error in cases that no run of them can bring about: all
-//! seats are taken again after a minute, and each fault.
+//! What the programs report on standard error in cases that no run of them can bring about.
 
-use crate::heard::{Heard, options, serves};
+use crate::heard::Heard;
 use bq_program::{
     Fault, LogForm, Need, OptionFault, Program, Stop, tell_cannot_listen, tell_fault, tell_stop,
 };
@@ -9,19 +8,6 @@ use std::alloc::Global;
 use std::io;
 use std::io::ErrorKind;
 use std::sync::Wait;
-
-// Three clients, one after another. Before the third one the seat is free for a minute by the
-// server's clock.
-static VISITS: &str = "quit\r\n|;quit\r\n|;a minute later;quit\r\n|";
-
-#[test]
-fn seats_are_told_again_after_a_minute(rt: HostRuntime) {
-    let heard = Heard::new(rt, rt.alloc());
-    assert!(rt; serves(&heard, &options(1, 3), VISITS, 3));
-    let twice = "bqd: all seats are taken: further connections wait\n\
-        bqd: all seats are taken: further connections wait\n";
-    assert!(rt; heard.has_errors(twice));
-}
 
 /// Each fault of a program.
 static FAULTS: &[(Program, Fault)] = &[
@@ -82,12 +68,6 @@ fn tell_all<R: Wait>(heard: &Heard<R>) -> u8 {
     )
 }
 
-#[test]
-fn faults_are_told(rt: HostRuntime) {
-    let heard = Heard::new(rt, rt.alloc());
-    assert!(rt; tell_all(&heard) == 1 && has_told(&heard, REPORTS));
-}
-
 // Words that are no options, and what is wrong with them.
 static UNREADABLE: &str = "error: the port is none\n\nFor more information, try '--help'.\n";
 
@@ -111,7 +91,9 @@ fn are_told<R: Wait>(heard: &Heard<R>, alloc: Global) -> bool {
 }
 
 #[test]
-fn bad_options_are_told(rt: HostRuntime) {
+fn faults_are_told(rt: HostRuntime) {
+    let heard = Heard::new(rt, rt.alloc());
+    assert!(rt; tell_all(&heard) == 1 && has_told(&heard, REPORTS));
     let heard = Heard::new(rt, rt.alloc());
     assert!(rt; are_told(&heard, rt.alloc()));
 }

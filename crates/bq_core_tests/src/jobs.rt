@@ -3,6 +3,4 @@
 
 mod boxes;
 mod named;
-mod putting;
 mod shelves;
-mod table;

@@ -3,8 +3,6 @@
 #![tactic(auto)]
 
 #[cfg(test)]
-mod bench;
-#[cfg(test)]
 mod comparisons;
 #[cfg(test)]
 mod crowds;
@@ -13,10 +11,6 @@ mod jobs;
 #[cfg(test)]
 mod new_core;
 #[cfg(test)]
-mod outs;
-#[cfg(test)]
 mod play;
-#[cfg(test)]
-mod texts;
 #[cfg(test)]
 mod worked;

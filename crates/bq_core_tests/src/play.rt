@@ -1,87 +1,75 @@
 //! Scripts of steps and their answers.
-use crate::bench::{Bench, config};
-use crate::crowds::has_come;
-use crate::texts::is_wanted;
+use crate::crowds::comes;
 use bq_core::Config;
-use bq_job::{Answer, Moment, Seat, Step};
+use bq_job::{Answer, Seat, Step};
+use bq_scenes::bench::{Bench, Row, row_of, seated};
+use bq_wire::{HeadBuf, answer_body, answer_head, answer_tail};
 use std::alloc::Global;
-use std::test::Fail;
 
 /// Steps and their answers, one step per row: the moment, the seat, what happens there, and after
 /// each `|` an answer with the seat that it goes to. The step must give exactly these answers. `~`
-/// is CR LF, and `/` is LF. Some rows are not steps: `due` states the next due moment, `count` starts counting comparisons,
-/// and `crowd of` runs a crowd. A row that begins with `#` is a comment.
+/// is CR LF, and `/` is LF. A row with `due` is no step, and states the next due moment. A row that
+/// begins with `#` is a comment.
 pub(crate) type Script = &'static str;
 
-/// Scripts with an empty line between one and the next. One text is cheaper to prove than a slice
-/// of texts.
-pub(crate) type Scripts = &'static str;
-
-/// A row of a script.
-#[derive(Drop)]
-struct Row {
-    at: Moment,
-    seat: Seat,
-    words: &'static str,
-    answers: &'static str,
-}
-
-// A number, and the text after it.
-fn numbered(text: &'static str) -> Option<(u64, &'static str)> {
-    let Some((number, rest)) = text.split_once(' ') else {
-        return None;
-    };
-    match number.parse::<u64>() {
-        Ok(number) => Some((number, rest)),
-        Err(_) => None,
+// Returns true if a text of a script, and the end of a line after it, has this byte at this place.
+fn has_byte(text: &[u8], at: usize, byte: u8) -> bool {
+    match text.get(at) {
+        Some(found) => *found == byte,
+        None => at == text.len() && byte == b'~',
     }
 }
 
-fn seated(text: &'static str) -> Option<(Seat, &'static str)> {
-    match numbered(text) {
-        Some((number, rest)) if number <= u64::from(Seat::MAX) => Some((number as Seat, rest)),
-        _ => None,
+// Returns the place after these bytes, if a text of a script has them at this place.
+fn place_after(text: &[u8], at: usize, bytes: &[u8]) -> Option<usize> {
+    let (mut at, mut is_end) = (at, false);
+    for byte in bytes {
+        let wanted = match *byte {
+            b'\n' if is_end => b'~',
+            b'\n' => b'/',
+            other => other,
+        };
+        is_end = *byte == b'\r';
+        if !is_end {
+            if !has_byte(text, at, wanted) {
+                return None;
+            }
+            at = at.saturating_add(1);
+        }
     }
+    Some(at)
 }
 
-fn row_of(text: &'static str) -> Option<Row> {
-    let (step, answers) = text.split_once('|').unwrap_or((text, ""));
-    let Some((at, rest)) = numbered(step) else {
-        return None;
-    };
-    let Some((seat, words)) = seated(rest) else {
-        return None;
-    };
-    Some(Row {
-        at,
-        seat,
-        words: words.trim(),
-        answers,
-    })
-}
-
-// The answer goes to the seat that a script names, and has the text that follows.
-fn is_told(alloc: Global, to: Seat, answer: &Answer, wanted: &'static str) -> bool {
-    match seated(wanted) {
-        Some((seat, text)) => to == seat && is_wanted(alloc, answer, text),
-        None => false,
+// Returns true if the answer has this text of a script, without the end of its last line.
+fn has_text(answer: &Answer, text: &[u8]) -> bool {
+    if let Answer::Closed = answer {
+        return text == b"closed";
     }
+    let mut head = HeadBuf::new();
+    answer_head(answer, &mut head);
+    let after_head = place_after(text, 0, head.as_slice()).unwrap_or(usize::MAX);
+    let after_body = place_after(text, after_head, answer_body(answer)).unwrap_or(usize::MAX);
+    place_after(text, after_body, answer_tail(answer)) == Some(text.len().saturating_add(1))
 }
 
-// The oldest remaining answer of the last step is this one.
-fn is_next(alloc: Global, bench: &mut Bench, wanted: &'static str) -> bool {
+// Returns true if the oldest remaining answer goes to the seat that the text names, and has the
+// text that follows.
+fn is_next(bench: &mut Bench, wanted: &'static str) -> bool {
+    let Some((seat, text)) = seated(wanted) else {
+        return false;
+    };
     match bench.answer() {
-        Some((to, answer)) => is_told(alloc, to, &answer, wanted),
+        Some((to, answer)) => to == seat && has_text(&answer, text.as_bytes()),
         None => false,
     }
 }
 
 // The answers of the last step are exactly those wanted, in order, and nothing failed for lack of
 // memory.
-fn is_answered(alloc: Global, bench: &mut Bench, answers: &'static str) -> bool {
+fn is_answered(bench: &mut Bench, answers: &'static str) -> bool {
     for wanted in answers.split('|') {
         let wanted = wanted.trim();
-        if !wanted.is_empty() && !is_next(alloc, bench, wanted) {
+        if !wanted.is_empty() && !is_next(bench, wanted) {
             return false;
         }
     }
@@ -89,63 +77,72 @@ fn is_answered(alloc: Global, bench: &mut Bench, answers: &'static str) -> bool 
 }
 
 // Takes the step of the row, and returns true if it is answered as the row says.
-fn is_right(alloc: Global, bench: &mut Bench, row: &Row) -> Result<bool, Fail> {
-    if let Some(due) = row.words.strip_prefix("due ") {
-        return Ok(bench.next_due() == due.parse::<u64>().ok());
+fn is_right(bench: &mut Bench, row: &Row, answers: &'static str) -> bool {
+    match row.words.strip_prefix("due ") {
+        Some(due) => bench.next_due() == due.parse::<u64>().ok(),
+        None => bench.take(row.at, row.seat, row.words) && is_answered(bench, answers),
     }
-    if row.words == "count" {
-        bench.count();
-        return Ok(true);
-    }
-    if let Some(crowd) = row.words.strip_prefix("crowd of ") {
-        return has_come(alloc, bench, crowd);
-    }
-    Ok(bench.take(row.at, row.seat, row.words) && is_answered(alloc, bench, row.answers))
 }
 
 // Does the same for the text of a row.
-fn is_kept(alloc: Global, bench: &mut Bench, text: &'static str) -> Result<bool, Fail> {
-    match row_of(text) {
-        Some(row) => is_right(alloc, bench, &row),
-        None => Ok(text.starts_with('#')),
+fn is_kept(bench: &mut Bench, text: &'static str) -> bool {
+    let (step, answers) = text.split_once('|').unwrap_or((text, ""));
+    match row_of(step) {
+        Some(row) => is_right(bench, &row, answers),
+        None => text.starts_with('#'),
     }
 }
 
-// Takes the steps of the script, and fails with the first row that is not answered as it says.
-fn take_all(alloc: Global, bench: &mut Bench, script: Script) -> Result<(), Fail> {
+// Takes the steps of the script. Returns how many comparisons these made, or the first row that is
+// not answered as it says.
+fn take_all(bench: &mut Bench, script: Script) -> Result<u64, &'static str> {
+    let before = bench.comparisons();
     for text in script.split('\n') {
-        let text = text.trim();
-        if !is_kept(alloc, bench, text)? {
-            return Err(Fail::from(text));
+        if !is_kept(bench, text.trim()) {
+            return Err(text);
         }
     }
-    Ok(())
+    Ok(bench.comparisons().saturating_sub(before))
 }
 
-// Connects the first three seats, and plays the script. Returns how many comparisons it counted.
-fn play_at(alloc: Global, bench: &mut Bench, script: Script) -> Result<u64, Fail> {
+// Connects the first three seats, lets a crowd come, and takes the steps of the script.
+fn play_at(
+    alloc: Global,
+    bench: &mut Bench,
+    crowd: &'static str,
+    script: Script,
+) -> Result<u64, &'static str> {
     for seat in 0..3 {
         bench.step(0, seat, Step::Connect);
     }
-    take_all(alloc, bench, script)?;
-    Ok(bench.counted())
-}
-
-/// Plays a script at a new core with this configuration. Returns how many comparisons it counted.
-pub(crate) fn play_one(alloc: Global, config: Config, script: Script) -> Result<u64, Fail> {
-    let mut bench = Bench::new(alloc, config)?;
-    play_at(alloc, &mut bench, script)
-}
-
-/// Plays each script, at a core of its own.
-pub(crate) fn play_with(alloc: Global, config: Config, scripts: Scripts) -> Result<(), Fail> {
-    for script in scripts.split("\n\n") {
-        play_one(alloc, config, script)?;
+    if comes(alloc, bench, crowd) {
+        take_all(bench, script)
+    } else {
+        Err(crowd)
     }
-    Ok(())
 }
 
-/// Does the same with four seats and bodies of 10 bytes.
-pub(crate) fn play(alloc: Global, scripts: Scripts) -> Result<(), Fail> {
-    play_with(alloc, config(4, 10), scripts)
+/// Plays a script at a new core with this configuration, to which a crowd has come. Returns how many
+/// comparisons its steps made, or the first row that is not answered as it says.
+pub(crate) fn play_one(
+    alloc: Global,
+    config: Config,
+    crowd: &'static str,
+    script: Script,
+) -> Result<u64, &'static str> {
+    match Bench::new(alloc, config) {
+        Some(mut bench) => play_at(alloc, &mut bench, crowd, script),
+        None => Err("no memory"),
+    }
+}
+
+/// Plays each script, at a core of its own. An empty line separates one and the next. Returns the
+/// first row that is not answered as it says.
+pub(crate) fn wrong_row(alloc: Global, config: Config, scripts: Script) -> Option<&'static str> {
+    for script in scripts.split("\n\n") {
+        if let Err(row) = play_one(alloc, config, "nobody", script) {
+            return Some(row);
+        }
+    }
+    None
 }

@@ -12,17 +12,15 @@ static WRITE_FAILS: &str = "put 0 0 9 1~x~reserve~delete 1~ \
 static ALL_WRITTEN: &str = "put 0 0 9 1~x~reserve~delete 1~ > INSERTED 1~RESERVED 1 1~x~DELETED~
     use b~watch b~list-tube-used~ > USING b~WATCHING 2~USING b~";
 
-#[test]
-fn write_fails_after_each_byte(rt: HostRuntime) {
-    assert!(rt; come_out(rt.alloc(), WRITE_FAILS, Series::WriteFails(38)));
-    assert!(rt; come_out(rt.alloc(), ALL_WRITTEN, Series::WriteAll(38)));
-}
-
 static READ_FAILS: &str = "put 0 0 9 1~x~reserve~delete 1~ \
     > INSERTED 1~RESERVED 1 1~x~DELETED~ > read fault
     use b~watch b~list-tube-used~ > USING b~WATCHING 2~USING b~";
 
 #[test]
-fn read_fails_after_each_byte(rt: HostRuntime) {
-    assert!(rt; come_out(rt.alloc(), READ_FAILS, Series::ReadFails(36)));
+fn connections_fail_after_each_byte(rt: HostRuntime) {
+    assert!(rt;
+        come_out(rt.alloc(), WRITE_FAILS, Series::WriteFails(38))
+            && come_out(rt.alloc(), ALL_WRITTEN, Series::WriteAll(38))
+            && come_out(rt.alloc(), READ_FAILS, Series::ReadFails(36))
+    );
 }

@@ -1,6 +1,6 @@
 //! Tests of the run by an event loop, over doors in memory, by public functions alone. The tests
 //! choose the order in which the seats act, and connections read and write a few bytes at a time.
-//! The notation and the sessions that every run has to pass are those of `bq_serve_tests`.
+//! The notation and the sessions that every run has to pass are those of `bq_scenes`.
 #![tactic(auto)]
 
 #[cfg(test)]
@@ -13,8 +13,6 @@ mod flow;
 mod held_bytes;
 #[cfg(test)]
 mod long_answers;
-#[cfg(test)]
-mod mails;
 #[cfg(test)]
 mod nobody;
 #[cfg(test)]
@@ -39,7 +37,5 @@ mod setting;
 mod timed;
 #[cfg(test)]
 mod together;
-#[cfg(test)]
-mod visits;
 #[cfg(test)]
 mod worked;

@@ -14,11 +14,6 @@ static BODIES: &str = "put 0 0 60 200~ + times 200 x + ~reserve~ + after 230 + d
     put 0 0 60 60000~ + times 60000 x + ~reserve~ + after 60032 + delete 1~ \
     > INSERTED 1~RESERVED 1 60000~ + times 60000 x + ~DELETED~";
 
-#[test]
-fn answers_in_parts(rt: HostRuntime) {
-    assert!(rt; come_out(rt.alloc(), BODIES, Series::Long));
-}
-
 // One client receives nothing until the others have received everything.
 static STOPS: &str = "stops 60 + list-tube-used~use a~ > USING default~USING a~
     use b~list-tube-used~use c~list-tube-used~ > USING b~USING b~USING c~USING c~
@@ -31,6 +26,8 @@ static STOPS: &str = "stops 60 + list-tube-used~use a~ > USING default~USING a~
     watch b~watch c~ > WATCHING 2~WATCHING 3~";
 
 #[test]
-fn clients_that_read_nothing(rt: HostRuntime) {
-    assert!(rt; come_out(rt.alloc(), STOPS, Series::Rules));
+fn answers_in_parts(rt: HostRuntime) {
+    assert!(rt;
+        come_out(rt.alloc(), BODIES, Series::Long) && come_out(rt.alloc(), STOPS, Series::Rules)
+    );
 }

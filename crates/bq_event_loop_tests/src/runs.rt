@@ -6,16 +6,17 @@ use crate::script_door::{ScriptDoor, doors_of};
 use crate::series::Series;
 use crate::setting::{Setting, at_first};
 use crate::together::Together;
-use crate::visits::{Run, Table};
 use bq_core::Core;
 use bq_core_api::Config;
 use bq_event_loop::{EventLoopRun, RunRefused, TurnsFault, run_turns};
 use bq_host::RunFault;
-use bq_job::{Moment, USUAL_BODY};
+use bq_job::USUAL_BODY;
 use bq_line::Door;
 use bq_line::clock::ScriptClock;
+use bq_scenes::clients::clock;
 use bq_scenes::control::{Control, control};
 use bq_scenes::settings::config;
+use bq_scenes::table::{Run, Table};
 use std::alloc::Global;
 
 type Ran<'t> = EventLoopRun<
@@ -25,15 +26,6 @@ type Ran<'t> = EventLoopRun<
     Control,
     Core,
 >;
-
-// Returns a clock that gives these readings. If an allocation fails, it lacks some of them.
-fn clock_of(alloc: Global, readings: &'static str) -> ScriptClock {
-    let mut script: Vec<Option<Moment>> = Vec::new(alloc);
-    for word in readings.split(' ') {
-        let _pushed = script.push(word.parse::<u64>().ok());
-    }
-    ScriptClock::new(script)
-}
 
 // Returns true if the connections of all doors are left as they have to be.
 fn are_left_so(doors: Vec<ScriptDoor<'_>, Global>, setting: &Setting) -> bool {
@@ -75,8 +67,10 @@ pub fn ran_so(
     let Ok(control) = control(alloc, setting.control) else {
         return Err(RunFault::NoMemory);
     };
+    let Ok(clock) = clock(alloc, setting.readings) else {
+        return Err(RunFault::NoMemory);
+    };
     let doors = doors_of(alloc, table, run, setting, all);
-    let clock = clock_of(alloc, setting.readings);
     let turns = turns_of(setting, config.seats, fault, all);
     let nobody = Ok(Nobody::new());
     let ran: Result<Ran<'_>, RunRefused<ScriptDoor<'_>>> = run_turns(
@@ -94,10 +88,7 @@ fn comes_out(alloc: Global, table: &Table, run: Run, setting: &Setting) -> bool 
     let all = Together::new();
     let config = config(run.doors.min(256) as u16, USUAL_BODY);
     match ran_so(alloc, config, table, run, setting, None, &all) {
-        Ok(is_so) => {
-            let opens = run.clients.saturating_add(run.doors) as u64;
-            is_so && !all.has_given_up() && all.opened() == opens
-        }
+        Ok(is_so) => is_so && !all.has_given_up() && all.opened() == run.opens(),
         Err(_) => false,
     }
 }

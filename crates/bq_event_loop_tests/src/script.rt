@@ -6,10 +6,10 @@ use crate::flow::Flow;
 use crate::parts::{Part, part_of};
 use crate::setting::{Setting, at_first};
 use crate::together::Together;
-use crate::visits::Visit;
 use bq_job::LineEnd;
 use bq_line::line::{Duplex, StreamError};
 use bq_scenes::notation::bytes_of;
+use bq_scenes::table::Visit;
 use std::alloc::Global;
 
 /// No client does more parts than this.

@@ -7,10 +7,10 @@ ghost use Rattle.bq_line.specs.Tending.{IsNewDoor};
 use crate::script::Script;
 use crate::setting::Setting;
 use crate::together::Together;
-use crate::visits::{Run, Table};
 use bq_job::LineEnd;
 use bq_line::line::{IoLine, Line};
 use bq_line::{Door, DoorFault, Opening, Watcher};
+use bq_scenes::table::{Run, Table};
 use std::alloc::Global;
 use std::collections::VecDeque;
 

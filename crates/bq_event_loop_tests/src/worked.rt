@@ -3,6 +3,7 @@
 
 use crate::runs::come_out;
 use crate::series::Series;
+use bq_scenes::worked::EXAMPLES;
 
 /// Runs with known results, besides those that every run has to pass:
 ///
@@ -35,10 +36,7 @@ pub static MORE: &str = "use b~put 0 0 9 1~p~use a~put 0 0 9 1~q~ \
 
 #[test]
 fn worked_runs(rt: HostRuntime) {
-    assert!(rt; come_out(rt.alloc(), "examples", Series::Rules));
-}
-
-#[test]
-fn more_worked_runs(rt: HostRuntime) {
-    assert!(rt; come_out(rt.alloc(), MORE, Series::Rules));
+    assert!(rt;
+        come_out(rt.alloc(), EXAMPLES, Series::Rules) && come_out(rt.alloc(), MORE, Series::Rules)
+    );
 }

@@ -7,8 +7,8 @@ use std::alloc::Global;
 /// The results of the reads of a control line, and whether a put is rejected afterwards.
 pub type Example = (&'static [Gives], bool);
 
-/// Control lines with and without a line `drain`.
-pub const EXAMPLES: &[Example] = &[
+// Control lines with and without a line `drain`.
+static EXAMPLES: &[Example] = &[
     (&[Gives::Text("drain\ndrains\ndrain")], true),
     (&[Gives::Text("drains\n\ndrain ")], false),
     // A longer line that arrives in two reads, and a last line that arrives in pieces.

@@ -3,6 +3,7 @@
 //! of tests that use it are proved side by side.
 #![tactic(auto)]
 
+pub mod bench;
 pub mod clients;
 pub mod control;
 pub mod drains;
@@ -11,4 +12,5 @@ pub mod refused;
 pub mod rows;
 pub mod settings;
 pub mod sure;
+pub mod table;
 pub mod worked;

@@ -56,3 +56,35 @@ pub fn bytes_of(alloc: Global, text: &str) -> Result<Vec<u8>, AllocError> {
     }
     Ok(bytes)
 }
+
+// Returns true if this byte is at this place, or the place is past the end.
+fn is_at(bytes: &[u8], at: usize, byte: u8) -> bool {
+    match bytes.get(at) {
+        Some(found) => *found == byte,
+        None => true,
+    }
+}
+
+/// Returns how many bytes a text without pieces has.
+pub fn len_of(text: &str) -> usize {
+    let mut len: usize = 0;
+    for byte in text.as_bytes() {
+        len = len.saturating_add(if *byte == b'~' { 2 } else { 1 });
+    }
+    len
+}
+
+/// Returns true if these are the bytes of a text without pieces, but at most this many. It allocates
+/// nothing.
+pub fn spells(text: &str, bytes: &[u8], most: usize) -> bool {
+    let mut at: usize = 0;
+    for byte in text.as_bytes() {
+        let first = if *byte == b'~' { b'\r' } else { *byte };
+        let is_end_right = *byte != b'~' || is_at(bytes, at.saturating_add(1), b'\n');
+        if !is_at(bytes, at, first) || !is_end_right {
+            return false;
+        }
+        at = at.saturating_add(if *byte == b'~' { 2 } else { 1 });
+    }
+    bytes.len() == at.min(most)
+}

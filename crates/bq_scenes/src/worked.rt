@@ -1,96 +1,37 @@
 //! Runs over doors whose results were worked out by hand.
 
-use crate::clients::{Client, INSERTED, Outcome, PUTS, RESERVED, ROOM, WAITS};
-use bq_job::LineEnd;
+/// The runs, in the notation of module `table`:
+///
+/// - No clients.
+/// - The job of a client that disconnects, for the next client of its door, and of another door.
+/// - The job of a connection with a write error.
+/// - A wait for a job from another door.
+/// - Only the second door has a client.
+/// - A read error: after an answer, during a wait, after the answer to a wait, and after a put.
+pub static EXAMPLES: &str = "no clients
+    no clients
 
-/// The clients at each door, and their results.
-pub type Example = (
-    &'static [&'static [Client<'static>]],
-    &'static [&'static [Outcome<'static>]],
-);
+    put 0 0 9 1~x~reserve~ > INSERTED 1~RESERVED 1 1~x~
+    & reserve~quit~ > RESERVED 1 1~x~ > quit
 
-static EXAMPLES: &[Example] = &[
-    // No clients.
-    (&[&[], &[]], &[&[], &[]]),
-    // The job of a client that disconnects.
-    (
-        &[&[("put 0 0 9 1~x~reserve~", ROOM), ("reserve~quit~", ROOM)]],
-        &[&[
-            ("INSERTED 1\r\nRESERVED 1 1\r\nx\r\n", LineEnd::EndOfInput),
-            ("RESERVED 1 1\r\nx\r\n", LineEnd::Quit),
-        ]],
-    ),
-    // The same, for another door.
-    (
-        &[
-            &[("put 0 0 9 1~x~reserve~ + after 29", ROOM)],
-            &[("reserve~ + after 17", ROOM)],
-        ],
-        &[
-            &[("INSERTED 1\r\nRESERVED 1 1\r\nx\r\n", LineEnd::EndOfInput)],
-            &[("RESERVED 1 1\r\nx\r\n", LineEnd::EndOfInput)],
-        ],
-    ),
-    // The job of a connection with a write error.
-    (
-        &[&[("put 0 0 9 1~x~reserve~", 20), ("reserve~quit~", ROOM)]],
-        &[&[
-            ("INSERTED 1\r\nRESERVED", LineEnd::WriteFault),
-            ("RESERVED 1 1\r\nx\r\n", LineEnd::Quit),
-        ]],
-    ),
-    // A wait for a job from another door.
-    (
-        &[&[(WAITS, ROOM)], &[(PUTS, ROOM)]],
-        &[
-            &[(RESERVED, LineEnd::EndOfInput)],
-            &[(INSERTED, LineEnd::EndOfInput)],
-        ],
-    ),
-    // Only the second door has a client.
-    (
-        &[&[], &[(PUTS, ROOM)]],
-        &[&[], &[(INSERTED, LineEnd::EndOfInput)]],
-    ),
-    // A read error after an answer.
-    (
-        &[&[("put 0 0 9 1~x~put + fails", ROOM)]],
-        &[&[(INSERTED, LineEnd::ReadFault)]],
-    ),
-    // A read error during a wait.
-    (
-        &[&[("reserve~ + fails", ROOM)]],
-        &[&[("", LineEnd::ReadFault)]],
-    ),
-    // A read error after the answer to a wait.
-    (
-        &[&[("reserve~ + after 19 + fails", ROOM)], &[(PUTS, ROOM)]],
-        &[
-            &[(RESERVED, LineEnd::ReadFault)],
-            &[(INSERTED, LineEnd::EndOfInput)],
-        ],
-    ),
-    // A read error after a put.
-    (
-        &[&[(WAITS, ROOM)], &[("put 5 0 10 3~abc~ + fails", ROOM)]],
-        &[
-            &[(RESERVED, LineEnd::EndOfInput)],
-            &[(INSERTED, LineEnd::ReadFault)],
-        ],
-    ),
-];
+    put 0 0 9 1~x~reserve~ + after 29 > INSERTED 1~RESERVED 1 1~x~
+    reserve~ + after 17 > RESERVED 1 1~x~
 
-/// Returns the runs, each with its clients and their results. Each function that names the table
-/// takes seconds to prove, so no other one does.
-pub fn examples() -> &'static [Example] {
-    EXAMPLES
-}
+    room 20 + put 0 0 9 1~x~reserve~ > INSERTED 1~RESERVED > write fault
+    & reserve~quit~ > RESERVED 1 1~x~ > quit
 
-/// Returns how often the doors are opened: once for each connection, and once more per door.
-pub fn opens_of(clients: &[&[Client]]) -> u64 {
-    let mut opens: u64 = 0;
-    for clients in clients {
-        opens = opens.saturating_add(clients.len() as u64).saturating_add(1);
-    }
-    opens
-}
+    reserve~ + after 19 > RESERVED 1 3~abc~
+    put 5 0 10 3~abc~ > INSERTED 1~
+
+    no clients
+    put 5 0 10 3~abc~ > INSERTED 1~
+
+    put 0 0 9 1~x~put + fails > INSERTED 1~ > read fault
+
+    reserve~ + fails >  > read fault
+
+    reserve~ + after 19 + fails > RESERVED 1 3~abc~ > read fault
+    put 5 0 10 3~abc~ > INSERTED 1~
+
+    reserve~ + after 19 > RESERVED 1 3~abc~
+    put 5 0 10 3~abc~ + fails > INSERTED 1~ > read fault";

@@ -1,114 +1,104 @@
 //! Runs over doors in memory, each with its wanted result.
 
-use crate::broken::{BROKEN, are_both_cut_off, is_other_unhurt};
 use crate::doors::{CountedDoor, are_left_so};
+use bq_core_api::Config;
 use bq_host::RunFault;
 use bq_job::USUAL_BODY;
-use bq_scenes::clients::{Client, Outcome, PUTS, ROOM, WAITS};
 use bq_scenes::control::Gives;
 use bq_scenes::drains;
 use bq_scenes::refused::{ONE, rows};
-use bq_scenes::worked::{examples, opens_of};
-
-/// The wanted result of a run.
-#[derive(Clone, Copy)]
-pub enum Wanted {
-    /// These connections have ended, in this order.
-    Lines(&'static [&'static [Outcome<'static>]]),
-    /// The connection of the first client, which waits, has failed; the other one has not.
-    OneBroken,
-    /// The connection of the client that waits and that of the client that puts a job were each cut
-    /// off after the room for it.
-    CutOff,
-    /// The doors were served.
-    Served,
-    /// If true, the core accepts no put any more; otherwise it accepts one.
-    Drains(bool),
-    /// This error.
-    Fault(RunFault),
-}
+use bq_scenes::settings::config;
+use bq_scenes::table::{Run, Table};
+use bq_scenes::worked::EXAMPLES;
+use std::alloc::Global;
 
 /// How a run came out.
 #[derive(Clone, Copy)]
 pub enum Came {
     AsWanted,
-    /// A command was skipped because an allocation failed, and what came after followed from that.
-    LeftOut,
+    /// Its clients were left with other results, which are as good.
+    Otherwise,
     /// The run failed, and opened no door.
     Failed(RunFault),
-    Otherwise,
+    Wrong,
 }
 
 /// A run over doors in memory.
 #[derive(Clone, Copy)]
-pub struct Case {
-    pub seats: u16,
-    pub max_job_size: u32,
-    pub clients: &'static [&'static [Client<'static>]],
+pub struct Case<'t> {
+    pub config: Config,
+    pub table: &'t Table,
+    pub run: Run,
     /// How many bytes each client at the first door can receive, and each one at another door, if
     /// it has room for them.
     pub rooms: (usize, usize),
     /// The reads of the control line.
     pub gives: &'static [Gives],
+    /// Whether the core accepts no put after the run, if that is known.
+    pub drains: Option<bool>,
     /// The room in the journal, if the run has one.
     pub journal: usize,
     /// If true, the journal has to be complete, and is replayed.
     pub is_replayed: bool,
-    pub wanted: Wanted,
-    /// The connections that have ended if a command was skipped.
-    pub left_out: &'static [&'static [Outcome<'static>]],
+    /// The error with which the run has to fail.
+    pub fault: Option<RunFault>,
 }
+
+/// Ample room for what a client receives.
+const ROOM: usize = 1000;
 
 /// Room in a journal for all steps of a run, including ticks.
 const JOURNAL_ROOM: usize = 2000;
 
-impl Case {
-    /// Returns a run with these clients, a silent control line, and the usual settings.
-    pub fn new(clients: &'static [&'static [Client<'static>]], wanted: Wanted) -> Case {
-        Case {
-            seats: clients.len().min(256) as u16,
-            max_job_size: USUAL_BODY,
-            clients,
-            rooms: (ROOM, ROOM),
-            gives: &[],
-            journal: JOURNAL_ROOM,
-            is_replayed: true,
-            wanted,
-            left_out: &[],
+impl<'t> Case<'t> {
+    /// Returns the run of a table with this number, with a silent control line and the usual
+    /// settings.
+    pub fn new(table: &'t Table, number: usize) -> Option<Case<'t>> {
+        match table.runs.get(number) {
+            Some(run) if table.is_whole => Some(Case {
+                config: config(run.doors.min(256) as u16, USUAL_BODY),
+                table,
+                run: *run,
+                rooms: (ROOM, ROOM),
+                gives: &[],
+                drains: None,
+                journal: JOURNAL_ROOM,
+                is_replayed: true,
+                fault: None,
+            }),
+            _ => None,
+        }
+    }
+
+    /// Returns the room of each client at this door.
+    pub fn room_at(&self, door: usize) -> usize {
+        if door == 0 {
+            self.rooms.0
+        } else {
+            self.rooms.1
         }
     }
 
     /// Returns how the run came out that left the doors like this, and opened them so often. If
-    /// `is_kept` is false, something else was not left as wanted.
+    /// `is_kept` is false, something else was not left as wanted. The next run of the table has the
+    /// other results that the clients may be left with.
     pub fn came(&self, doors: &[CountedDoor], opened: u64, is_kept: bool) -> Came {
-        if !is_kept || opened != opens_of(self.clients) {
-            Came::Otherwise
-        } else if self.is_left_at(doors) {
+        if !is_kept || opened != self.run.opens() || self.fault.is_some() {
+            Came::Wrong
+        } else if are_left_so(doors, self, self.run.number) {
             Came::AsWanted
-        } else if are_left_so(doors, self.left_out) {
-            Came::LeftOut
-        } else {
+        } else if are_left_so(doors, self, self.run.number.saturating_add(1)) {
             Came::Otherwise
-        }
-    }
-
-    fn is_left_at(&self, doors: &[CountedDoor]) -> bool {
-        match self.wanted {
-            Wanted::Lines(outcomes) => are_left_so(doors, outcomes),
-            Wanted::OneBroken => is_other_unhurt(doors),
-            Wanted::CutOff => are_both_cut_off(doors, self.rooms.0, self.rooms.1),
-            Wanted::Served | Wanted::Drains(_) => true,
-            Wanted::Fault(_) => false,
+        } else {
+            Came::Wrong
         }
     }
 
     /// Returns how the run came out that failed after the doors were opened so often.
     pub fn failed(&self, fault: RunFault, opened: u64) -> Came {
-        if opened != 0 {
-            return Came::Otherwise;
-        }
-        match self.wanted {
-            Wanted::Fault(wanted) if wanted.code() == fault.code() => Came::AsWanted,
+        match self.fault {
+            _ if opened != 0 => Came::Wrong,
+            Some(wanted) if wanted.code() == fault.code() => Came::AsWanted,
             _ => Came::Failed(fault),
         }
     }
@@ -131,90 +121,82 @@ pub enum Group {
     NoJournal,
 }
 
-/// More runs than any group has.
-pub const MOST: usize = 1000;
+static BOTH: &str = "reserve~ + after 19 > RESERVED 1 3~abc~
+    put 5 0 10 3~abc~ > INSERTED 1~";
 
-/// Returns a run of a group, or `None` if the group has no run with this number.
-pub fn run_of(group: Group, number: usize) -> Option<Case> {
+// A client that waits and whose connection fails receives its whole answer or nothing.
+static BROKEN: &str = "reserve~ + fails > RESERVED 1 3~abc~ > read fault
+    put 5 0 10 3~abc~ > INSERTED 1~
+
+    reserve~ + fails >  > read fault
+    put 5 0 10 3~abc~ > INSERTED 1~";
+
+/// Returns the table of a group.
+pub fn table_of(alloc: Global, group: Group) -> Table {
     match group {
-        Group::Worked => worked(number),
-        Group::CutOff => cut_off(number),
-        Group::Broken if number == 0 => Some(Case::new(BROKEN, Wanted::OneBroken)),
-        Group::Drained => drained(number),
-        Group::Refused => refused(number),
-        Group::NoJournal if number == 0 => Some(without_journal()),
-        _ => None,
+        Group::Worked => Table::of_text(alloc, EXAMPLES),
+        Group::CutOff => Table::of_text(alloc, BOTH),
+        Group::Broken => Table::of_text(alloc, BROKEN),
+        Group::Drained => Table::of_text(alloc, "no clients"),
+        Group::Refused | Group::NoJournal => Table::of_text(alloc, ONE),
     }
 }
+
+/// More runs than any group has.
+pub const MOST: usize = 1000;
 
 /// How often the run of each example is repeated.
 const TIMES: usize = 10;
 
-fn worked(number: usize) -> Option<Case> {
-    match examples().get(number / TIMES) {
-        Some(example) => Some(Case::new(example.0, Wanted::Lines(example.1))),
-        None => None,
-    }
-}
-
 /// How many runs there are in which a connection is cut off: two for each number of bytes.
 const CUT_OFF: usize = 40;
 
-static BOTH: &[&[Client]] = &[&[(WAITS, ROOM)], &[(PUTS, ROOM)]];
+/// Returns a run of a group over its table, or `None` if the group has no run with this number.
+pub fn case_of(table: &Table, group: Group, number: usize) -> Option<Case<'_>> {
+    match group {
+        Group::Worked => Case::new(table, number / TIMES),
+        Group::CutOff if number < CUT_OFF => cut_off(table, number),
+        Group::Broken if number == 0 => Case::new(table, 0),
+        Group::Drained => drained(table, number),
+        Group::Refused => refused(table, number),
+        Group::NoJournal if number == 0 => without_journal(table),
+        _ => None,
+    }
+}
 
 // A client that waits receives at most half as many bytes as the number or, if that is odd, another
 // client, which puts a job.
-fn cut_off(number: usize) -> Option<Case> {
-    if number >= CUT_OFF {
-        return None;
-    }
-    let room = number / 2;
-    let mut case = Case::new(BOTH, Wanted::CutOff);
-    case.rooms = if number % 2 == 0 {
-        (room, ROOM)
+fn cut_off(table: &Table, number: usize) -> Option<Case<'_>> {
+    let mut case = Case::new(table, 0)?;
+    if number % 2 == 0 {
+        case.rooms.0 = number / 2;
     } else {
-        (ROOM, room)
-    };
+        case.rooms.1 = number / 2;
+    }
     Some(case)
 }
 
-static NO_CLIENTS: &[&[Client]] = &[&[]];
-
-fn drained(number: usize) -> Option<Case> {
-    match drains::examples().get(number) {
-        Some(example) => {
-            let mut case = Case::new(NO_CLIENTS, Wanted::Drains(example.1));
-            case.gives = example.0;
-            Some(case)
-        }
-        None => None,
-    }
+fn drained(table: &Table, number: usize) -> Option<Case<'_>> {
+    let (gives, drains) = drains::examples().get(number)?;
+    let mut case = Case::new(table, 0)?;
+    case.gives = *gives;
+    case.drains = Some(*drains);
+    Some(case)
 }
 
-// Returns the run of one client with these settings.
-fn configured(seats: u16, max_job_size: u32, wanted: Wanted) -> Case {
-    let mut case = Case::new(ONE, wanted);
-    case.seats = seats;
-    case.max_job_size = max_job_size;
+fn refused(table: &Table, number: usize) -> Option<Case<'_>> {
+    let (seats, max_job_size, fault) = rows().get(number)?;
+    let mut case = Case::new(table, 0)?;
+    case.config = config(*seats, *max_job_size);
+    case.fault = *fault;
     case.is_replayed = false;
-    case
-}
-
-fn refused(number: usize) -> Option<Case> {
-    match rows().get(number) {
-        Some((seats, max_job_size, Some(fault))) => {
-            Some(configured(*seats, *max_job_size, Wanted::Fault(*fault)))
-        }
-        Some((seats, max_job_size, None)) => {
-            Some(configured(*seats, *max_job_size, Wanted::Served))
-        }
-        None => None,
-    }
+    Some(case)
 }
 
 // Only the journal needs this much memory.
-fn without_journal() -> Case {
-    let mut case = configured(1, 1, Wanted::Fault(RunFault::NoMemory));
+fn without_journal(table: &Table) -> Option<Case<'_>> {
+    let mut case = Case::new(table, 0)?;
     case.journal = usize::MAX;
-    case
+    case.fault = Some(RunFault::NoMemory);
+    Some(case)
 }

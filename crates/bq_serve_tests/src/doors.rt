@@ -8,7 +8,9 @@ use crate::cases::Case;
 use bq_job::{LineEnd, NoMemory};
 use bq_line::line::MemLine;
 use bq_line::{Door, DoorFault, MemDoor, Opening, Watcher};
-use bq_scenes::clients::{Client, Outcome, parts_of};
+use bq_scenes::clients::parts_of;
+use bq_scenes::notation::{len_of, spells};
+use bq_scenes::table::{Table, Visit};
 use std::alloc::Global;
 use std::collections::VecDeque;
 use std::sync::atomic::{AtomicU64, Ordering};
@@ -85,36 +87,43 @@ impl<'c> NewDoors<'c> {
     }
 }
 
-fn line(alloc: Global, client: &Client, room: usize) -> Result<MemLine, NoMemory>
-    ensures { IfOk result IsFresh }
+// Adds the connection of a client, which receives no more than `room` bytes. Returns false if an
+// allocation fails.
+fn adds_line(
+    alloc: Global,
+    lines: &mut VecDeque<MemLine, Global>,
+    visit: &Visit,
+    room: usize,
+) -> bool
+    requires { All IsFresh lines.old.items }
+    ensures { All IsFresh lines.new.items }
 {
-    match parts_of(alloc, client.0) {
-        Ok(parts) => MemLine::new(alloc, parts, client.1.min(room)),
-        Err(_) => Err(NoMemory),
+    let Ok(parts) = parts_of(alloc, visit.does) else {
+        return false;
+    };
+    match MemLine::new(alloc, parts, visit.room.min(room)) {
+        Ok(line) => lines.push_back(line).is_ok(),
+        Err(_) => false,
     }
 }
 
-// Returns a door where these clients connect, one after another. None receives more than `room`
-// bytes.
-fn door(alloc: Global, clients: &[Client], room: usize) -> Result<MemDoor, NoMemory>
+// Returns the door of a run with this number.
+fn door(alloc: Global, case: &Case, number: usize) -> Result<MemDoor, NoMemory>
     ensures inside { IfOk result (λ door. ⟦<MemDoor as Door>⟧.is_out door ≡ false) }
     ensures more { IfOk result (λ door. ⟦<MemDoor as Door>⟧.is_at_end door ≡ false) }
     ensures none_over { IfOk result (λ door. ⟦<MemDoor as Door>⟧.lines_over door ≡ []) }
 {
-    let Ok(mut lines) = VecDeque::with_capacity(alloc, clients.len()) else {
-        return Err(NoMemory);
-    };
-    for client in clients {
-        let line = line(alloc, client, room)?;
-        let Ok(()) = lines.push_back(line) else {
+    let mut lines: VecDeque<MemLine> = VecDeque::new(alloc);
+    for visit in &case.table.visits {
+        let is_here = visit.run == case.run.number && visit.door == number;
+        if is_here && !adds_line(alloc, &mut lines, visit, case.room_at(number)) {
             return Err(NoMemory);
-        };
+        }
     }
     MemDoor::new(alloc, lines)
 }
 
-/// Returns a door for each of a run's groups of clients. They share a count of how often they are
-/// opened.
+/// Returns the doors of a run. They share a count of how often they are opened.
 pub fn doors<'c>(
     alloc: Global,
     case: &Case,
@@ -123,37 +132,46 @@ pub fn doors<'c>(
     let mut doors = NewDoors {
         all: Vec::new(alloc),
     };
-    let mut room = case.rooms.0;
-    for clients in case.clients {
-        doors.push(door(alloc, clients, room)?, opened)?;
-        room = case.rooms.1;
+    for number in 0..case.run.doors {
+        doors.push(door(alloc, case, number)?, opened)?;
     }
     Ok(doors)
 }
 
-/// Returns true if the door has served these connections, in this order, and has none left.
-pub fn is_left_so(door: &CountedDoor, outcomes: &[Outcome]) -> bool {
-    let over = door.door.over();
-    if over.len() != outcomes.len() || door.door.left() != 0 {
-        return false;
-    }
-    for i in 0..over.len() {
-        if over[i].0.written() != outcomes[i].0.as_bytes() || over[i].1 != outcomes[i].1 {
-            return false;
-        }
-    }
-    true
+// Returns true if a connection with this room was left as the table says. Without enough room its
+// last write fails.
+fn is_so(visit: &Visit, room: usize, line: &MemLine, end: LineEnd) -> bool {
+    let is_cut = room < len_of(visit.receives);
+    let wanted = if is_cut {
+        LineEnd::WriteFault
+    } else {
+        visit.end
+    };
+    end == wanted && spells(visit.receives, line.written(), room)
 }
 
-/// The same for each door.
-pub fn are_left_so(doors: &[CountedDoor], outcomes: &[&[Outcome]]) -> bool {
-    if doors.len() != outcomes.len() {
-        return false;
+// Returns true if the door has served these clients, in this order, and has none left.
+fn is_left_so(door: &CountedDoor, table: &Table, run: usize, number: usize, room: usize) -> bool {
+    let mut served: usize = 0;
+    for visit in &table.visits {
+        if visit.run == run && visit.door == number {
+            match door.door.over().get(served) {
+                Some((line, end)) if is_so(visit, room, line, *end) => {}
+                _ => return false,
+            }
+            served = served.saturating_add(1);
+        }
     }
-    for i in 0..doors.len() {
-        if !is_left_so(&doors[i], outcomes[i]) {
+    door.door.over().len() == served && door.door.left() == 0
+}
+
+/// Returns true if the doors have served the clients of this run of the case's table.
+pub fn are_left_so(doors: &[CountedDoor], case: &Case, run: usize) -> bool {
+    for number in 0..doors.len() {
+        let room = case.room_at(number);
+        if !is_left_so(&doors[number], case.table, run, number, room) {
             return false;
         }
     }
-    true
+    doors.len() == case.run.doors && run < case.table.runs.len()
 }

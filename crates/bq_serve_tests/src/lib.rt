@@ -4,8 +4,6 @@
 #![tactic(auto)]
 
 #[cfg(test)]
-mod broken;
-#[cfg(test)]
 mod cases;
 #[cfg(test)]
 mod doors;
@@ -19,5 +17,3 @@ mod memory;
 mod scene;
 #[cfg(test)]
 mod sessions;
-#[cfg(test)]
-mod stepping;

@@ -4,7 +4,7 @@ use crate::cases::Case;
 use crate::doors::{NewDoors, doors};
 use bq_job::NoMemory;
 use bq_line::clock::ScriptClock;
-use bq_scenes::clients::{STILL, clock};
+use bq_scenes::clients::clock;
 use bq_scenes::control::{Control, control};
 use std::alloc::Global;
 use std::sync::atomic::AtomicU64;
@@ -24,7 +24,7 @@ impl<'c> Scene<'c> {
         let Ok(control) = control(alloc, case.gives) else {
             return Err(NoMemory);
         };
-        let Ok(clock) = clock(alloc, STILL) else {
+        let Ok(clock) = clock(alloc, "0") else {
             return Err(NoMemory);
         };
         match doors(alloc, case, opened) {

@@ -1,8 +1,7 @@
 //! Runs of one connection that are rejected.
 
 use super::runs::{Client, ran_so};
-use bq_scenes::clients::{PUTS, ROOM};
-use bq_scenes::refused::{REFUSED, Refused};
+use bq_scenes::refused::{Refused, rows};
 use bq_scenes::settings::config;
 use std::alloc::Global;
 use std::sync::Wait;
@@ -11,10 +10,10 @@ use std::sync::Wait;
 // sizes is 1.
 fn is_refused<R: Wait>(rt: &R, alloc: Global, row: &Refused) -> bool {
     let client = Client {
-        does: PUTS,
+        does: "put 5 0 10 3~abc~",
         receives: "JOB_TOO_BIG~",
         end: "end",
-        room: ROOM,
+        room: 100,
     };
     match ran_so(rt, alloc, config(row.0, row.1), &client, "0") {
         Ok(is_so) => is_so && row.2.is_none(),
@@ -22,9 +21,12 @@ fn is_refused<R: Wait>(rt: &R, alloc: Global, row: &Refused) -> bool {
     }
 }
 
-#[test]
-fn refused_runs(rt: HostRuntime) {
-    for row in REFUSED {
-        assert!(rt; is_refused(&rt, rt.alloc(), row));
+/// Returns true if each run that has to be rejected is, and with the right fault.
+pub fn are_refused<R: Wait>(rt: &R, alloc: Global) -> bool {
+    for row in rows() {
+        if !is_refused(rt, alloc, row) {
+            return false;
+        }
     }
+    true
 }

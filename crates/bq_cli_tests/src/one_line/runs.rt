@@ -2,18 +2,17 @@
 
 use bq_core_api::Config;
 use bq_host::RunFault;
-use bq_job::Moment;
 use bq_line::clock::ScriptClock;
 use bq_line::line::MemLine;
 use bq_run_one::{One, run_one};
-use bq_scenes::clients::{ROOM, parts_of};
+use bq_scenes::clients::{clock, parts_of};
 use bq_scenes::notation::bytes_of;
 use bq_scenes::rows::{column, is_end};
 use std::alloc::Global;
 use std::sync::Wait;
 
 /// A client, and the result of its session: what it does, what it receives, how its connection
-/// ends, and its room. The texts are in the notation of `bq_serve_tests`.
+/// ends, and its room. The texts are in the notation of `bq_scenes`.
 #[derive(Clone, Copy)]
 pub struct Client {
     pub does: &'static str,
@@ -30,19 +29,9 @@ impl Client {
             does: column(row, 1),
             receives: column(row, 2),
             end: column(row, 3),
-            room: column(row, 4).parse::<usize>().unwrap_or(ROOM),
+            room: column(row, 4).parse::<usize>().unwrap_or(1000),
         }
     }
-}
-
-// Returns a clock that gives these readings, and fails at each word that is no number. If an
-// allocation fails, it lacks some of them.
-fn clock_of(alloc: Global, readings: &'static str) -> ScriptClock {
-    let mut script: Vec<Option<Moment>> = Vec::new(alloc);
-    for word in readings.split(' ') {
-        let _pushed = script.push(word.parse::<u64>().ok());
-    }
-    ScriptClock::new(script)
 }
 
 fn is_left_so(alloc: Global, client: &Client, one: &One<MemLine, ScriptClock>) -> bool {
@@ -67,7 +56,10 @@ pub fn ran_so<R: Wait>(
     let Ok(line) = MemLine::new(alloc, parts, client.room) else {
         return Err(RunFault::NoMemory);
     };
-    match run_one(rt, alloc, config, line, clock_of(alloc, readings)) {
+    let Ok(clock) = clock(alloc, readings) else {
+        return Err(RunFault::NoMemory);
+    };
+    match run_one(rt, alloc, config, line, clock) {
         Ok(one) => Ok(is_left_so(alloc, client, &one)),
         Err(fault) => Err(fault),
     }

@@ -1,12 +1,12 @@
 //! The first job of each kind, by hand: jobs with the names of their tubes.
 
-use crate::jobs::putting::{job, tube};
-use bq_job::{Job, JobId, JobState, Pri, Seat, TubeName};
+ghost use Rattle.std.specs.Prelude.{◌≡◌};
+
+use bq_job::{Body, Counts, Job, JobId, JobState, Pri, Seat, TubeName};
 use bq_jobs::Jobs;
 use std::alloc::Global;
-use std::process::Abort;
 
-const JOBS: &[(JobId, &str, Pri, JobState)] = &[
+static JOBS: &[(JobId, &str, Pri, JobState)] = &[
     (1, "ab", 0, JobState::Ready),
     (2, "a", 7, JobState::Ready),
     (3, "a", 5, JobState::Ready),
@@ -25,111 +25,126 @@ const JOBS: &[(JobId, &str, Pri, JobState)] = &[
     (16, "ab", 0, JobState::Reserved(1, 4)),
 ];
 
-/// A kind of job whose first one is queried.
+/// A kind of job whose first one is queried, in the tube of a row.
 #[derive(Clone, Copy)]
 enum Kind {
-    Ready(&'static str),
-    Delayed(&'static str),
-    Buried(&'static str),
+    Ready,
+    Delayed,
+    Buried,
     Due,
     Lease,
     Held(Seat),
 }
 
-const FIRSTS: &[(Kind, Option<JobId>)] = &[
-    (Kind::Ready("a"), Some(3)),
-    (Kind::Ready("ab"), Some(1)),
-    (Kind::Delayed("a"), Some(6)),
-    (Kind::Delayed("ab"), Some(5)),
-    (Kind::Buried("a"), Some(10)),
-    (Kind::Buried("ab"), Some(12)),
-    (Kind::Ready("abc"), None),
-    (Kind::Due, Some(5)),
-    (Kind::Lease, Some(16)),
-    (Kind::Held(1), Some(16)),
-    (Kind::Held(2), Some(14)),
-    (Kind::Held(0), None),
+static FIRSTS: &[(Kind, &str, Option<JobId>)] = &[
+    (Kind::Ready, "a", Some(3)),
+    (Kind::Ready, "ab", Some(1)),
+    (Kind::Delayed, "a", Some(6)),
+    (Kind::Delayed, "ab", Some(5)),
+    (Kind::Buried, "a", Some(10)),
+    (Kind::Buried, "ab", Some(12)),
+    (Kind::Ready, "abc", None),
+    (Kind::Due, "a", Some(5)),
+    (Kind::Lease, "a", Some(16)),
+    (Kind::Held(1), "a", Some(16)),
+    (Kind::Held(2), "a", Some(14)),
+    (Kind::Held(0), "a", None),
 ];
 
-// Adds a job if there is room and no job with its id.
-fn put(jobs: &mut Jobs, job: Job) -> bool {
-    if jobs.room() == 0 || jobs.get(job.id).is_some() {
-        return false;
+fn job(id: JobId, tube: TubeName, pri: Pri, state: JobState, body: Body) -> Job
+    ensures { result.id ≡ id }
+{
+    Job {
+        id,
+        tube,
+        pri,
+        delay: 0,
+        ttr: 1,
+        body,
+        put_at: 0,
+        counts: Counts::default(),
+        state,
     }
-    jobs.add(job);
-    true
 }
 
-fn first_of(rt: &impl Abort, jobs: &mut Jobs, kind: Kind) -> Option<JobId> {
+// Adds a job in room that is reserved for it, if there is none with its id.
+fn add(alloc: Global, jobs: &mut Jobs, id: JobId, name: &str, pri: Pri, state: JobState) -> bool {
+    let Some(tube) = TubeName::new(name.as_bytes()) else {
+        return false;
+    };
+    if jobs.reserve_one(alloc).is_err() || jobs.room() == 0 || jobs.get(id).is_some() {
+        return false;
+    }
+    match Body::new(alloc, b"abc") {
+        Ok(body) => {
+            jobs.add(job(id, tube, pri, state, body));
+            true
+        }
+        Err(_) => false,
+    }
+}
+
+// Adds the jobs of all rows.
+fn add_all(alloc: Global, jobs: &mut Jobs) -> bool {
+    for (id, name, pri, state) in JOBS {
+        if !add(alloc, jobs, *id, *name, *pri, *state) {
+            return false;
+        }
+    }
+    jobs.len() == 16
+}
+
+fn first_of(jobs: &mut Jobs, kind: Kind, tube: &TubeName) -> Option<JobId> {
     match kind {
-        Kind::Ready(name) => jobs.first_ready(&tube(rt, name)),
-        Kind::Delayed(name) => jobs.first_delayed(&tube(rt, name)),
-        Kind::Buried(name) => jobs.first_buried(&tube(rt, name)),
+        Kind::Ready => jobs.first_ready(tube),
+        Kind::Delayed => jobs.first_delayed(tube),
+        Kind::Buried => jobs.first_buried(tube),
         Kind::Due => jobs.first_due(),
         Kind::Lease => jobs.first_lease(),
         Kind::Held(seat) => jobs.first_held(seat),
     }
 }
 
-// Makes a job and adds it, as `put` does, in room that is reserved for it. Returns false if an
-// allocation fails.
-fn put_in_room(
-    alloc: Global,
-    jobs: &mut Jobs,
-    id: JobId,
-    tube: TubeName,
-    pri: Pri,
-    state: JobState,
-) -> bool {
-    if jobs.reserve_one(alloc).is_err() {
+// Returns true if the first job of a kind is this one, and it takes comparisons to find that.
+fn is_first(jobs: &mut Jobs, kind: Kind, name: &str, wanted: Option<JobId>) -> bool {
+    let Some(tube) = TubeName::new(name.as_bytes()) else {
         return false;
-    }
-    match job(alloc, id, tube, pri, state) {
-        Ok(job) => put(jobs, job),
-        Err(_) => false,
-    }
+    };
+    let before = jobs.comparisons();
+    first_of(jobs, kind, &tube) == wanted && jobs.comparisons() > before
 }
 
-// Adds the jobs of all rows.
-fn add_all(rt: &impl Abort, alloc: Global, jobs: &mut Jobs) {
-    for (id, name, pri, state) in JOBS {
-        assert!(rt; put_in_room(alloc, jobs, *id, tube(rt, name), *pri, *state));
+fn are_first(jobs: &mut Jobs) -> bool {
+    for (kind, name, wanted) in FIRSTS {
+        if !is_first(jobs, *kind, *name, *wanted) {
+            return false;
+        }
     }
-    assert!(rt; jobs.len() == 16);
+    true
 }
 
-// Queries the first job of each kind, and counts the comparisons of that.
-fn look(rt: &impl Abort, jobs: &mut Jobs) {
-    for (kind, wanted) in FIRSTS {
-        let before = jobs.comparisons();
-        assert!(rt; first_of(rt, jobs, *kind) == *wanted);
-        assert!(rt; jobs.comparisons() > before);
-    }
-}
-
-// Returns true if the job with this id has the name of this tube.
-fn is_in(jobs: &mut Jobs, id: JobId, name: &TubeName) -> bool {
-    match jobs.get(id) {
+// Returns true if the job with this id is removed, and has the name of this tube.
+fn is_removed(jobs: &mut Jobs, id: JobId, name: &str) -> bool {
+    match jobs.remove(id) {
+        Some(job) => job.tube.as_slice() == name.as_bytes() && job.id == id,
         None => false,
-        Some(job) => job.tube == *name && job.id == id,
     }
 }
 
-// Each job has the name of its tube.
-fn look_by_id(rt: &impl Abort, jobs: &mut Jobs) {
+fn are_removed(jobs: &mut Jobs) -> bool {
     for (id, name, _, _) in JOBS {
-        assert!(rt; is_in(jobs, *id, &tube(rt, name)));
+        if !is_removed(jobs, *id, *name) {
+            return false;
+        }
     }
-    assert!(rt; jobs.get(17).is_none());
+    jobs.get(1).is_none() && jobs.len() == 0 && jobs.room() == 16
 }
 
-fn add_and_look(rt: &impl Abort, alloc: Global, jobs: &mut Jobs) {
-    add_all(rt, alloc, jobs);
-    look(rt, jobs);
-    look_by_id(rt, jobs);
+fn works(alloc: Global, jobs: &mut Jobs) -> bool {
+    add_all(alloc, jobs) && are_first(jobs) && are_removed(jobs)
 }
 
 #[test]
 fn first_of_each_kind_by_names(rt: HostRuntime) {
-    add_and_look(&rt, rt.alloc(), &mut Jobs::new());
+    assert!(rt; works(rt.alloc(), &mut Jobs::new()));
 }

@@ -3,4 +3,3 @@
 mod boxes;
 mod by_hand;
 mod comparisons;
-mod putting;

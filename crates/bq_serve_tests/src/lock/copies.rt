@@ -27,7 +27,7 @@ impl CopySource for Refusing {
 
 /// The room in the journal, the copy that is refused, how many copies are asked for, how many
 /// entries there are after three steps, and whether the journal is complete.
-const COPIES: &[(usize, usize, usize, usize, bool)] = &[
+static COPIES: &[(usize, usize, usize, usize, bool)] = &[
     (3, 0, 3, 3, true),
     (3, 4, 3, 3, true),
     (3, 1, 3, 2, false),
@@ -37,14 +37,8 @@ const COPIES: &[(usize, usize, usize, usize, bool)] = &[
     (0, 0, 0, 0, false),
 ];
 
-fn notes(
-    alloc: Global,
-    capacity: usize,
-    refused: usize,
-    asked: usize,
-    entries: usize,
-    is_whole: bool,
-) -> bool {
+fn notes(alloc: Global, row: &(usize, usize, usize, usize, bool)) -> bool {
+    let (capacity, refused, asked, entries, is_whole) = *row;
     let mut source = Refusing { asked: 0, refused };
     let Ok(mut locked) = Locked::new(alloc, config(1, USUAL_BODY), capacity) else {
         return false;
@@ -55,9 +49,16 @@ fn notes(
     source.asked == asked && locked.journal().len() == entries && locked.whole() == is_whole
 }
 
+fn are_noted(alloc: Global) -> bool {
+    for row in COPIES {
+        if !notes(alloc, row) {
+            return false;
+        }
+    }
+    true
+}
+
 #[test]
 fn refused_copies(rt: HostRuntime) {
-    for (capacity, refused, asked, entries, is_whole) in COPIES {
-        assert!(rt; notes(rt.alloc(), *capacity, *refused, *asked, *entries, *is_whole));
-    }
+    assert!(rt; are_noted(rt.alloc()));
 }

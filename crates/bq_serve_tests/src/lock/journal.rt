@@ -1,82 +1,54 @@
 //! The journal of a run around a lock. A separate core takes its entries one by one, and each
 //! connection has to have received what that core answers.
-ghost use Rattle.std.specs.Prelude.{◌≡◌, ◌<◌};
 
 use crate::cases::Case;
 use crate::doors::CountedDoor;
-use crate::stepping::take;
-use bq_core::{Config, Core, Outs};
-use bq_job::{Answer, Entry, LineEnd, Seat, Step};
+use bq_job::{Entry, LineEnd, Seat, Step};
+use bq_scenes::bench::{Bench, push_answer};
 use bq_serve::Locked;
-use bq_wire::{HeadBuf, answer_body, answer_head, answer_tail};
 use std::alloc::Global;
 
 /// The byte that follows each connection in the joined text of a seat. No answer contains it.
 const LINE_OVER: u8 = 0;
 
-// A separate core, and the text of its answers to one seat.
-#[derive(Drop)]
-struct Alone {
-    alloc: Global,
-    core: Core,
-    outs: Outs,
-    seat: Seat,
-    text: Vec<u8, Global>,
-    ghost room: { core.machine.settings.seats < outs.most },
-}
+/// More answers than a step has.
+const MOST: usize = 300;
 
-impl Alone {
-    // Takes the step of an entry. Returns true if its command was left out exactly if the entry
-    // says so.
-    fn takes(&mut self, entry: &Entry) -> bool {
-        match entry.step.share() {
-            Ok(step) => {
-                take(
-                    self.alloc,
-                    &mut self.core,
-                    &mut self.outs,
-                    entry.moment,
-                    entry.seat,
-                    step,
-                );
-                self.outs.left_out() == entry.left_out
-            }
-            Err(_) => false,
+// Takes the step of an entry. Returns true if its command was left out exactly if the entry says
+// so.
+fn takes(bench: &mut Bench, entry: &Entry) -> bool {
+    match entry.step.share() {
+        Ok(step) => {
+            bench.step(entry.moment, entry.seat, step);
+            bench.left_out() == entry.left_out
         }
-    }
-
-    // Appends the answers of the last step to the seat. Returns false if an allocation fails.
-    fn adds_answers(&mut self) -> bool {
-        while let Some((to, answer)) = self.outs.take_first() {
-            if to == self.seat && !adds_answer(&mut self.text, &answer) {
-                return false;
-            }
-        }
-        true
-    }
-
-    // Takes these entries and appends the answers to the seat.
-    fn replays(&mut self, entries: &[Entry]) -> bool {
-        for entry in entries {
-            if !self.takes(entry) || !self.adds_answers() {
-                return false;
-            }
-        }
-        true
+        Err(_) => false,
     }
 }
 
-// Appends the text of an answer. A connection that is closed is followed by its mark. Returns false
-// if an allocation fails.
-fn adds_answer(text: &mut Vec<u8, Global>, answer: &Answer) -> bool {
-    if let Answer::Closed = answer {
-        return text.push(LINE_OVER).is_ok();
+// Appends the answers of the last step to the seat. Returns false if an allocation fails.
+fn adds_answers(bench: &mut Bench, seat: Seat, text: &mut Vec<u8, Global>) -> bool {
+    for _ in 0..MOST {
+        match bench.answer() {
+            Some((to, answer)) => {
+                if to == seat && !push_answer(text, &answer, &[LINE_OVER]) {
+                    return false;
+                }
+            }
+            None => return true,
+        }
     }
-    let mut head = HeadBuf::new();
-    answer_head(answer, &mut head);
-    text.extend_from_slice(head.as_slice()).is_ok()
-        && text.extend_from_slice(answer_body(answer)).is_ok()
-        && text.extend_from_slice(answer_tail(answer)).is_ok()
+    false
+}
+
+// Takes these entries and appends the answers to the seat.
+fn replays(bench: &mut Bench, entries: &[Entry], seat: Seat, text: &mut Vec<u8, Global>) -> bool {
+    for entry in entries {
+        if !takes(bench, entry) || !adds_answers(bench, seat, text) {
+            return false;
+        }
+    }
+    true
 }
 
 // Appends what the connections of a door received, each followed by the mark of its end. Returns
@@ -133,57 +105,47 @@ fn times_gone(entries: &[Entry], seat: Seat) -> u64 {
 }
 
 // Returns true if a door received what a separate core answers its seat.
-fn has_received(alone: &mut Alone, entries: &[Entry], door: &CountedDoor) -> bool {
-    let mut text: Vec<u8> = Vec::new(alone.alloc);
-    alone.replays(entries)
+fn has_received(
+    alloc: Global,
+    bench: &mut Bench,
+    entries: &[Entry],
+    seat: Seat,
+    door: &CountedDoor,
+) -> bool {
+    let (mut text, mut wanted) = (Vec::new(alloc), Vec::new(alloc));
+    replays(bench, entries, seat, &mut wanted)
         && adds_written(&mut text, door)
-        && is_due(door, text.as_slice(), alone.text.as_slice())
+        && is_due(door, text.as_slice(), wanted.as_slice())
 }
 
 // Returns true if a seat disconnected once, and its door received what a new core answers.
 fn is_replayed(
     alloc: Global,
-    config: Config,
+    case: &Case,
     entries: &[Entry],
     seat: Seat,
     door: &CountedDoor,
 ) -> bool {
-    let Ok(outs) = Outs::new(alloc, config.seats) else {
-        return false;
-    };
-    match Core::new(alloc, config) {
-        Ok(core) => {
-            let mut alone = Alone {
-                alloc,
-                core,
-                outs,
-                seat,
-                text: Vec::new(alloc),
-            };
-            times_gone(entries, seat) == 1 && has_received(&mut alone, entries, door)
+    match Bench::new(alloc, case.config) {
+        Some(mut bench) => {
+            times_gone(entries, seat) == 1 && has_received(alloc, &mut bench, entries, seat, door)
         }
-        Err(_) => false,
+        None => false,
     }
 }
 
 /// Returns true if the journal is complete, each seat and the control line disconnected once, and
 /// each door received what a separate core answers, as far as there was room; or if the journal is
 /// not replayed.
-pub fn is_whole(
-    alloc: Global,
-    case: &Case,
-    config: Config,
-    locked: &Locked,
-    doors: &[CountedDoor],
-) -> bool {
+pub fn is_whole(alloc: Global, case: &Case, locked: &Locked, doors: &[CountedDoor]) -> bool {
     if !case.is_replayed {
         return true;
     }
     let entries = locked.journal();
-    let mut is_right = locked.whole() && times_gone(entries, config.seats) == 1;
+    let mut is_right = locked.whole() && times_gone(entries, case.config.seats) == 1;
     let mut seat: Seat = 0;
     for door in doors {
-        is_right = is_replayed(alloc, config, entries, seat, door) && is_right;
+        is_right = is_replayed(alloc, case, entries, seat, door) && is_right;
         seat = seat.saturating_add(1);
     }
     is_right

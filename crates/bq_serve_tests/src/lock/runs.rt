@@ -1,12 +1,11 @@
 //! The run around a lock.
 
 use super::journal::is_whole;
-use crate::cases::{Came, Case, Wanted};
+use crate::cases::{Came, Case};
 use crate::scene::Scene;
 use bq_host::RunFault;
 use bq_job::{Answer, Step};
 use bq_scenes::drains::put;
-use bq_scenes::settings::config;
 use bq_serve::{Locked, run_locked};
 use std::alloc::Global;
 use std::sync::Wait;
@@ -27,12 +26,12 @@ fn answers_so(locked: &mut Locked, put: Step, drains: bool) -> bool {
 }
 
 // Returns true if the core under the lock rejects or accepts a put as wanted.
-fn is_left_so(alloc: Global, locked: &mut Locked, wanted: &Wanted) -> bool {
-    let Wanted::Drains(drains) = wanted else {
+fn is_left_so(alloc: Global, locked: &mut Locked, drains: Option<bool>) -> bool {
+    let Some(drains) = drains else {
         return true;
     };
     match put(alloc) {
-        Ok(put) => answers_so(locked, put, *drains),
+        Ok(put) => answers_so(locked, put, drains),
         Err(_) => false,
     }
 }
@@ -48,11 +47,18 @@ pub fn around_a_lock<R: Threads + Wait + Sync>(rt: &R, alloc: Global, case: &Cas
         clock,
         control,
     } = scene;
-    let config = config(case.seats, case.max_job_size);
-    match run_locked(rt, alloc, config, doors.all, clock, control, case.journal) {
+    match run_locked(
+        rt,
+        alloc,
+        case.config,
+        doors.all,
+        clock,
+        control,
+        case.journal,
+    ) {
         Ok(mut run) => {
-            let is_whole = is_whole(alloc, case, config, &run.locked, run.doors.as_slice());
-            let is_kept = is_left_so(alloc, &mut run.locked, &case.wanted) && is_whole;
+            let is_whole = is_whole(alloc, case, &run.locked, run.doors.as_slice());
+            let is_kept = is_left_so(alloc, &mut run.locked, case.drains) && is_whole;
             case.came(run.doors.as_slice(), opened.load(Ordering::SeqCst), is_kept)
         }
         Err(fault) => case.failed(fault, opened.load(Ordering::SeqCst)),

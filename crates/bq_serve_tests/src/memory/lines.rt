@@ -6,7 +6,7 @@ use bq_job::USUAL_BODY;
 use bq_line::clock::ScriptClock;
 use bq_line::line::MemLine;
 use bq_run_one::{One, run_one};
-use bq_scenes::clients::{ROOM, STILL, clock, parts_of};
+use bq_scenes::clients::{clock, parts_of};
 use bq_scenes::rows::column;
 use bq_scenes::settings::config;
 use std::alloc::Global;
@@ -38,10 +38,10 @@ pub fn ran<R: Wait>(rt: &R, alloc: Global, row: &'static str) -> Outcome {
     let Ok(parts) = parts_of(alloc, column(row, 1)) else {
         return Outcome::NotBegun;
     };
-    let Ok(line) = MemLine::new(alloc, parts, ROOM) else {
+    let Ok(line) = MemLine::new(alloc, parts, 100) else {
         return Outcome::NotBegun;
     };
-    let Ok(clock) = clock(alloc, STILL) else {
+    let Ok(clock) = clock(alloc, "0") else {
         return Outcome::NotBegun;
     };
     match run_one(rt, alloc, config(1, USUAL_BODY), line, clock) {

@@ -1,38 +1,37 @@
 //! Runs with one client. A run that fails opens no door.
 
 use super::outcome::Outcome;
-use crate::cases::{Came, Case, Wanted};
+use crate::cases::{Came, Case};
+use crate::lock::runs::around_a_lock;
+use crate::sessions::runs::by_threads;
 use bq_host::RunFault;
-use bq_job::LineEnd;
-use bq_scenes::clients;
-use bq_scenes::clients::Client;
+use bq_scenes::table::Table;
+use std::alloc::Global;
+use std::sync::Wait;
+use std::thread::Threads;
 
-/// What the only client sends.
-static ONE: &[&[Client]] = &[&[("put 0 0 1 1~a~reserve-with-timeout 0~quit~", 100)]];
+// What the only client sends and receives, also if the allocation for its put fails.
+static ONE: &str = "put 0 0 1 1~a~reserve-with-timeout 0~quit~ > INSERTED 1~RESERVED 1 1~a~ > quit
 
-/// What it receives.
-static WRITTEN: &[&[clients::Outcome]] = &[&[(
-    "INSERTED 1\r\nRESERVED 1 1\r\na\r\n",
-    LineEnd::Quit,
-)]];
+    put 0 0 1 1~a~reserve-with-timeout 0~quit~ > OUT_OF_MEMORY~TIMED_OUT~ > quit";
 
-/// What it receives if the allocation for its put fails.
-static LEFT_OUT: &[&[clients::Outcome]] = &[&[("OUT_OF_MEMORY\r\nTIMED_OUT\r\n", LineEnd::Quit)]];
-
-/// Returns the run of the one client. Only the run itself allocates.
-pub fn case() -> Case {
-    let mut case = Case::new(ONE, Wanted::Lines(WRITTEN));
+/// Returns the outcome of a run of the one client, by threads or around a lock. The journal of the
+/// latter is not replayed, since that allocates.
+pub fn ran<R: Threads + Wait + Sync>(rt: &R, alloc: Global, is_locked: bool) -> Outcome {
+    let table = Table::of_text(alloc, ONE);
+    let Some(mut case) = Case::new(&table, 0) else {
+        return Outcome::Refused;
+    };
     case.journal = 100;
     case.is_replayed = false;
-    case.left_out = LEFT_OUT;
-    case
-}
-
-/// Returns the outcome of such a run.
-pub fn outcome(came: Came) -> Outcome {
+    let came = if is_locked {
+        around_a_lock(rt, alloc, &case)
+    } else {
+        by_threads(rt, alloc, &case)
+    };
     match came {
         Came::AsWanted => Outcome::Made,
-        Came::LeftOut => Outcome::LeftOut,
+        Came::Otherwise => Outcome::LeftOut,
         Came::Failed(RunFault::NoMemory) => Outcome::Refused,
         Came::Failed(RunFault::ThreadRefused) => Outcome::ThreadRefused,
         _ => Outcome::Wrong,

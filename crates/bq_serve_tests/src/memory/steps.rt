@@ -1,12 +1,10 @@
 //! Steps of a core, row by row. Each step is between two lines: its words before it is taken, and
 //! `taken` after it; then come its answers. From the first bury on, no step may allocate.
-ghost use Rattle.std.specs.Prelude.{◌≡◌, ◌<◌};
 
-use crate::stepping::take;
-use bq_core::{Core, Outs};
-use bq_job::{Answer, Moment, Seat, Step, USUAL_BODY};
+use bq_job::{Answer, Seat, USUAL_BODY};
+use bq_scenes::bench::{Bench, Row, row_of};
 use bq_scenes::settings::config;
-use bq_wire::{HeadBuf, RequestReader, answer_body, answer_head, answer_tail};
+use bq_wire::{HeadBuf, answer_body, answer_head, answer_tail};
 use std::alloc::Global;
 
 /// Rows with `|` between one and the next: the moment, the seat, and what happens there. That is a
@@ -16,7 +14,7 @@ type Rows = &'static str;
 
 // Steps with ample memory, then buries and peeks, then waits and leases.
 static ALL: Rows = "0 0 connect|0 1 connect|0 2 connect|\
-    0 0 put 0 0 9 1\r\nx|0 0 put 0 0 9 1\r\nx|0 0 put 0 100 9 1\r\nx|\
+    0 0 put 0 0 9 1~x|0 0 put 0 0 9 1~x|0 0 put 0 100 9 1~x|\
     0 0 use a|0 0 watch a|0 0 list-tubes|0 0 list-tubes-watched|\
     0 0 stats-job 1|0 0 stats-tube a|0 0 stats|\
     0 0 use default|0 0 reserve|0 0 reserve|\
@@ -35,117 +33,37 @@ static ALL: Rows = "0 0 connect|0 1 connect|0 2 connect|\
 // A client that holds one job and has buried another. A third job is delayed. After the first bury,
 // a tick follows each step.
 static HELD_JOB: Rows = "0 0 connect|\
-    0 0 put 0 0 9 1\r\nx|0 0 put 0 0 9 1\r\ny|0 0 put 0 100 9 1\r\nz|\
+    0 0 put 0 0 9 1~x|0 0 put 0 0 9 1~y|0 0 put 0 100 9 1~z|\
     0 0 reserve|0 0 reserve|0 0 bury 2 0|\
     0 0 bury 1 0|0 0 tick|0 0 kick 5|0 0 tick|0 0 kick 5|0 0 tick|\
     0 0 kick 5|0 0 tick|0 0 reserve|0 0 tick|0 0 touch 1|0 0 tick|\
     0 0 release 1 0 0|0 0 tick|0 0 close|0 0 tick";
 
-/// A row in its parts.
-#[derive(Clone, Copy)]
-struct Row {
-    at: Moment,
-    seat: Seat,
-    words: &'static str,
-}
-
-// A number, and the text after it.
-fn numbered(text: &'static str) -> Option<(u64, &'static str)> {
-    let Some((number, rest)) = text.split_once(' ') else {
-        return None;
-    };
-    match number.parse::<u64>() {
-        Ok(number) => Some((number, rest)),
-        Err(_) => None,
-    }
-}
-
-fn row_of(text: &'static str) -> Option<Row> {
-    let Some((at, rest)) = numbered(text) else {
-        return None;
-    };
-    match numbered(rest) {
-        Some((seat, words)) if seat < u64::from(SEATS) => Some(Row {
-            at,
-            seat: seat as Seat,
-            words,
-        }),
-        _ => None,
-    }
-}
-
 /// The number of seats.
 const SEATS: u16 = 3;
 
-/// A core, the room for its answers, and a reader of the clients' requests.
-#[derive(Drop)]
-struct Bench {
-    alloc: Global,
-    core: Core,
-    outs: Outs,
-    reader: RequestReader,
-    ghost room: { core.machine.settings.seats < outs.most },
+// Prints the answers of the last step. There are at most two.
+fn tells_answers(rt: &HostRuntime, bench: &mut Bench) -> bool {
+    for _ in 0..3 {
+        if let Some((seat, answer)) = bench.answer() {
+            if !tells_answer(rt, seat, &answer) {
+                return false;
+            }
+        }
+    }
+    true
 }
 
-impl Bench {
-    // Hands bytes to the reader. Returns the request that they complete.
-    fn feed(&mut self, bytes: &[u8]) -> Option<Step> {
-        match self.reader.feed(self.alloc, bytes) {
-            (_, Some(request)) => Some(Step::Ask(request)),
-            (_, None) => None,
+// Takes the step of a row between its two lines, and prints its answers. Returns false if an
+// allocation fails for a request itself.
+fn tells_row(rt: &HostRuntime, bench: &mut Bench, row: &Row) -> bool {
+    match bench.step_of(row.words) {
+        Some(step) => {
+            let is_begun = tells_words(rt, row.words);
+            bench.step(row.at, row.seat, step);
+            is_begun && rt.write_all(b"taken\n").is_ok() && tells_answers(rt, bench)
         }
-    }
-
-    // Returns the request that a client makes with these words and the end of a line.
-    fn asked(&mut self, words: &str) -> Option<Step> {
-        let _ = self.feed(words.as_bytes());
-        self.feed(b"\r\n")
-    }
-
-    fn step_of(&mut self, words: &str) -> Option<Step> {
-        match words {
-            "connect" => Some(Step::Connect),
-            "end" => Some(Step::End),
-            "close" => Some(Step::Close),
-            "tick" => Some(Step::Tick),
-            _ => self.asked(words),
-        }
-    }
-
-    fn take(&mut self, row: &Row, step: Step) {
-        take(
-            self.alloc,
-            &mut self.core,
-            &mut self.outs,
-            row.at,
-            row.seat,
-            step,
-        );
-    }
-
-    // Prints the answers of the last step. There are at most two.
-    fn tells_answers(&mut self, rt: &HostRuntime) -> bool {
-        for _ in 0..3 {
-            if let Some((seat, answer)) = self.outs.take_first() {
-                if !tells_answer(rt, seat, &answer) {
-                    return false;
-                }
-            }
-        }
-        true
-    }
-
-    // Takes the step of a row between its two lines, and prints its answers. Returns false if an
-    // allocation fails for a request itself.
-    fn tells(&mut self, rt: &HostRuntime, row: &Row) -> bool {
-        match self.step_of(row.words) {
-            Some(step) => {
-                let is_begun = tells_words(rt, row.words);
-                self.take(row, step);
-                is_begun && rt.write_all(b"taken\n").is_ok() && self.tells_answers(rt)
-            }
-            None => false,
-        }
+        None => false,
     }
 }
 
@@ -181,7 +99,7 @@ fn tells_words(rt: &HostRuntime, words: &str) -> bool {
 fn tells_rows(rt: &HostRuntime, bench: &mut Bench, rows: Rows) -> bool {
     for text in rows.split('|') {
         let is_told = match row_of(text) {
-            Some(row) => bench.tells(rt, &row),
+            Some(row) => tells_row(rt, bench, &row),
             None => false,
         };
         if !is_told {
@@ -193,28 +111,12 @@ fn tells_rows(rt: &HostRuntime, bench: &mut Bench, rows: Rows) -> bool {
 
 // Takes the steps of the rows at a core of their own.
 fn tells_steps(rt: &HostRuntime, alloc: Global, rows: Rows) -> bool {
-    let Ok(reader) = RequestReader::new(alloc, USUAL_BODY) else {
-        return tells_none(rt);
-    };
-    let Ok(outs) = Outs::new(alloc, SEATS) else {
-        return tells_none(rt);
-    };
-    match Core::new(alloc, config(SEATS, USUAL_BODY)) {
-        Ok(core) => {
-            let mut bench = Bench {
-                alloc,
-                core,
-                outs,
-                reader,
-            };
+    match Bench::new(alloc, config(SEATS, USUAL_BODY)) {
+        Some(mut bench) => {
             rt.write_all(b"steps: begun\n").is_ok() && tells_rows(rt, &mut bench, rows)
         }
-        Err(_) => tells_none(rt),
+        None => rt.write_all(b"steps: not begun\n").is_ok(),
     }
-}
-
-fn tells_none(rt: &HostRuntime) -> bool {
-    rt.write_all(b"steps: not begun\n").is_ok()
 }
 
 /// Takes the steps of several clients. Returns false if they could not be printed.

@@ -2,10 +2,7 @@
 //! job.
 
 use super::outcome::tells;
-use super::runs::{case, outcome};
-use super::{lines, makings, steps};
-use crate::lock::runs::around_a_lock;
-use crate::sessions::runs::by_threads;
+use super::{lines, makings, runs, steps};
 use bq_scenes::rows::column;
 
 #[test]
@@ -15,11 +12,11 @@ fn all_calls(rt: HostRuntime) {
     for row in lines::LINES.split(';') {
         assert!(rt; tells(&rt, column(row, 0), lines::ran(&rt, alloc, row)));
     }
-    let came = by_threads(&rt, alloc, &case());
-    assert!(rt; tells(&rt, "run_sessions", outcome(came)));
-    let came = around_a_lock(&rt, alloc, &case());
-    assert!(rt; tells(&rt, "run_locked", outcome(came)));
-    assert!(rt; steps::tells_all(&rt, alloc));
+    assert!(rt;
+        tells(&rt, "run_sessions", runs::ran(&rt, alloc, false))
+            && tells(&rt, "run_locked", runs::ran(&rt, alloc, true))
+            && steps::tells_all(&rt, alloc)
+    );
 }
 
 #[test]

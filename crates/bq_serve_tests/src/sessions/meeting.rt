@@ -13,7 +13,7 @@ mod guest_door;
 use awaited::Meeting;
 use bq_job::{NoMemory, USUAL_BODY};
 use bq_line::Door;
-use bq_scenes::clients::{STILL, clock};
+use bq_scenes::clients::clock;
 use bq_scenes::settings::config;
 use bq_serve::run_sessions;
 use guest::{GUESTS, Guest};
@@ -66,7 +66,7 @@ fn do_all_meet<R: Threads + Wait + Sync>(rt: &R, alloc: Global, chosen: u16) -> 
     let Ok(control) = BufReader::new(alloc, GuestControl::new(&meeting)) else {
         return false;
     };
-    let Ok(clock) = clock(alloc, STILL) else {
+    let Ok(clock) = clock(alloc, "0") else {
         return false;
     };
     let Ok(doors) = doors(alloc, &meeting, chosen) else {

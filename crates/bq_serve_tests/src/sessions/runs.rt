@@ -1,14 +1,12 @@
 //! The run by threads over links.
 ghost use Rattle.std.specs.Prelude.{◌≡◌, ◌<◌};
 
-use crate::cases::{Came, Case, Wanted};
+use crate::cases::{Came, Case};
 use crate::scene::Scene;
-use crate::stepping::take;
 use bq_core::{Core, Outs};
 use bq_host::RunFault;
 use bq_job::{Answer, Step};
 use bq_scenes::drains::put;
-use bq_scenes::settings::config;
 use bq_serve::run_sessions;
 use std::alloc::Global;
 use std::sync::Wait;
@@ -19,9 +17,9 @@ use std::thread::Threads;
 fn answers_so(alloc: Global, core: &mut Core, outs: &mut Outs, put: Step, drains: bool) -> bool
     requires { core.old.machine.settings.seats < outs.old.most }
 {
-    take(alloc, core, outs, 0, 0, Step::Connect);
+    core.step(alloc, 0, 0, Step::Connect, outs);
     let is_silent = outs.is_empty();
-    take(alloc, core, outs, 0, 0, put);
+    core.step(alloc, 0, 0, put, outs);
     match outs.take_first() {
         Some((0, Answer::Draining)) => is_silent && drains,
         Some((0, Answer::Inserted(_))) => is_silent && !drains,
@@ -30,17 +28,17 @@ fn answers_so(alloc: Global, core: &mut Core, outs: &mut Outs, put: Step, drains
 }
 
 // Returns true if a core with this many seats rejects or accepts a put as wanted.
-fn is_left_so(alloc: Global, core: &mut Core, seats: u16, wanted: &Wanted) -> bool
+fn is_left_so(alloc: Global, core: &mut Core, seats: u16, drains: Option<bool>) -> bool
     requires { core.old.machine.settings.seats ≡ seats }
 {
-    let Wanted::Drains(drains) = wanted else {
+    let Some(drains) = drains else {
         return true;
     };
     let Ok(mut outs) = Outs::new(alloc, seats) else {
         return false;
     };
     match put(alloc) {
-        Ok(put) => answers_so(alloc, core, &mut outs, put, *drains),
+        Ok(put) => answers_so(alloc, core, &mut outs, put, drains),
         Err(_) => false,
     }
 }
@@ -56,10 +54,9 @@ pub fn by_threads<R: Threads + Wait + Sync>(rt: &R, alloc: Global, case: &Case) 
         clock,
         control,
     } = scene;
-    let config = config(case.seats, case.max_job_size);
-    match run_sessions(rt, alloc, config, doors.all, clock, control) {
+    match run_sessions(rt, alloc, case.config, doors.all, clock, control) {
         Ok(mut run) => {
-            let is_kept = is_left_so(alloc, &mut run.core, config.seats, &case.wanted);
+            let is_kept = is_left_so(alloc, &mut run.core, case.config.seats, case.drains);
             case.came(run.doors.as_slice(), opened.load(Ordering::SeqCst), is_kept)
         }
         Err(fault) => case.failed(fault, opened.load(Ordering::SeqCst)),

@@ -1,11 +1,19 @@
 //! Each call of a shelf, against values found by hand.
 
-use super::putting::put;
 use bq_index::{NoMemory, Shelf};
 use std::alloc::Global;
 
 fn has(shelf: &Shelf<u64, char>, len: usize, spare: usize) -> bool {
     shelf.len() == len && shelf.spare() == spare
+}
+
+// Adds an entry if there is a spare box and no such key.
+fn put(shelf: &mut Shelf<u64, char>, key: u64, value: char) -> bool {
+    if shelf.spare() == 0 || shelf.get(&key).is_some() {
+        return false;
+    }
+    shelf.insert(key, value);
+    true
 }
 
 fn puts_two(shelf: &mut Shelf<u64, char>) -> bool {

@@ -6,9 +6,6 @@ use bq_index::Shelf;
 
 /// Numbers of binary digits, evaluated by the definition.
 fn digits_by_hand()
-    ensures none { binary_digits 0 ≡ 0 }
-    ensures one { binary_digits 1 ≡ 1 }
-    ensures three { binary_digits 3 ≡ 2 }
     ensures below { binary_digits 1023 ≡ 10 }
     ensures above { binary_digits 1024 ≡ 11 }
     ensures many { binary_digits 10001 ≡ 14 }

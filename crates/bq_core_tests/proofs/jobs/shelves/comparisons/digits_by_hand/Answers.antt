@@ -2,18 +2,6 @@ use Rattle.std.proofs.Common.{refl}
 use Rattle.bq_index.specs.Digits.{binary_digits}
 use Rattle.bq_core_tests.proofs.jobs.shelves.comparisons.digits_by_hand.Goals as goal
 
-pub returns-clause-none : goal.returns-clause-none
-unfolding binary_digits
-returns-clause-none c = refl
-
-pub returns-clause-one : goal.returns-clause-one
-unfolding binary_digits
-returns-clause-one c = refl
-
-pub returns-clause-three : goal.returns-clause-three
-unfolding binary_digits
-returns-clause-three c = refl
-
 pub returns-clause-below : goal.returns-clause-below
 unfolding binary_digits
 returns-clause-below c = refl

@@ -1,8 +1,6 @@
 //! Tables of runs: their clients, and what has to become of these.
 
 use bq_job::LineEnd;
-use bq_scenes::clients::{Client, Outcome};
-use bq_scenes::worked::{Example, examples};
 use std::alloc::Global;
 
 /// Ample room for what a client receives.
@@ -15,11 +13,11 @@ pub struct Visit {
     pub run: usize,
     /// The number of the door where it connects.
     pub door: usize,
-    /// What it does, as module `parts` has it.
+    /// What it does: parts of a connection, with ` + ` between one and the next.
     pub does: &'static str,
     /// After it has received this many bytes, each write to it fails.
     pub room: usize,
-    /// What it receives, in the notation of `bq_serve_tests`.
+    /// What it receives, in the notation of module `notation`.
     pub receives: &'static str,
     /// How its connection ends.
     pub end: LineEnd,
@@ -31,6 +29,13 @@ pub struct Run {
     pub number: usize,
     pub doors: usize,
     pub clients: usize,
+}
+
+impl Run {
+    /// Returns how often its doors are opened: once for each connection, and once more per door.
+    pub fn opens(&self) -> u64 {
+        self.clients.saturating_add(self.doors) as u64
+    }
 }
 
 /// Runs whose results are known.
@@ -48,9 +53,10 @@ pub struct Table {
 impl Table {
     /// Returns the runs that a text describes, with an empty line between one and the next. A line
     /// of the text has a client: what it does; after ` > ` what it receives; and after another ` >
-    /// ` how its connection ends, unless that is by the end of its input. Each connects at a door
-    /// of its own, unless its line begins with `& `: then it connects at the door of the previous
-    /// one, and after it. The text `examples` describes the runs that every run has to pass.
+    /// ` how its connection ends, unless that is by the end of its input. It has ample room, unless
+    /// what it does begins with `room`, the number of bytes, and ` + `. Each connects at a door of
+    /// its own, unless its line begins with `& `: then it connects at the door of the previous one,
+    /// and after it. The line `no clients` is a door without any.
     pub fn of_text(alloc: Global, text: &'static str) -> Table {
         let mut table = Table {
             runs: Vec::new(alloc),
@@ -58,38 +64,29 @@ impl Table {
             is_whole: true,
             described: 0,
         };
-        if text == "examples" {
-            table.add_examples();
-        } else {
-            table.add_runs(text);
+        for run in text.split("\n\n") {
+            table.add_run(run);
         }
         table
     }
 
-    // Adds a client to the run that is described now.
-    fn add(&mut self, door: usize, client: Client<'static>, outcome: Outcome<'static>) {
+    fn add_client(
+        &mut self,
+        door: usize,
+        does: &'static str,
+        receives: &'static str,
+        end: LineEnd,
+    ) {
+        let (does, room) = with_room(does);
         let visit = Visit {
             run: self.runs.len(),
             door,
-            does: client.0,
-            room: client.1,
-            receives: outcome.0,
-            end: outcome.1,
+            does,
+            room,
+            receives,
+            end,
         };
         if self.visits.push(visit).is_err() {
-            self.is_whole = false;
-        }
-    }
-
-    // Ends the description of a run with this many doors.
-    fn end_run(&mut self, doors: usize) {
-        let run = Run {
-            number: self.runs.len(),
-            doors,
-            clients: self.visits.len().saturating_sub(self.described),
-        };
-        self.described = self.visits.len();
-        if self.runs.push(run).is_err() {
             self.is_whole = false;
         }
     }
@@ -98,9 +95,9 @@ impl Table {
         match line.split_once(" > ") {
             Some((does, rest)) => {
                 let (receives, end) = rest.split_once(" > ").unwrap_or((rest, ""));
-                self.add(door, (does, ROOM), (receives, end_of(end)));
+                self.add_client(door, does, receives, end_of(end));
             }
-            None => self.is_whole = false,
+            None => self.is_whole = self.is_whole && line == "no clients",
         }
     }
 
@@ -118,46 +115,33 @@ impl Table {
         self.end_run(doors);
     }
 
-    fn add_runs(&mut self, text: &'static str) {
-        for run in text.split("\n\n") {
-            self.add_run(run);
-        }
-    }
-
-    fn add_clients(
-        &mut self,
-        door: usize,
-        clients: &'static [Client<'static>],
-        outcomes: &'static [Outcome<'static>],
-    ) {
-        if clients.len() != outcomes.len() {
+    // Ends the description of a run with this many doors.
+    fn end_run(&mut self, doors: usize) {
+        let run = Run {
+            number: self.runs.len(),
+            doors,
+            clients: self.visits.len().saturating_sub(self.described),
+        };
+        self.described = self.visits.len();
+        if self.runs.push(run).is_err() {
             self.is_whole = false;
-            return;
-        }
-        for at in 0..clients.len() {
-            self.add(door, clients[at], outcomes[at]);
-        }
-    }
-
-    fn add_example(&mut self, example: &Example) {
-        if example.0.len() != example.1.len() {
-            self.is_whole = false;
-            return;
-        }
-        for door in 0..example.0.len() {
-            self.add_clients(door, example.0[door], example.1[door]);
-        }
-        self.end_run(example.0.len());
-    }
-
-    fn add_examples(&mut self) {
-        for example in examples() {
-            self.add_example(example);
         }
     }
 }
 
-fn end_of(name: &str) -> LineEnd {
+// Splits the room from what a client does.
+fn with_room(does: &'static str) -> (&'static str, usize) {
+    match does.strip_prefix("room ") {
+        Some(rest) => {
+            let (room, does) = rest.split_once(" + ").unwrap_or((rest, ""));
+            (does, room.parse::<usize>().unwrap_or(0))
+        }
+        None => (does, ROOM),
+    }
+}
+
+/// Returns the end with this name.
+pub fn end_of(name: &str) -> LineEnd {
     match name {
         "quit" => LineEnd::Quit,
         "read fault" => LineEnd::ReadFault,
