@@ -1,4 +1,5 @@
 //! How many comparisons a step makes.
+use crate::crowds::Crowd;
 use crate::play::{Script, play_one};
 use bq_scenes::settings::config;
 use std::alloc::Global;
@@ -19,7 +20,7 @@ static CALM: Script = "0 0 put 0 5 9 1~x | 0 INSERTED 1
     0 0 end";
 
 // Returns true if a script beside a crowd is answered as it says, and makes this many comparisons.
-fn makes(alloc: Global, crowd: &'static str, script: Script, least: u64, most: u64) -> bool {
+fn makes(alloc: Global, crowd: Crowd, script: Script, least: u64, most: u64) -> bool {
     match play_one(alloc, config(256, 10), crowd, script) {
         Ok(made) => least <= made && made <= most,
         Err(_) => false,
@@ -28,8 +29,8 @@ fn makes(alloc: Global, crowd: &'static str, script: Script, least: u64, most: u
 
 // Returns true if a script makes at most this many more comparisons if the watching clients wait.
 fn makes_as_many(alloc: Global, script: Script, more: u64) -> bool {
-    match play_one(alloc, config(256, 10), "250 watchers", script) {
-        Ok(made) => makes(alloc, "250 waiters", script, 0, made.saturating_add(more)),
+    match play_one(alloc, config(256, 10), Crowd::Watchers, script) {
+        Ok(made) => makes(alloc, Crowd::Waiters, script, 0, made.saturating_add(more)),
         Err(_) => false,
     }
 }
@@ -38,8 +39,8 @@ fn makes_as_many(alloc: Global, script: Script, more: u64) -> bool {
 fn comparisons_of_a_step(rt: HostRuntime) {
     let alloc = rt.alloc();
     assert!(rt;
-        makes(alloc, "10000 jobs", HAND_OUT, 1, 4590)
-            && makes(alloc, "10000 jobs", NOTHING_DUE, 0, 3840)
+        makes(alloc, Crowd::Jobs(10_000), HAND_OUT, 1, 4590)
+            && makes(alloc, Crowd::Jobs(10_000), NOTHING_DUE, 0, 3840)
     );
     // A put into a tube for which no client waits makes only the comparisons of the insertion. If
     // no waiting client may have a job, none is searched for: in each of a step's two parts, at most

@@ -3,6 +3,18 @@ use bq_job::{Answer, Body, JobId, Request, Seat, Step};
 use bq_scenes::bench::Bench;
 use std::alloc::Global;
 
+/// The jobs or clients that are there before a script is played.
+#[derive(Clone, Copy)]
+pub(crate) enum Crowd {
+    Nobody,
+    /// This many jobs, the first the most urgent.
+    Jobs(u32),
+    /// 250 clients that watch only an empty tube.
+    Watchers,
+    /// The same clients, which wait.
+    Waiters,
+}
+
 // The client at seat 0 puts a job of this priority, which gets the same number as its id.
 fn puts(alloc: Global, bench: &mut Bench, number: u32) -> bool {
     let Ok(body) = Body::new(alloc, b"x") else {
@@ -48,12 +60,12 @@ fn all_do(bench: &mut Bench, words: &str) -> bool {
     true
 }
 
-/// Lets the crowd come that these words name. Returns false if there is none.
-pub(crate) fn comes(alloc: Global, bench: &mut Bench, words: &str) -> bool {
-    match words {
-        "10000 jobs" => puts_jobs(alloc, bench, 10_000),
-        "250 watchers" => all_do(bench, "connect|watch empty|ignore default"),
-        "250 waiters" => all_do(bench, "connect|watch empty|ignore default|reserve"),
-        _ => words == "nobody",
+/// Lets a crowd come. Returns false if it does not come as it should.
+pub(crate) fn comes(alloc: Global, bench: &mut Bench, crowd: Crowd) -> bool {
+    match crowd {
+        Crowd::Nobody => true,
+        Crowd::Jobs(jobs) => puts_jobs(alloc, bench, jobs),
+        Crowd::Watchers => all_do(bench, "connect|watch empty|ignore default"),
+        Crowd::Waiters => all_do(bench, "connect|watch empty|ignore default|reserve"),
     }
 }

@@ -1,5 +1,5 @@
 //! Scripts of steps and their answers.
-use crate::crowds::comes;
+use crate::crowds::{Crowd, comes};
 use bq_core::Config;
 use bq_job::{Answer, Seat, Step};
 use bq_scenes::bench::{Bench, Row, row_of, seated};
@@ -43,7 +43,7 @@ fn place_after(text: &[u8], at: usize, bytes: &[u8]) -> Option<usize> {
 // Returns true if the answer has this text of a script, without the end of its last line.
 fn has_text(answer: &Answer, text: &[u8]) -> bool {
     if let Answer::Closed = answer {
-        return text == b"closed";
+        return text == b"closed".as_slice();
     }
     let mut head = HeadBuf::new();
     answer_head(answer, &mut head);
@@ -109,7 +109,7 @@ fn take_all(bench: &mut Bench, script: Script) -> Result<u64, &'static str> {
 fn play_at(
     alloc: Global,
     bench: &mut Bench,
-    crowd: &'static str,
+    crowd: Crowd,
     script: Script,
 ) -> Result<u64, &'static str> {
     for seat in 0..3 {
@@ -118,7 +118,7 @@ fn play_at(
     if comes(alloc, bench, crowd) {
         take_all(bench, script)
     } else {
-        Err(crowd)
+        Err("the crowd")
     }
 }
 
@@ -127,7 +127,7 @@ fn play_at(
 pub(crate) fn play_one(
     alloc: Global,
     config: Config,
-    crowd: &'static str,
+    crowd: Crowd,
     script: Script,
 ) -> Result<u64, &'static str> {
     match Bench::new(alloc, config) {
@@ -140,7 +140,7 @@ pub(crate) fn play_one(
 /// first row that is not answered as it says.
 pub(crate) fn wrong_row(alloc: Global, config: Config, scripts: Script) -> Option<&'static str> {
     for script in scripts.split("\n\n") {
-        if let Err(row) = play_one(alloc, config, "nobody", script) {
+        if let Err(row) = play_one(alloc, config, Crowd::Nobody, script) {
             return Some(row);
         }
     }

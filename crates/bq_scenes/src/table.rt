@@ -1,5 +1,6 @@
 //! Tables of runs: their clients, and what has to become of these.
 
+use crate::rows::is_end;
 use bq_job::LineEnd;
 use std::alloc::Global;
 
@@ -140,12 +141,12 @@ fn with_room(does: &'static str) -> (&'static str, usize) {
     }
 }
 
-/// Returns the end with this name.
-pub fn end_of(name: &str) -> LineEnd {
-    match name {
-        "quit" => LineEnd::Quit,
-        "read fault" => LineEnd::ReadFault,
-        "write fault" => LineEnd::WriteFault,
-        _ => LineEnd::EndOfInput,
+// Returns the end with this name.
+fn end_of(name: &str) -> LineEnd {
+    for end in [LineEnd::Quit, LineEnd::ReadFault, LineEnd::WriteFault] {
+        if is_end(end, name) {
+            return end;
+        }
     }
+    LineEnd::EndOfInput
 }
