@@ -1,5 +1,5 @@
 -- What an error of accept means for its listener.
-use Rattle.std.specs.Prelude.{ℤ, pos, Bool, false, List, [], ◌∷◌, Option, Some, None}
+use Rattle.std.specs.Prelude.{ℤ, ℕ, pos, Bool, false, List, [], ◌∷◌, Option, Some, None, Result, Ok, Err, ◌+◌}
 use Rattle.std.specs.List.{list_any}
 use Rattle.std.specs.Ordering.{int_eq}
 use Rattle.std.specs.declared.io.Error.{Error}
@@ -27,3 +27,13 @@ abbrev pub IfCame : {S : Type 0} → Accepted S → (Connection S → Type 0) �
 IfCame (accepts.Came connection) P = P connection
 IfCame accepts.NoneYet P = Unit {0}
 IfCame accepts.Short P = Unit {0}
+
+-- How many accepts in a row have failed after one more, whose result this is.
+abbrev pub failures_after : {S E : Type 0} → Result (Option S) E → ℕ → ℕ
+failures_after (Ok (Some connection)) failures = 0
+failures_after (Ok None) failures = failures + 1
+failures_after (Err e) failures = failures + 1
+
+-- the greatest number that a count of failures reaches, 2^64 - 1
+abbrev pub most_failures : ℕ
+most_failures = 18446744073709551615

@@ -13,6 +13,7 @@ pub use refusals::Refusals;
 pub use turned_away::TurnedAway;
 
 mod accept;
+mod failures;
 mod free_doors;
 mod line_record;
 mod listen;

@@ -1,14 +1,14 @@
 //! Accepts the next connection of a listener.
-ghost use Rattle.std.specs.Prelude.{◌≡◌, IfOk, OnErr, true};
-ghost use Rattle.bq_line.specs.Accepts.{IfCame, ends_listener, is_listener_fault};
+ghost use Rattle.std.specs.Prelude.{◌≡◌, ◌⊎◌, IfErr, IfOk, OnErr, true};
+ghost use Rattle.bq_line.specs.Accepts.{IfCame, ends_listener, is_listener_fault, most_failures};
 ghost use Rattle.bq_line.specs.Ready.{IsWatched};
 
+use super::failures::Failures;
 use super::refusals::{Met, Refusals};
 use super::{Listen, TurnedAway};
-use crate::line::{Connection, NotWatched, Socket, Watcher};
+use crate::line::{Connection, NotWatched, Watcher};
 use std::io::{Eprint, ErrorKind};
 use std::rt::Clock;
-use std::sync::{Wait, WaitMethods};
 use std::time::Duration;
 use std::{io, thread};
 
@@ -38,26 +38,28 @@ enum NotAccepted {
 /// Returns the next connection, set to send each write at once.
 ///
 /// A peer that has already disconnected is skipped. After any other error that does not come from
-/// the listener itself, the door waits and tries again, so such an error never ends a door. It is
-/// reported once, and so is a broken listener.
-pub(super) fn accept<R: Wait + Clock + Eprint, T: Listen>(
+/// the listener itself, the door waits and tries again, so no single error of this kind ends a door.
+/// It is reported once, and so is a broken listener.
+///
+/// On error it returns how many accepts in a row have failed: 2^64 - 1, unless the listener is
+/// broken (`Failures`). Because this number ends the loop, a door needs no `Wait`.
+pub(super) fn accept<R: Clock + Eprint, T: Listen>(
     rt: &R,
     listener: &T,
     refusals: Option<&Refusals>,
-) -> io::Result<Connection<T::Stream>>
-    ensures fault { OnErr result (T.may_fail listener.now ≡ true) }
+) -> Result<Connection<T::Stream>, Failures>
+    ensures fault { IfErr result (λ failures. (T.may_fail listener.now ≡ true) ⊎ (failures ≡ most_failures)) }
     ensures stream { IfOk result (λ c. T.Stream.may_fail c.stream ≡ T.streams_may_fail listener.now) }
 {
     let mut met = Met::none(refusals);
-    for _ in rt.forever() {
-        match listener.accept() {
-            Ok((mut stream, _peer)) => {
-                // This fails if the peer has disconnected.
-                if stream.set_nodelay(true).is_ok() {
-                    met.end();
-                    return Ok(Connection::new(stream));
-                }
+    let mut failures = Failures::none();
+    for _ in 0..u64::MAX {
+        match failures.accept(listener) {
+            Ok(Some(stream)) => {
+                met.end();
+                return Ok(Connection::new(stream));
             }
+            Ok(None) => {}
             Err(e) => match meaning_of(&e) {
                 NotAccepted::OfPeer => {}
                 NotAccepted::Passing => {
@@ -66,12 +68,12 @@ pub(super) fn accept<R: Wait + Clock + Eprint, T: Listen>(
                 }
                 NotAccepted::OfListener => {
                     met.note(rt, &e);
-                    return Err(e);
+                    return Err(failures);
                 }
             },
         }
     }
-    unreachable!()
+    Err(failures)
 }
 
 /// The result of an accept that does not wait.

@@ -1,10 +1,12 @@
-ghost use Rattle.std.specs.Prelude.{◌≡◌, ◌↔◌, [], IfOk, IsNone, IsSome, OnErr, OnOk, Some, false, true};
+ghost use Rattle.std.specs.Prelude.{◌≡◌, ◌⊎◌, ◌↔◌, [], IfOk, IsNone, IsSome, OnErr, OnOk, Some, false, true};
+ghost use Rattle.bq_line.specs.Accepts.{most_failures};
 ghost use Rattle.bq_line.specs.Doors.{IfLine, IfOpened, IsLookedFor, IsNoMore, IsNoneFound, IsOpened, MayOpen};
 ghost use Rattle.bq_line.specs.InAll.{in_all};
 ghost use Rattle.bq_line.specs.Ready.{IsWatched};
 ghost use Rattle.bq_line.specs.Streams.{IsSureLine};
 
 use super::accept::{Accepted, accept, accept_now, close_next};
+use super::failures::Failures;
 use super::free_doors::FreeDoors;
 use super::line_record::LineRecord;
 use super::open_doors::OpenDoors;
@@ -16,7 +18,6 @@ use std::io::Eprint;
 use std::mem;
 use std::os::fd::RawFd;
 use std::rt::Clock;
-use std::sync::Wait;
 
 /// A door for the connections that a listener accepts. Several doors can share a listener; each
 /// connection goes to one door.
@@ -38,6 +39,8 @@ pub struct ListenDoor<'l, R, T> {
     is_out: bool,
     is_at_end: bool,
     met_fault: bool,
+    // How many accepts in a row had failed when `open` gave up.
+    failures: Failures,
     // True if an accept that does not wait met a shortage since the last connection.
     met_shortage: bool,
     // True if the listener was set not to wait, which the first look does.
@@ -49,11 +52,7 @@ pub struct ListenDoor<'l, R, T> {
     ghost ended: { is_at_end ≡ true → met_fault ≡ false → left ≡ Some 0 },
 }
 
-impl<'l, R: Wait + Clock + Eprint, S: Socket + Drop + Send, T: Listen<Stream = S>> ListenDoor<
-    'l,
-    R,
-    T,
-> {
+impl<'l, R: Clock + Eprint, S: Socket + Drop + Send, T: Listen<Stream = S>> ListenDoor<'l, R, T> {
     /// Returns a door for `sessions` connections of the listener, or for connections without limit
     /// if it is `None`. They are read through `buffer`, one after another.
     pub fn new(
@@ -80,6 +79,7 @@ impl<'l, R: Wait + Clock + Eprint, S: Socket + Drop + Send, T: Listen<Stream = S
             is_out: false,
             is_at_end: false,
             met_fault: false,
+            failures: Failures::none(),
             met_shortage: false,
             never_waits: false,
             over: LineRecord::new(),
@@ -217,7 +217,7 @@ impl<'l, R, T: Listen> ListenDoor<'l, R, T> {
     }
 }
 
-impl<'l, R: Wait + Clock + Eprint, S: Socket + Drop + Send, T: Listen<Stream = S>> Door
+impl<'l, R: Clock + Eprint, S: Socket + Drop + Send, T: Listen<Stream = S>> Door
     for ListenDoor<'l, R, T> {
     ghost use Rattle.std.proofs.Common.{refl};
 
@@ -248,8 +248,10 @@ impl<'l, R: Wait + Clock + Eprint, S: Socket + Drop + Send, T: Listen<Stream = S
         ensures over { self.new.over ≡ self.old.over }
         ensures same { (first : _) → ⟦<ListenDoor<'l, R, T> as Door>⟧.same first self.old →
             ⟦<ListenDoor<'l, R, T> as Door>⟧.same first self.new }
-        // A fault comes from the listener, and is kept for `met_fault`.
-        ensures of_listener { OnErr result (T.may_fail self.old.listener.now ≡ true) }
+        // A fault comes from the listener, or 2^64 - 1 accepts in a row have failed. It is kept for
+        // `met_fault`.
+        ensures of_listener { OnErr result ((T.may_fail self.old.listener.now ≡ true)
+            ⊎ (self.new.failures ≡ most_failures)) }
         ensures fault { OnErr result (self.new.met_fault ≡ true) }
         ensures no_fault { OnOk result (self.new.met_fault ≡ self.old.met_fault) }
         // There is no connection if and only if all connections that may come were opened.
@@ -267,9 +269,10 @@ impl<'l, R: Wait + Clock + Eprint, S: Socket + Drop + Send, T: Listen<Stream = S
                 let buffer = self.lend();
                 Ok(Some(BufferedLine::new(stream, buffer)))
             }
-            Err(_) => {
+            Err(failures) => {
                 self.is_at_end = true;
                 self.met_fault = true;
+                self.failures = failures;
                 self.tell_fault();
                 Err(DoorFault)
             }
