@@ -17,7 +17,7 @@ use crate::lone_watch::LoneWatch;
 use crate::telling_clock::TellingClock;
 use bq_core::{Config, Core};
 use bq_core_api::QueueCore;
-use bq_event_loop::{EventLoopRun, Poller, RunRefused, run_turns};
+use bq_event_loop::{EventLoopRun, Order, RunRefused, run_turns};
 use bq_host::RunFault;
 use bq_job::NoMemory;
 use bq_line::control_line::ControlReader;
@@ -408,7 +408,7 @@ pub fn serve_doors_by_loop<
     ensures bad_configuration { IsRefusedBy result RunFault.BadConfiguration
         ↔ IsTrue (not (are_in_range (settings_of options.now) && vec_len doors.entry == options.now.seats)) }
 {
-    let turns = Poller::new(alloc, options.seats);
+    let turns = Order::new(alloc, options.seats);
     let sleeper = LoneWatch::new(rt, alloc, doors.as_slice(), ending, source);
     run_turns(
         alloc,

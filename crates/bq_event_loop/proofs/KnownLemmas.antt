@@ -22,7 +22,7 @@ use Rattle.bq_event_loop.specs.Listings.{Listing, all_free, enqueued, falling, f
 use Rattle.bq_event_loop.specs.Marks.{times}
 use Rattle.bq_event_loop.specs.Still.{IsStill, IsStillAt, IsStillOn}
 use Rattle.bq_event_loop.specs.Visits.{turn_of}
-use Rattle.bq_event_loop.specs.declared.poller.visits.Visit.{Visit}
+use Rattle.bq_event_loop.specs.declared.order.visits.Visit.{Visit}
 use Rattle.bq_event_loop.specs.declared.turns.Turn.{Turn}
 use Rattle.bq_event_loop.specs.declared.turns.Turn.TheVariants as turns
 use Rattle.bq_event_loop.specs.WakeLists.{WakeList, Wakes, none_waits}

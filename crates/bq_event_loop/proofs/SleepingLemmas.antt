@@ -4,9 +4,9 @@ use Rattle.bq_job.specs.machine.Machine.{Machine}
 use Rattle.bq_event_loop.specs.Sleeping.{IsControlStill, IsWaitFor, is_awaited}
 use Rattle.bq_event_loop.specs.WakeLists.{WakeList}
 use Rattle.bq_event_loop.specs.declared.loop_core.LoopCore.{LoopCore}
-use Rattle.bq_event_loop.specs.declared.poller.control_watch.ControlKnown.TheVariants as knowns
-use Rattle.bq_event_loop.specs.declared.poller.control_watch.ControlWatch.{ControlWatch}
-use Rattle.bq_event_loop.specs.declared.poller.control_watch.ControlWatch.TheVariants as watches
+use Rattle.bq_event_loop.specs.declared.control_watch.ControlKnown.TheVariants as knowns
+use Rattle.bq_event_loop.specs.declared.control_watch.ControlWatch.{ControlWatch}
+use Rattle.bq_event_loop.specs.declared.control_watch.ControlWatch.TheVariants as watches
 use Rattle.bq_event_loop.specs.declared.turns.ControlStands.{ControlStands}
 use Rattle.bq_event_loop.specs.declared.turns.ControlStands.TheVariants as stands
 

@@ -1,8 +1,8 @@
 -- What is known about connections that were not accepted yet.
 use Rattle.std.specs.Prelude.{Bool, true, false, not, ◌&&◌}
-use Rattle.bq_event_loop.specs.declared.poller.accepts.Accepts.{Accepts}
-use Rattle.bq_event_loop.specs.declared.poller.accepts.Rest.{Rest}
-use Rattle.bq_event_loop.specs.declared.poller.accepts.Rest.TheVariants as pauses
+use Rattle.bq_event_loop.specs.declared.accepts.Accepts.{Accepts}
+use Rattle.bq_event_loop.specs.declared.accepts.Rest.{Rest}
+use Rattle.bq_event_loop.specs.declared.accepts.Rest.TheVariants as pauses
 
 -- no connection is accepted for a while
 abbrev pub rests : Rest → Bool

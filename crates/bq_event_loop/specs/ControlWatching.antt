@@ -1,10 +1,10 @@
 -- When the control line is read, and how far.
 use Rattle.std.specs.Prelude.{ℤ, ◌≡◌, Option, Some, None}
-use Rattle.bq_event_loop.specs.declared.poller.control_watch.ControlCame.{ControlCame}
-use Rattle.bq_event_loop.specs.declared.poller.control_watch.ControlKnown.{ControlKnown}
-use Rattle.bq_event_loop.specs.declared.poller.control_watch.ControlKnown.TheVariants as knowns
-use Rattle.bq_event_loop.specs.declared.poller.control_watch.ControlWatch.{ControlWatch}
-use Rattle.bq_event_loop.specs.declared.poller.control_watch.ControlWatch.TheVariants as watches
+use Rattle.bq_event_loop.specs.declared.control_watch.ControlCame.{ControlCame}
+use Rattle.bq_event_loop.specs.declared.control_watch.ControlKnown.{ControlKnown}
+use Rattle.bq_event_loop.specs.declared.control_watch.ControlKnown.TheVariants as knowns
+use Rattle.bq_event_loop.specs.declared.control_watch.ControlWatch.{ControlWatch}
+use Rattle.bq_event_loop.specs.declared.control_watch.ControlWatch.TheVariants as watches
 use Rattle.bq_event_loop.specs.declared.turns.ControlReads.{ControlReads}
 use Rattle.bq_event_loop.specs.declared.turns.ControlReads.TheVariants as extents
 use Rattle.bq_event_loop.specs.declared.turns.ControlStands.{ControlStands}

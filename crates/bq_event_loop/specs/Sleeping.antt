@@ -11,12 +11,12 @@ use Rattle.bq_event_loop.specs.declared.control_turns.ControlTurns.{ControlTurns
 use Rattle.bq_event_loop.specs.declared.control_turns.Stage.{Stage}
 use Rattle.bq_event_loop.specs.declared.control_turns.Stage.TheVariants as stages
 use Rattle.bq_event_loop.specs.declared.loop_core.LoopCore.{LoopCore}
-use Rattle.bq_event_loop.specs.declared.poller.Stage.{Stage as Part}
-use Rattle.bq_event_loop.specs.declared.poller.Stage.TheVariants as parts
-use Rattle.bq_event_loop.specs.declared.poller.control_watch.ControlKnown.TheVariants as knowns
-use Rattle.bq_event_loop.specs.declared.poller.control_watch.ControlWatch.{ControlWatch}
-use Rattle.bq_event_loop.specs.declared.poller.control_watch.ControlWatch.TheVariants as watches
-use Rattle.bq_event_loop.specs.declared.poller.visits.Visit.{Visit}
+use Rattle.bq_event_loop.specs.declared.order.Stage.{Stage as Part}
+use Rattle.bq_event_loop.specs.declared.order.Stage.TheVariants as parts
+use Rattle.bq_event_loop.specs.declared.control_watch.ControlKnown.TheVariants as knowns
+use Rattle.bq_event_loop.specs.declared.control_watch.ControlWatch.{ControlWatch}
+use Rattle.bq_event_loop.specs.declared.control_watch.ControlWatch.TheVariants as watches
+use Rattle.bq_event_loop.specs.declared.order.visits.Visit.{Visit}
 use Rattle.bq_event_loop.specs.declared.turns.ControlStands.{ControlStands}
 use Rattle.bq_event_loop.specs.declared.turns.ControlStands.TheVariants as stands
 

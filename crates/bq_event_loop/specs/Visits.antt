@@ -2,11 +2,11 @@
 use Rattle.std.specs.Prelude.{ℕ, ◌-◌, Bool, true, false, nat_lt, not, ◌||◌, if◌then◌else◌}
 use Rattle.bq_line.specs.declared.attendant.Progress.{Progress}
 use Rattle.bq_line.specs.declared.attendant.Progress.TheVariants as results
-use Rattle.bq_event_loop.specs.declared.poller.visits.Part.{Part}
-use Rattle.bq_event_loop.specs.declared.poller.visits.Part.TheVariants as parts
-use Rattle.bq_event_loop.specs.declared.poller.visits.Share.{Share}
-use Rattle.bq_event_loop.specs.declared.poller.visits.Share.TheVariants as shares
-use Rattle.bq_event_loop.specs.declared.poller.visits.Visit.{Visit}
+use Rattle.bq_event_loop.specs.declared.order.visits.Part.{Part}
+use Rattle.bq_event_loop.specs.declared.order.visits.Part.TheVariants as parts
+use Rattle.bq_event_loop.specs.declared.order.visits.Share.{Share}
+use Rattle.bq_event_loop.specs.declared.order.visits.Share.TheVariants as shares
+use Rattle.bq_event_loop.specs.declared.order.visits.Visit.{Visit}
 use Rattle.bq_event_loop.specs.declared.turns.Extent.{Extent}
 use Rattle.bq_event_loop.specs.declared.turns.Extent.TheVariants as extents
 use Rattle.bq_event_loop.specs.declared.turns.Turn.{Turn}

@@ -5,8 +5,9 @@ ghost use Rattle.std.specs.Duration.{as_nanos};
 ghost use Rattle.bq_event_loop.specs.Accepting.{may_come, rests};
 ghost use Rattle.bq_event_loop.specs.Sleeping.{IsNoLonger};
 
-use crate::poller::{Accepts, longest_wait};
+use crate::accepts::Accepts;
 use crate::row::Row;
+use crate::waits::longest_wait;
 use bq_line::attendant::Looked;
 use bq_line::line::Line;
 use bq_line::{Door, TurnedAway};

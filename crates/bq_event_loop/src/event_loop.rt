@@ -7,7 +7,7 @@ ghost use Rattle.bq_line.specs.Tending.{AreSame, IsNewDoor, door_seen};
 ghost use Rattle.bq_event_loop.specs.EventLoopRuns.{IsEventLoopRun, IsEventLoopSoFar};
 ghost use Rattle.bq_event_loop.specs.Refused.{IsRefusedBy};
 
-use crate::poller::Poller;
+use crate::order::Order;
 use crate::run::{EventLoopRun, RunRefused, run_turns};
 use crate::watch::Watch;
 use bq_core_api::{Config, QueueCore};
@@ -79,7 +79,7 @@ pub fn run_event_loop<
     ensures bad_configuration { IsRefusedBy result RunFault.BadConfiguration
         ↔ IsTrue (not (are_in_range config && vec_len doors == config.seats)) }
 {
-    let turns = Poller::new(alloc, config.seats);
+    let turns = Order::new(alloc, config.seats);
     let sleeper = Watch::new(rt, alloc, doors.as_slice(), control_source);
     run_turns(alloc, config, doors, clock, control, turns, sleeper)
 }

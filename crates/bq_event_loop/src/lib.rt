@@ -5,7 +5,7 @@
 
 pub use doors::Doors;
 pub use event_loop::run_event_loop;
-pub use poller::Poller;
+pub use order::Order;
 pub use row::Row;
 pub use run::{EventLoop, EventLoopRun, RunRefused, run_turns};
 pub use sleeper::{Report, Sleeper};
@@ -14,11 +14,13 @@ pub use turns::{
 };
 pub use watch::Watch;
 
+mod accepts;
 mod control_turns;
+mod control_watch;
 mod doors;
 mod event_loop;
 mod loop_core;
-mod poller;
+mod order;
 mod row;
 mod run;
 mod seat_queue;
@@ -27,5 +29,6 @@ mod sleeper;
 mod still;
 mod turns;
 mod waiting;
+mod waits;
 mod watch;
 mod woken;

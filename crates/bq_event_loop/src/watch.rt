@@ -2,8 +2,8 @@
 ghost use Rattle.std.specs.Prelude.{◌≡◌, None, true, IfOk, IfSome};
 ghost use Rattle.bq_event_loop.specs.Sleeping.{is_awaited};
 
+use crate::control_watch::{CONTROL, ControlCame, ControlWatch};
 use crate::doors::Doors;
-use crate::poller::{CONTROL, ControlCame, ControlWatch};
 use crate::row::Row;
 use crate::sleeper::{Report, Sleeper};
 use crate::turns::{ControlReads, ControlStands, SoFar, Turns, TurnsFault};

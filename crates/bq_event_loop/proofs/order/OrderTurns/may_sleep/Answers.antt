@@ -1,6 +1,6 @@
 use Rattle.std.proofs.Common.{◌≡◌, false, ap, subst}
 use Rattle.bq_event_loop.specs.Known.{is_on}
-use Rattle.bq_event_loop.proofs.poller.PollerTurns.may_sleep.Goals as goal
+use Rattle.bq_event_loop.proofs.order.OrderTurns.may_sleep.Goals as goal
 
 pub returns-clause-checks : goal.returns-clause-checks
 returns-clause-checks c idle come seat =

@@ -1,7 +1,7 @@
 use Rattle.std.proofs.Common.{None, sym, subst}
 use Rattle.bq_event_loop.proofs.KnownLemmas.{known_enqueued, known_freed}
 use Rattle.bq_event_loop.specs.Known.{AreKnownTo}
-use Rattle.bq_event_loop.proofs.poller.Poller.note_looked.Goals as goal
+use Rattle.bq_event_loop.proofs.order.Order.note_looked.Goals as goal
 
 pub returns-then-is_this-clause-known : goal.returns-then-is_this-clause-known
 returns-then-is_this-clause-known g c =

@@ -1,7 +1,7 @@
 use Rattle.std.proofs.Common.{None, sym, subst}
 use Rattle.bq_event_loop.proofs.KnownLemmas.{known_enqueued, listed_self}
 use Rattle.bq_event_loop.specs.Known.{AreKnownTo}
-use Rattle.bq_event_loop.proofs.poller.Poller.end_visit.Goals as goal
+use Rattle.bq_event_loop.proofs.order.Order.end_visit.Goals as goal
 
 pub returns-in-PartDone-clause-known : goal.returns-in-PartDone-clause-known
 returns-in-PartDone-clause-known g c =

@@ -1,7 +1,7 @@
 use Rattle.std.proofs.Common.{None, Option, Some, sym, subst, ℕ}
 use Rattle.bq_event_loop.proofs.KnownLemmas.{known_next, known_same}
 use Rattle.bq_event_loop.specs.Known.{AreKnownTo, IsNextOf}
-use Rattle.bq_event_loop.proofs.poller.Poller.begin_next.Goals as goal
+use Rattle.bq_event_loop.proofs.order.Order.begin_next.Goals as goal
 
 pub returns-in_default-clause-known : goal.returns-in_default-clause-known
 returns-in_default-clause-known g c =

@@ -1,5 +1,5 @@
 use Rattle.bq_event_loop.proofs.KnownLemmas.{next_in_round_is}
-use Rattle.bq_event_loop.proofs.poller.Poller.next_seat.Goals as goal
+use Rattle.bq_event_loop.proofs.order.Order.next_seat.Goals as goal
 
 pub returns-then-self : goal.returns-then-self
 returns-then-self c =

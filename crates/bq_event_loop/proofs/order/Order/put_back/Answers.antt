@@ -1,7 +1,7 @@
 use Rattle.std.proofs.Common.{None, sym, subst}
 use Rattle.bq_event_loop.proofs.KnownLemmas.{known_enqueued}
 use Rattle.bq_event_loop.specs.Known.{AreKnownTo}
-use Rattle.bq_event_loop.proofs.poller.Poller.put_back.Goals as goal
+use Rattle.bq_event_loop.proofs.order.Order.put_back.Goals as goal
 
 pub returns-clause-known : goal.returns-clause-known
 returns-clause-known g c =

@@ -1,7 +1,7 @@
 use Rattle.std.proofs.Common.{None, sym, subst}
 use Rattle.bq_event_loop.proofs.KnownLemmas.{known_enqueued, known_rests}
 use Rattle.bq_event_loop.specs.Known.{AreKnownTo}
-use Rattle.bq_event_loop.proofs.poller.Poller.let_rest.Goals as goal
+use Rattle.bq_event_loop.proofs.order.Order.let_rest.Goals as goal
 
 pub returns-then-not-is_this-clause-known : goal.returns-then-not-is_this-clause-known
 returns-then-not-is_this-clause-known g c =

@@ -5,13 +5,15 @@ ghost use Rattle.mio.specs.Event.{event_token};
 ghost use Rattle.bq_event_loop.specs.ControlWatching.{IsNewWatch, after_report, after_turn, reads_at, reads_of};
 ghost use Rattle.bq_event_loop.specs.Sleeping.{IsControlStill};
 
-use super::CONTROL;
 use crate::turns::{ControlReads, ControlStands, TurnsFault};
 use mio::event::Event;
 use mio::unix::SourceFd;
 use mio::{Interest, Registry, Token};
 use std::io;
 use std::os::fd::RawFd;
+
+/// The token of the control line.
+pub const CONTROL: Token = Token(usize::MAX);
 
 /// The Linux error number that means that a descriptor cannot be watched, as that of a file: EPERM.
 const IS_FILE: i32 = 1;

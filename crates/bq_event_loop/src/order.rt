@@ -11,7 +11,6 @@ ghost use Rattle.bq_event_loop.specs.Sleeping.{visited_by};
 
 use crate::seat_queue::SeatQueue;
 use crate::turns::{Began, News, SoFar, Turn, Turns, TurnsFault};
-pub(crate) use accepts::Accepts;
 use bq_core_api::QueueCore;
 use bq_host::Mail;
 use bq_line::Door;
@@ -19,22 +18,13 @@ use bq_line::attendant::Attendant;
 use bq_line::clock::Clock;
 use bq_line::control_line::ControlInput;
 use bq_line::line::Line;
-pub(crate) use control_watch::{ControlCame, ControlWatch};
-use mio::Token;
 use pace::Pace;
 use std::alloc::Global;
 use std::snapshot::Snapshot;
 use visits::{Part, Pause, Share, Visit};
-pub(crate) use waits::longest_wait;
 
-mod accepts;
-mod control_watch;
 mod pace;
 mod visits;
-mod waits;
-
-/// The token of the control line.
-pub(crate) const CONTROL: Token = Token(usize::MAX);
 
 /// The next part of a round.
 #[derive(Clone, Copy)]
@@ -57,7 +47,7 @@ enum Stage {
 
 /// Chooses the next seat by readiness. All of its memory is allocated when it is created.
 #[derive(Drop)]
-pub struct Poller {
+pub struct Order {
     queue: SeatQueue,
     stage: Stage,
     // What the core's clock showed when it was last read, and the pace of the round's visits.
@@ -71,17 +61,17 @@ pub struct Poller {
     visit: Visit,
 }
 
-impl Poller {
-    /// Returns a poller for this many seats. Returns `NoMemory` if an allocation failed.
-    pub fn new(alloc: Global, seats: u16) -> Result<Poller, TurnsFault>
+impl Order {
+    /// Returns an order of this many seats. Returns `NoMemory` if an allocation failed.
+    pub fn new(alloc: Global, seats: u16) -> Result<Order, TurnsFault>
         // It knows each seat.
-        ensures knows { IfOk result (λ poller. KnowsAll seats poller.queue.seats
-            (is_listed poller.queue (visited_by poller.stage poller.visit)) (is_looking poller.queue)) }
+        ensures knows { IfOk result (λ order. KnowsAll seats order.queue.seats
+            (is_listed order.queue (visited_by order.stage order.visit)) (is_looking order.queue)) }
     {
         let Ok(queue) = SeatQueue::new(alloc, usize::from(seats)) else {
             return Err(TurnsFault::NoMemory);
         };
-        Ok(Poller {
+        Ok(Order {
             queue,
             stage: Stage::Control,
             reading: 0,
@@ -450,14 +440,14 @@ impl Poller {
     }
 }
 
-impl Turns for Poller {
-    ghost seats = { λ poller. poller.queue.seats };
+impl Turns for Order {
+    ghost seats = { λ order. order.queue.seats };
 
-    ghost listed = { λ poller. is_listed poller.queue (visited_by poller.stage poller.visit) };
+    ghost listed = { λ order. is_listed order.queue (visited_by order.stage order.visit) };
 
-    ghost looks = { λ poller. is_looking poller.queue };
+    ghost looks = { λ order. is_looking order.queue };
 
-    // A poller may be used for any run.
+    // An order may be used for any run.
     ghost is_of = { λ begun. Unit {0} };
 
     fn next<

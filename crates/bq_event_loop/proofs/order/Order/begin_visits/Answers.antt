@@ -1,6 +1,6 @@
 use Rattle.std.proofs.Common.{None, ap}
 use Rattle.bq_event_loop.proofs.KnownLemmas.{known_moved, known_same}
-use Rattle.bq_event_loop.proofs.poller.Poller.begin_visits.Goals as goal
+use Rattle.bq_event_loop.proofs.order.Order.begin_visits.Goals as goal
 
 pub begin_next-requires : goal.begin_next-requires
 begin_next-requires g c =
