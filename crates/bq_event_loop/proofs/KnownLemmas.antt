@@ -1,5 +1,7 @@
 -- Seats that the turns of a loop let act before they sleep.
-use Rattle.std.proofs.Common.{ℕ, zero, suc, ◌≡◌, ◌≢◌, ◌⊎◌, inl, inr, ◌+◌, ◌≤◌, ◌<◌, ◌==◌, ◌&&◌, ◌||◌, not, nat_lt, Bool, true, false, List, [], ◌∷◌, ◌++◌, length, slice_set, slice_index_or, if◌then◌else◌, Option, Some, None, refl, sym, ap, ◌∙◌, subst, arith, append-nil}
+use Rattle.std.proofs.Common.{ℕ, zero, suc, ◌≡◌, ◌≢◌, ◌⊎◌, inl, inr, ◌+◌, ◌≤◌, ◌<◌, ◌==◌, ◌&&◌, ◌||◌, not, nat_lt, Bool, true, false}
+use Rattle.std.proofs.Common.{List, [], ◌∷◌, ◌++◌, length, slice_set, slice_index_or, if◌then◌else◌, Option, Some, None, refl, sym, ap}
+use Rattle.std.proofs.Common.{◌∙◌, subst, arith, append-nil}
 use Rattle.std.specs.Option.{option_to_list}
 use Rattle.std.specs.Prelude.{slice_get}
 use Rattle.std.proofs.lemmas.Bool.{cases_Bool, lt-ltb}
@@ -17,7 +19,8 @@ use Rattle.bq_seat.specs.declared.machine.Action.{Action}
 use Rattle.bq_seat.specs.declared.machine.Action.TheVariants as actions
 use Rattle.bq_seat.specs.declared.machine.SeatMachine.{SeatMachine}
 use Rattle.bq_event_loop.proofs.MarkLemmas.{one_if, same_one, times_push}
-use Rattle.bq_event_loop.specs.Known.{AreApart, AreKnown, AreKnownTo, AreSameLists, AreStill, ChangesOnly, ChangesOnlyIn, IsKnown, IsListedIn, IsNextOf, IsTaken, KeepsAll, KnowsAll, is_listed, is_looking, is_on, is_visited}
+use Rattle.bq_event_loop.specs.Known.{AreApart, AreKnown, AreKnownTo, AreSameLists, AreStill, ChangesOnly, ChangesOnlyIn, IsKnown}
+use Rattle.bq_event_loop.specs.Known.{IsListedIn, IsNextOf, IsTaken, KeepsAll, KnowsAll, is_listed, is_looking, is_on, is_visited}
 use Rattle.bq_event_loop.specs.Listings.{Listing, all_free, enqueued, falling, freed, is_nowhere}
 use Rattle.bq_event_loop.specs.Marks.{times}
 use Rattle.bq_event_loop.specs.Still.{IsStill, IsStillAt, IsStillOn}

@@ -70,7 +70,8 @@ module _ {L D : Type 0} (seen : L → LineSeen) (at : D → DoorSeen) where
       doored = length-set doors i later ∙ s.doored ∙ sym (length-set seats i new);
       each = λ t here x y. each_at t (subst (λ n. t < n) (length-set seats i new) here) x y;
       few = λ t here none x y. few_at none (subst (λ n. t < n) (length-set seats i new) here) x y;
-      control_is = ap (λ n. steps_at n (s.history ++ w.history)) (length-set seats i new) ∙ still (length seats) (omega arith) ∙ s.control_is;
+      control_is = ap (λ n. steps_at n (s.history ++ w.history)) (length-set seats i new)
+          ∙ still (length seats) (omega arith) ∙ s.control_is;
       nobody_else = λ t above. let more = subst (λ n. n < t) (length-set seats i new) above in still t (omega arith) ∙ s.nobody_else t more;
     },
     w.history,
@@ -141,12 +142,16 @@ module _ {L D : Type 0} (seen : L → LineSeen) (at : D → DoorSeen) where
           (s.few i below none a d))
 
       few_at : {t : ℕ} → waiting t first ≡ [] → t < length seats → (x : Attendant L) (y : D)
-          → closes (s.took t ++ w.took t) ≤ ended_lines (slice_index_or (slice_set seats i new) t x) (at (slice_index_or (slice_set doors i later) t y))
+          → closes (s.took t ++ w.took t)
+          ≤ ended_lines (slice_index_or (slice_set seats i new) t x) (at (slice_index_or (slice_set doors i later) t y))
       few_at {t} none here x y =
-          set_each seen at (λ (n : ℕ) (z : Attendant L) (u : D). waiting n first ≡ [] → closes (s.took n ++ w.took n) ≤ ended_lines z (at u))
+          set_each seen at (λ (n : ℕ) (z : Attendant L) (u : D).
+          waiting n first ≡ [] → closes (s.took n ++ w.took n) ≤ ended_lines z (at u))
           seats doors i new later below s.doored own_few
-          (λ n differs there z u quiet. subst (λ (ys : List Answer). closes ys ≤ ended_lines (slice_index_or seats n z) (at (slice_index_or doors n u)))
-          (sym (append-nil (s.took n)) ∙ ap (λ (xs : List Answer). s.took n ++ xs) (sym (w.others_took n differs))) (s.few n there quiet z u))
+          (λ n differs there z u quiet.
+          subst (λ (ys : List Answer). closes ys ≤ ended_lines (slice_index_or seats n z) (at (slice_index_or doors n u)))
+          (sym (append-nil (s.took n))
+          ∙ ap (λ (xs : List Answer). s.took n ++ xs) (sym (w.others_took n differs))) (s.few n there quiet z u))
           t here x y none
 
   -- A tick was taken, or none was due: no seat submitted or took anything.
@@ -166,7 +171,8 @@ module _ {L D : Type 0} (seen : L → LineSeen) (at : D → DoorSeen) where
           (s.took t ++ w.took t)) (sym (still t))
           (subst (λ (ys : List Answer). IsTended seen size (slice_index_or seats t a) (at (slice_index_or doors t d))
           (steps_at t s.history) ys) (took_still t) (s.each t below a d));
-      few = λ t below quiet a d. subst (λ (ys : List Answer). closes ys ≤ ended_lines (slice_index_or seats t a) (at (slice_index_or doors t d)))
+      few = λ t below quiet a d.
+          subst (λ (ys : List Answer). closes ys ≤ ended_lines (slice_index_or seats t a) (at (slice_index_or doors t d)))
           (took_still t) (s.few t below quiet a d);
       control_is = still (length seats) ∙ s.control_is;
       nobody_else = λ t above. still t ∙ s.nobody_else t above;
@@ -208,11 +214,13 @@ module _ {L D : Type 0} (seen : L → LineSeen) (at : D → DoorSeen) where
       doored = s.doored;
       each = λ t below a d.
           let differs : t ≢ length seats = λ e. omega arith in
-          subst (λ (xs : List Step). IsTended seen size (slice_index_or seats t a) (at (slice_index_or doors t d)) xs (s.took t ++ w.took t))
+          subst (λ (xs : List Step).
+          IsTended seen size (slice_index_or seats t a) (at (slice_index_or doors t d)) xs (s.took t ++ w.took t))
           (sym (still t differs))
           (subst (λ (ys : List Answer). IsTended seen size (slice_index_or seats t a) (at (slice_index_or doors t d))
           (steps_at t s.history) ys) (took_still t differs) (s.each t below a d));
-      few = λ t below quiet a d. subst (λ (ys : List Answer). closes ys ≤ ended_lines (slice_index_or seats t a) (at (slice_index_or doors t d)))
+      few = λ t below quiet a d.
+          subst (λ (ys : List Answer). closes ys ≤ ended_lines (slice_index_or seats t a) (at (slice_index_or doors t d)))
           (took_still t (λ e. omega arith)) (s.few t below quiet a d);
       control_is = steps_append (length seats) s.history w.history
           ∙ ap (λ (xs : List Step). xs ++ steps_at (length seats) w.history) s.control_is
@@ -340,7 +348,8 @@ module _ {L D : Type 0} (seen : L → LineSeen) (at : D → DoorSeen) where
               (state_of machine compared new) xs later.doors.items) (sym seats_are)
               (subst (λ (xs : List D). AreServedFrom s.history seen at size (before ++ []) first (readings ++ w.0)
               (state_of machine compared new) so xs) (sym doors_are)
-              (subst (λ (xs : List Step). AreServedFrom s.history seen at size xs first (readings ++ w.0) (state_of machine compared new) so ds)
+              (subst (λ (xs : List Step).
+              AreServedFrom s.history seen at size xs first (readings ++ w.0) (state_of machine compared new) so ds)
               (sym (append-nil before))
               (turn_served size before first (state_of machine compared old)
               (state_of machine compared new) readings w.0 row.seats.items row.doors.items i a next d door goes.0 goes.1 s

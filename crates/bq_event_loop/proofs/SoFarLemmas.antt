@@ -1,6 +1,7 @@
 -- A run that has not ended: what was served so far, in the terms of the promise.
 use Rattle.std.proofs.Common.{◌≡◌, ℕ, suc, ◌+◌, ◌<◌, ◌≤◌, Bool, true, List, [], ◌∷◌, ◌++◌, Option, Some, None}
-use Rattle.std.proofs.Common.{map, length, replicate, refl, sym, ap, ◌∙◌, arith, subst, inl, inr, add-zero, append-nil, append_assoc, slice_index_or, is_some}
+use Rattle.std.proofs.Common.{map, length, replicate, refl, sym, ap, ◌∙◌, arith, subst, inl, inr, add-zero, append-nil}
+use Rattle.std.proofs.Common.{append_assoc, slice_index_or, is_some}
 use Rattle.std.proofs.lemmas.List.{replicate-append-replicate}
 use Rattle.std.specs.List.{All}
 use Rattle.std.specs.Io.KnownBytes.{Consumes}
@@ -56,7 +57,8 @@ begun_by text failed count more told is total = (
       ∙ ap (λ (n : ℕ). replicate n Drain ++ Gone ∷ []) (sym total),
 )
 
-read_of : (before after : Option (List ℕ)) (text : List ℕ) (failed : Bool) → IsReadToEnd before after text failed → Consumes before after text
+read_of : (before after : Option (List ℕ)) (text : List ℕ) (failed : Bool)
+    → IsReadToEnd before after text failed → Consumes before after text
 read_of None after text failed h = tt
 read_of (Some x) None text failed h = absurd h
 read_of (Some x) (Some y) text failed h = h.0
@@ -101,7 +103,8 @@ module _ {I : Type 0} (seen : I → ControlSeen) (left : I → Option (List ℕ)
         );
       }
 
-  pub control_begun : (first : Option (List ℕ)) (may : Bool) (c : ControlTurns I) (told : List Step) → HasTold seen left may_fail first may c told
+  pub control_begun : (first : Option (List ℕ)) (may : Bool) (c : ControlTurns I) (told : List Step)
+      → HasTold seen left may_fail first may c told
       → IsControlBegun seen left first may c.input told
   control_begun first may c told h = begun_at c.stage c.input c.line (one_if c.owes_drain) h.count first may told h.at_stage
 
@@ -131,7 +134,8 @@ module _ {L : Type 0} (seen : L → LineSeen) where
   out_so_far : (size : ℕ) (a : Attendant L) (door : DoorSeen) (submitted : List Step) (taken more : List Answer)
       → (t : IsTended seen size a door submitted taken)
       → AreLinesOwed size door.lines_over t.attends.before t.attends.got
-      → IsDoorOwedSoFar size (record { over = door.lines_over; out = line_out seen a.place; is_out = door.is_out }) submitted (taken ++ more)
+      → IsDoorOwedSoFar size (record { over = door.lines_over; out = line_out seen a.place; is_out = door.is_out })
+      submitted (taken ++ more)
   out_so_far size a door submitted taken more t owed =
       let did = t.attends in
       record {
@@ -170,10 +174,12 @@ module _ {L D : Type 0} (seen : L → LineSeen) (at : D → DoorSeen) (settings 
         (got_few seen settings.max_job_size a door (steps_at t history) (took t) s.tended s.few) did.of_lines
 
     seat_so_far : (t : ℕ) (a : Attendant L) (d : D) → IsSeatSoFar history took given core t a (at d)
-        → IsDoorOwedSoFar settings.max_job_size (record { over = (at d).lines_over; out = line_out seen a.place; is_out = (at d).is_out }) (steps_at t history)
+        → IsDoorOwedSoFar settings.max_job_size
+        (record { over = (at d).lines_over; out = line_out seen a.place; is_out = (at d).is_out }) (steps_at t history)
         (answers_to t given)
     seat_so_far t a d s =
-        subst (λ (xs : List Answer). IsDoorOwedSoFar settings.max_job_size (record { over = (at d).lines_over; out = line_out seen a.place; is_out = (at d).is_out })
+        subst (λ (xs : List Answer). IsDoorOwedSoFar settings.max_job_size
+        (record { over = (at d).lines_over; out = line_out seen a.place; is_out = (at d).is_out })
         (steps_at t history) xs) (sym s.answers_are)
         (out_so_far seen settings.max_job_size a (at d) (steps_at t history) (took t) (waiting t core) s.tended (lines_so_far t a (at d) s))
 
@@ -181,7 +187,8 @@ module _ {L D : Type 0} (seen : L → LineSeen) (at : D → DoorSeen) (settings 
     doors_begun : (k : ℕ) (seats : List (Attendant L)) (doors : List D)
         → ((j : ℕ) → j < length seats → (a : Attendant L) (d : D)
         → IsSeatSoFar history took given core (k + j) (slice_index_or seats j a) (at (slice_index_or doors j d)))
-        → AreDoorsOwedSoFar settings.max_job_size k (doors_so_far seen (λ (d : D). (at d).lines_over) (λ (d : D). (at d).is_out) seats doors) history given
+        → AreDoorsOwedSoFar settings.max_job_size k
+        (doors_so_far seen (λ (d : D). (at d).lines_over) (λ (d : D). (at d).is_out) seats doors) history given
     doors_begun k [] [] h = tt
     doors_begun k [] (d ∷ doors) h = tt
     doors_begun k (a ∷ seats) [] h = tt
@@ -197,14 +204,16 @@ module _ {L D : Type 0} (seen : L → LineSeen) (at : D → DoorSeen) (settings 
   many_doors [] [] e = refl
   many_doors [] (d ∷ doors) e = refl
   many_doors (a ∷ seats) [] e = e
-  many_doors (a ∷ seats) (d ∷ doors) e = ap suc (many_doors seats doors (let f : suc (length doors) ≡ suc (length seats) = e in omega arith))
+  many_doors (a ∷ seats) (d ∷ doors) e =
+      ap suc (many_doors seats doors (let f : suc (length doors) ≡ suc (length seats) = e in omega arith))
 
   module _ (control : List Step) (readings : List (Option ℕ)) (core : MailState) (seats : List (Attendant L)) (doors : List D)
       (new : IsNewMailState settings first) (many : length seats ≡ settings.seats)
       (s : AreServed seen at settings.max_job_size control first readings core seats doors) where
     -- One history of everything so far, along which the core stayed within its bounds.
     pub record IsBegunSo (text : List ℕ) (failed : Bool) : Type 0 where
-      pub history : IsHistorySoFar settings (doors_so_far seen (λ (d : D). (at d).lines_over) (λ (d : D). (at d).is_out) seats doors) text failed readings core.core
+      pub history : IsHistorySoFar settings
+          (doors_so_far seen (λ (d : D). (at d).lines_over) (λ (d : D). (at d).is_out) seats doors) text failed readings core.core
       pub compared : AreCompared (new_machine settings) history.history history.given core.core 0 core.compared
 
     pub served_so_far : (text : List ℕ) (failed : Bool) → IsControlSoFar text failed control → IsBegunSo text failed
@@ -222,7 +231,8 @@ module _ {L D : Type 0} (seen : L → LineSeen) (at : D → DoorSeen) (settings 
             };
             many = many_doors seats doors s.doored ∙ many;
             of_doors = doors_begun s.history s.took s.went.given core runs 0 seats doors (λ j below a d.
-                subst (λ (n : ℕ). IsSeatSoFar s.history s.took s.went.given core n (slice_index_or seats j a) (at (slice_index_or doors j d)))
+                subst (λ (n : ℕ).
+                IsSeatSoFar s.history s.took s.went.given core n (slice_index_or seats j a) (at (slice_index_or doors j d)))
                 (let e : j ≡ 0 + j = omega arith in e) (record {
                   within = omega arith;
                   tended = s.each j below a d;
@@ -305,7 +315,8 @@ module _ {L D C I K : Type 0} (given : Gives C) (line_seen : L → LineSeen) (is
   -- The same for values that are equal to these.
   pub so_far_as : (seats : List (Attendant L)) (doors : List D) (clock clock' : C) (control control' : I) (core core' : K) → clock' ≡ clock
       → control' ≡ control → core' ≡ core
-      → IsLoopSoFar given line_seen lines_over is_out same machine compared begun seats doors clock (control_seen control) (left control) core
+      → IsLoopSoFar given line_seen lines_over is_out same machine compared begun seats doors clock
+      (control_seen control) (left control) core
       → IsLoopSoFar given line_seen lines_over is_out same machine compared begun seats doors clock' (control_seen control') (left control')
       core'
   so_far_as seats doors clock clock' control control' core core' a b e h =

@@ -1,5 +1,6 @@
 -- What turns know when a loop waits, and after the system has reported something.
-use Rattle.std.proofs.Common.{ℕ, ◌≡◌, ◌≢◌, ◌⊎◌, inl, inr, ◌<◌, ◌==◌, ◌||◌, Bool, true, false, List, [], length, slice_index_or, Option, Some, None, refl, sym, ap, ◌∙◌, subst, arith}
+use Rattle.std.proofs.Common.{ℕ, ◌≡◌, ◌≢◌, ◌⊎◌, inl, inr, ◌<◌, ◌==◌, ◌||◌, Bool, true, false, List, [], length, slice_index_or, Option}
+use Rattle.std.proofs.Common.{Some, None, refl, sym, ap, ◌∙◌, subst, arith}
 use Rattle.std.proofs.lemmas.Bool.{cases_Bool}
 use Rattle.std.proofs.lemmas.Bool.Decides.{eqb_tells}
 use Rattle.bq_job.specs.declared.answer.Answer.{Answer}
@@ -13,7 +14,8 @@ use Rattle.bq_job.specs.promise.LineSteps.{LineSeen}
 use Rattle.bq_host.specs.Clocks.{Gives}
 use Rattle.bq_line.specs.ControlSeen.{ControlSeen}
 use Rattle.bq_event_loop.specs.SoFar.{Beginning, IsLoopSoFar}
-use Rattle.bq_event_loop.specs.Known.{AreApart, AreKnown, AreStill, ChangesOnly, IsFreeSeat, IsKnown, IsListedIn, IsStillSeat, KeepsAll, is_listed, is_looking, is_on}
+use Rattle.bq_event_loop.specs.Known.{AreApart, AreKnown, AreStill, ChangesOnly, IsFreeSeat, IsKnown, IsListedIn, IsStillSeat, KeepsAll}
+use Rattle.bq_event_loop.specs.Known.{is_listed, is_looking, is_on}
 use Rattle.bq_event_loop.specs.Listings.{Listing}
 use Rattle.bq_event_loop.specs.Marks.{times}
 use Rattle.bq_event_loop.specs.Still.{IsStill}
@@ -56,7 +58,8 @@ pub known_reported : {L : Type 0} (gives takes : L → Bool) (many later_many : 
     → ((t : ℕ) → later_looks t ≡ looks t) → (AreApart listed looks → AreApart later later_looks) → ChangesOnly i seats after
     → ((a : Attendant L) → (slice_index_or seats i a).place ≡ places.Between → (slice_index_or after i a).place ≡ places.Between)
     → AreKnown gives takes many listed looks [] seats mails → AreKnown gives takes later_many later later_looks [] after mails
-known_reported {L} gives takes many later_many listed looks later later_looks i seats after mails same told keeps checks apart only between k =
+known_reported {L} gives takes many later_many listed looks later later_looks i seats after mails same told
+    keeps checks apart only between k =
     record {
       all = omega (arith, same, only.many, k.all);
       apart = apart k.apart;
@@ -78,7 +81,8 @@ known_reported {L} gives takes many later_many listed looks later later_looks i 
         inl (subst (λ n. later n ≡ true) (sym equal)
         (told (omega (arith, below, k.all, equal)) (λ e. let f : true ≡ false = sym e ∙ nor in absurd cc)))
 
-    other : (t : ℕ) (Still : Type 0) → IsKnown (listed t) (looks t) (times t []) Still → IsKnown (later t) (later_looks t) (times t []) Still
+    other : (t : ℕ) (Still : Type 0) → IsKnown (listed t) (looks t) (times t []) Still
+        → IsKnown (later t) (later_looks t) (times t []) Still
     other t Still (inl on) = inl (keeps t on)
     other t Still (inr (inl is)) = inr (inl (checks t ∙ is))
     other t Still (inr (inr rest)) = inr (inr rest)
@@ -146,6 +150,7 @@ pub so_far_of : {L D C K : Type 0} (given : Gives C) (line_seen : L → LineSeen
     (doors after : List D) (clock : C) (control : ControlSeen) (left : Option (List ℕ)) (core : K) → seats ≡ later → doors ≡ after
     → IsLoopSoFar given line_seen lines_over is_out same machine compared first seats doors clock control left core
     → IsLoopSoFar given line_seen lines_over is_out same machine compared first later after clock control left core
-so_far_of given line_seen lines_over is_out same machine compared first seats later doors after clock control left core same_seats same_doors h =
+so_far_of given line_seen lines_over is_out same machine compared first seats later doors after clock control left core
+    same_seats same_doors h =
     subst (λ z. IsLoopSoFar given line_seen lines_over is_out same machine compared first z after clock control left core) same_seats
     (subst (λ z. IsLoopSoFar given line_seen lines_over is_out same machine compared first seats z clock control left core) same_doors h)

@@ -20,7 +20,8 @@ use Rattle.bq_event_loop.specs.declared.run.EventLoopRun.{EventLoopRun}
 -- the next due moment before each step and after the last.
 pub record IsEventLoopRun {L D C I K : Type 0} (given : Gives C) (lines_over : D → List LineOver) (left : I → Option (List ℕ))
     (may_fail : I → Bool)
-    (machine : K → Machine) (comparisons : K → ℕ) (config : Settings) (clock : C) (control : I) (run : EventLoopRun L D C I K) : Type 0 where
+    (machine : K → Machine) (comparisons : K → ℕ)
+    (config : Settings) (clock : C) (control : I) (run : EventLoopRun L D C I K) : Type 0 where
   pub readings : List (Option ℕ)
   pub gave : given clock readings run.clock
   pub over : IsTrue (run.control.ended || run.control.failed)

@@ -19,7 +19,8 @@ IsInOrderFor machine compared seat core = IsInOrder (state_of machine compared c
 abbrev pub WentAt : {C K : Type 0} → (K → Machine) → (K → ℕ) → (C → List (Option ℕ) → C → Type 0) → ℕ → LoopCore C K → List Step
     → List Answer → LoopCore C K → Type 0
 WentAt machine compared given seat old submitted taken new =
-    SeatWentBy given seat old.timed.time.clock (state_of machine compared old) submitted taken new.timed.time.clock (state_of machine compared new)
+    SeatWentBy given seat old.timed.time.clock (state_of machine compared old) submitted taken
+    new.timed.time.clock (state_of machine compared new)
     × Wakes old.mails.items new.mails.items old.woken new.woken
 
 -- The same, and it left the core in order.

@@ -6,7 +6,8 @@
 //! first, then all steps are taken, and then all answers are written, so that each part finds its
 //! code and data in the processor's caches. Seats that were in the queue before come last.
 ghost use Rattle.std.specs.Prelude.{◌≡◌, ◌⊎◌, ℕ, true, false, None, Some, IfOk, IfSome, if◌then◌else◌};
-ghost use Rattle.bq_event_loop.specs.Known.{AreKnownTo, AreSameLists, IsFreeSeat, IsListedIn, IsNextOf, IsStillSeat, KnowsAll, is_listed, is_looking};
+ghost use Rattle.bq_event_loop.specs.Known.{AreKnownTo, AreSameLists, IsFreeSeat, IsListedIn, IsNextOf, IsStillSeat, KnowsAll, is_listed};
+ghost use Rattle.bq_event_loop.specs.Known.{is_looking};
 ghost use Rattle.bq_event_loop.specs.Sleeping.{visited_by};
 
 use crate::seat_queue::SeatQueue;
@@ -89,7 +90,8 @@ impl Order {
         mails: &Snapshot<Vec<Mail, Global>>,
         news: &News,
     ) -> Turn
-        requires known { AreKnownTo L.may_give L.may_take self.old.queue (visited_by self.old.stage self.old.visit) seats.now.value.items mails.now.value.items }
+        requires known { AreKnownTo L.may_give L.may_take self.old.queue (visited_by self.old.stage self.old.visit)
+            seats.now.value.items mails.now.value.items }
         requires still { IsStillSeat L.may_give L.may_take news.now.still seats.now.value.items mails.now.value.items }
         requires free { IsFreeSeat news.now.free seats.now.value.items }
         ensures known { AreKnownTo L.may_give L.may_take self.new.queue (visited_by self.new.stage self.new.visit)
@@ -219,7 +221,8 @@ impl Order {
         part: Part,
         news: &News,
     ) -> Turn
-        requires known { AreKnownTo L.may_give L.may_take self.old.queue (Some self.old.visit.seat) seats.now.value.items mails.now.value.items }
+        requires known { AreKnownTo L.may_give L.may_take self.old.queue (Some self.old.visit.seat)
+            seats.now.value.items mails.now.value.items }
         requires still { IsStillSeat L.may_give L.may_take news.now.still seats.now.value.items mails.now.value.items }
         ensures known { AreKnownTo L.may_give L.may_take self.new.queue (visited_by self.new.stage self.new.visit)
             seats.now.value.items mails.now.value.items }
@@ -319,7 +322,8 @@ impl Order {
         part: Part,
         news: &News,
     ) -> Option<Turn>
-        requires known { AreKnownTo L.may_give L.may_take self.old.queue (Some self.old.visit.seat) seats.now.value.items mails.now.value.items }
+        requires known { AreKnownTo L.may_give L.may_take self.old.queue (Some self.old.visit.seat)
+            seats.now.value.items mails.now.value.items }
         requires still { IsStillSeat L.may_give L.may_take news.now.still seats.now.value.items mails.now.value.items }
         ensures known { AreKnownTo L.may_give L.may_take self.new.queue (visited_by self.new.stage self.new.visit)
             seats.now.value.items mails.now.value.items }

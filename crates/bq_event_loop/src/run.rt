@@ -210,15 +210,17 @@ pub fn run_turns<
     // The same so far, however the run ended. Each open connection has received a beginning of what
     // the history prescribes for it.
     ensures so_far { IfOk result
-        (IsEventLoopSoFar C.given L.seen D.lines_over D.is_out D.same I.remaining I.may_fail K.machine K.comparisons config doors.items clock control) }
+        (IsEventLoopSoFar C.given L.seen D.lines_over D.is_out D.same I.remaining I.may_fail K.machine K.comparisons
+        config doors.items clock control) }
     // Along either history, each job that is handed out is the least one that the client may have.
     // An undisturbed job is handed out at most once and in order. No job is lost before its
     // deletion. Once draining has begun, no put is accepted.
-    ensures headline { IfOk result (λ run. (served : IsEventLoopRun C.given D.lines_over I.remaining I.may_fail K.machine K.comparisons config clock control run)
-        → AreJobsServedIn served.history.run) }
+    ensures headline { IfOk result
+        (λ run. (served : IsEventLoopRun C.given D.lines_over I.remaining I.may_fail K.machine K.comparisons
+        config clock control run) → AreJobsServedIn served.history.run) }
     ensures headline_so_far { IfOk result
-        (λ run. (so_far : IsEventLoopSoFar C.given L.seen D.lines_over D.is_out D.same I.remaining I.may_fail K.machine K.comparisons config doors.items clock control run)
-        → AreJobsServedIn so_far.history.run) }
+        (λ run. (so_far : IsEventLoopSoFar C.given L.seen D.lines_over D.is_out D.same I.remaining I.may_fail K.machine K.comparisons
+        config doors.items clock control run) → AreJobsServedIn so_far.history.run) }
     ensures at_end { IfOk result (λ run. run.is_over ≡ true →
         All (λ door. (D.is_out door ≡ false) × (D.is_at_end door ≡ true)) run.doors.items) }
     // The doors are those that were passed in, in the same order.
@@ -289,7 +291,8 @@ fn run_at<
         (λ door. IsNewDoor (door_seen D.is_out D.is_at_end D.lines_over door)) doors.items }
     ensures served { result.is_over ≡ true →
         IsEventLoopRun C.given D.lines_over I.remaining I.may_fail K.machine K.comparisons config core.timed.time.clock control result }
-    ensures so_far { IsEventLoopSoFar C.given L.seen D.lines_over D.is_out D.same I.remaining I.may_fail K.machine K.comparisons config doors.items core.timed.time.clock control result }
+    ensures so_far { IsEventLoopSoFar C.given L.seen D.lines_over D.is_out D.same I.remaining I.may_fail K.machine K.comparisons
+        config doors.items core.timed.time.clock control result }
     ensures at_end { result.is_over ≡ true → All (λ door. (D.is_out door ≡ false) × (D.is_at_end door ≡ true)) result.doors.items }
     ensures same { AreSame D.same doors.items result.doors.items }
     ensures settings { (K.machine result.core).settings ≡ config }

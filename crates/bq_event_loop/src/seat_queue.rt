@@ -1,5 +1,6 @@
 //! Which seats can act, in the order of their visits, and which of them check for a connection.
-ghost use Rattle.std.specs.Prelude.{◌≡◌, ◌<◌, ◌≤◌, ◌+◌, ◌++◌, [], take, drop, ℕ, length, true, false, nat_lt, slice_get, slice_index_or, slice_set, vec_capacity, IfOk, IfSome, IsNone, IsTrue, None, ◌↔◌, if◌then◌else◌};
+ghost use Rattle.std.specs.Prelude.{◌≡◌, ◌<◌, ◌≤◌, ◌+◌, ◌++◌, [], take, drop, ℕ, length, true, false, nat_lt, slice_get, slice_index_or};
+ghost use Rattle.std.specs.Prelude.{slice_set, vec_capacity, IfOk, IfSome, IsNone, IsTrue, None, ◌↔◌, if◌then◌else◌};
 ghost use Rattle.std.specs.Option.{option_to_list};
 ghost use Rattle.bq_event_loop.specs.Listings.{falling};
 
@@ -60,10 +61,12 @@ fn all_seats(alloc: Global, seats: usize) -> Result<Vec<usize, Global>, AllocErr
 
 // Sets the mark of a seat that is in no list. Returns true if it did.
 fn mark(listed: &mut Vec<Listed, Global>, seat: usize, place: Listed) -> bool
-    ensures marked { result ≡ true → (seat < length listed.old.items) × (slice_index_or listed.old.items seat Listed.Nowhere ≡ Listed.Nowhere)
+    ensures marked { result ≡ true → (seat < length listed.old.items)
+        × (slice_index_or listed.old.items seat Listed.Nowhere ≡ Listed.Nowhere)
         × (listed.new.items ≡ slice_set listed.old.items seat place) }
     ensures kept { result ≡ false → listed.new.items ≡ listed.old.items }
-    ensures elsewhere { result ≡ false → seat < length listed.old.items → slice_index_or listed.old.items seat Listed.Nowhere ≡ Listed.Nowhere → ⊥ }
+    ensures elsewhere { result ≡ false → seat < length listed.old.items
+        → slice_index_or listed.old.items seat Listed.Nowhere ≡ Listed.Nowhere → ⊥ }
 {
     if seat >= listed.len() {
         return false;

@@ -152,12 +152,13 @@ pub struct SoFar<L, D, C, I, K> {
     pub whole_control: Snapshot<ControlTurns<I>>,
 }
 
-/// The reason why turns could not be prepared.
+/// The reason why an order of turns or a sleeper could not be prepared.
 #[derive(Clone, Copy)]
 pub enum TurnsFault {
     /// Out of memory.
     NoMemory,
-    /// The system refused what the turns wait with, or to watch a door or the control line with it.
+    /// The system refused what the sleeper waits with, or to watch a door or the control line with
+    /// it.
     Refused,
 }
 
@@ -210,7 +211,8 @@ pub trait Turns {
         // No seat is forgotten: it acts, or it checks for a client, or nothing moves at it. Each
         // seat that has mail was woken for it. A wait of `news.due` ends in time.
         requires turn { IsAtTurn L.may_give L.may_take K.machine K.comparisons (seats self.old) (listed self.old) (looks self.old)
-            so_far.seats.value.items so_far.mails.value.items news.now.due news.now.control so_far.whole_core.value so_far.whole_control.value }
+            so_far.seats.value.items so_far.mails.value.items news.now.due news.now.control
+            so_far.whole_core.value so_far.whole_control.value }
         // The seat that checked for a client and found none is between two connections.
         requires free { IsFreeSeat news.now.free so_far.seats.value.items }
         // Nothing moves at the still seat.

@@ -44,7 +44,8 @@ none_closed taken none = ap has_closed none
 looks_unclosed : (closing : Bool) (answer : Answer) (next : Action)
     → MatchBool closing (LooksAfterClose answer next) (next ≡ actions.Write answer) → polls_by next ≡ true
     → is_closed_answer answer ≡ false
-looks_unclosed false answer next looks polls = absurd (let e : polls_by (actions.Write answer) ≡ true = subst (λ (a : Action). polls_by a ≡ true) looks polls in cc)
+looks_unclosed false answer next looks polls = absurd
+    (let e : polls_by (actions.Write answer) ≡ true = subst (λ (a : Action). polls_by a ≡ true) looks polls in cc)
 looks_unclosed true answer next looks polls = by_kind (is_closed_answer answer) next looks polls
   where
     by_kind : (closed : Bool) (next : Action) → MatchBool closed (IsLineOver next) (next ≡ actions.PollMail) → polls_by next ≡ true

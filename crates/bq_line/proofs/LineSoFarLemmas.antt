@@ -87,7 +87,8 @@ writing size machine line answer sent submitted taken waiting o =
     ap (λ (x : LineSeen). x.written) o.seen_is ∙ unbroken p.fault p.written o.written o.found.1 o.writes in
     let begins : IsBeginning (line.written ++ cut) (answers_text p.mail) =
     subst (λ (xs : List Answer). IsBeginning (line.written ++ cut) (answers_text xs)) handed
-    (texts_cut (line.written ++ cut) cut p.written answer (ap (λ (xs : List ℕ). xs ++ cut) before) (cut_begins sent (answer_text answer))) in
+    (texts_cut (line.written ++ cut) cut p.written answer (ap (λ (xs : List ℕ). xs ++ cut) before)
+    (cut_begins sent (answer_text answer))) in
     record {
       of_steps = subst (λ (x : LineSeen). IsStepsSoFar size (heard x) submitted) (sym o.seen_is)
           (steps_fewer size (heard (seen_line o.written p)) p.steps submitted [] (o.submitted_is ∙ same_steps submitted) all);

@@ -82,9 +82,11 @@ returns-clause-served g c over =
     let many : length seats ≡ settings.seats = on.many ∙ c.requires.many in
     let control = c.serve-is_over.new.control in
     let told = told_all (λ (line : ControlLine g.row.I.Denot). record { text = line.read; ended = line.ended; failed = line.failed })
-    (λ line. g.I.Read.remaining line.reader) (λ line. g.I.ControlReader.may_fail line.reader) _ _ control w.0 (c.serve-is_over.ensures.over over)
+    (λ line. g.I.Read.remaining line.reader) (λ line. g.I.ControlReader.may_fail line.reader) _ _ control w.0
+    (c.serve-is_over.ensures.over over)
     (w.1 _ _ [] c.new-control.ensures) in
-    let j = ends_history g.L.Line.seen at settings first w.0 on.reads last seats doors c.requires.made many s (c.serve-is_over.ensures.done over)
+    let j = ends_history g.L.Line.seen at settings first w.0 on.reads last seats doors c.requires.made many s
+    (c.serve-is_over.ensures.done over)
     control.input.read control.input.failed told.done in
     record {
       readings = on.reads;

@@ -12,5 +12,6 @@ returns-then-not-is_this-clause-known g c =
 
 pub returns-else-not-is_this-clause-known : goal.returns-else-not-is_this-clause-known
 returns-else-not-is_this-clause-known g c =
-    known_rests g.L.Line.may_give g.L.Line.may_take c.args.seats.now.value.items c.args.mails.now.value.items c.args.self.now.queue c.args.seat
+    known_rests g.L.Line.may_give g.L.Line.may_take
+    c.args.seats.now.value.items c.args.mails.now.value.items c.args.self.now.queue c.args.seat
     (c.requires.still c.args.seat (c.is_this.ensures c.if-not-is_this.false)) c.requires.known
