@@ -1,6 +1,7 @@
 //! A system that reports nothing.
 ghost use Rattle.std.specs.Prelude.{false};
 
+use crate::together::Together;
 use bq_core_api::QueueCore;
 use bq_event_loop::{ControlReads, ControlStands, Doors, Report, Row, Sleeper, SoFar, Turns};
 use bq_host::Mail;
@@ -28,25 +29,27 @@ impl rt::Clock for Stopped {
 }
 
 /// A system that reports nothing, and in which nothing waits. The conditions of its `sleep` are what
-/// counts: the loop meets them for every order.
-#[derive(Clone, Copy)]
-pub struct Nobody {
+/// counts: the loop meets them for every order. Calls of it are counted.
+#[derive(Drop)]
+pub struct Nobody<'t> {
     clock: Stopped,
-    // Whether the control line is read no more.
+    // Whether the control line has ended.
     awaits_control: bool,
+    all: &'t Together,
 }
 
-impl Nobody {
+impl<'t> Nobody<'t> {
     /// Returns such a system.
-    pub fn new() -> Nobody {
+    pub fn new(all: &'t Together) -> Nobody<'t> {
         Nobody {
             clock: Stopped,
             awaits_control: false,
+            all,
         }
     }
 }
 
-impl Sleeper for Nobody {
+impl<'t> Sleeper for Nobody<'t> {
     type System = Stopped;
 
     ghost awaits_control = { λ nobody. nobody.awaits_control };
@@ -67,7 +70,9 @@ impl Sleeper for Nobody {
         }
     }
 
-    fn watch_control(&mut self, _stands: ControlStands) {}
+    fn watch_control(&mut self, stands: ControlStands) {
+        self.awaits_control = stands == ControlStands::Over;
+    }
 
     fn sleep<
         T: Turns,
@@ -85,7 +90,9 @@ impl Sleeper for Nobody {
         _doors: &Doors,
         _due: Option<u64>,
         _most: Option<Duration>,
-    ) {}
+    ) {
+        self.all.note_slept();
+    }
 
     fn ask(&mut self) {}
 

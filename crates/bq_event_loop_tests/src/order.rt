@@ -45,7 +45,7 @@ enum Stage {
 /// Chooses turns by a rule, until no seat can act. Then the core may take a tick, and the control
 /// line is read. A seat can act unless its last two actions moved nothing.
 #[derive(Drop)]
-pub struct Order<'t> {
+pub struct RuleOrder<'t> {
     rule: Rule,
     reads: ControlReads,
     seats: usize,
@@ -64,11 +64,11 @@ pub struct Order<'t> {
     turns: u64,
 }
 
-impl<'t> Order<'t> {
+impl<'t> RuleOrder<'t> {
     /// Returns an order of this many seats by this rule. The control line is read this far each time;
     /// with `ToEnd` it is read before anything else.
-    pub fn new(rule: Rule, reads: ControlReads, seats: usize, all: &'t Together) -> Order<'t> {
-        Order {
+    pub fn new(rule: Rule, reads: ControlReads, seats: usize, all: &'t Together) -> RuleOrder<'t> {
+        RuleOrder {
             rule,
             reads,
             seats,
@@ -211,7 +211,7 @@ impl<'t> Order<'t> {
     }
 }
 
-impl<'t> Turns for Order<'t> {
+impl<'t> Turns for RuleOrder<'t> {
     // It never sleeps, so each seat acts before it does.
     ghost seats = { λ order. 65535 };
 

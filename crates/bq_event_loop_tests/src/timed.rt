@@ -1,6 +1,6 @@
 //! Runs with a clock that advances: what is due happens, even if no client sends anything.
 
-use crate::runs::come_out;
+use crate::runs::{come_out, sleeps_in};
 use crate::series::Series;
 
 // - The end of a wait, and a delayed job in another tube.
@@ -23,4 +23,14 @@ static DUE: &str = "reserve-with-timeout 1~list-tube-used~ > TIMED_OUT~USING def
 #[test]
 fn what_is_due_comes(rt: HostRuntime) {
     assert!(rt; come_out(rt.alloc(), DUE, Series::Timed));
+}
+
+// Nothing moves until the delay of a job ends, and then until a wait in another tube does.
+static WAITS: &str = "put 0 1 9 1~x~reserve~ + after 29 > INSERTED 1~RESERVED 1 1~x~
+    watch b~ignore default~reserve-with-timeout 4~ + after 35 > WATCHING 2~WATCHING 1~TIMED_OUT~";
+
+#[test]
+fn the_loop_sleeps(rt: HostRuntime) {
+    let slept = sleeps_in(rt.alloc(), WAITS, &Series::Timed.setting(0));
+    assert!(rt; matches!(slept, Some(2..)));
 }

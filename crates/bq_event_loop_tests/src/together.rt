@@ -8,6 +8,7 @@ use std::sync::atomic::{AtomicBool, AtomicU64, Ordering};
 pub struct Together {
     written: AtomicU64,
     opened: AtomicU64,
+    slept: AtomicU64,
     has_given_up: AtomicBool,
     // How many bytes all clients have to receive before the one at each seat goes on, or `u64::MAX`.
     awaited: [AtomicU64; MOST],
@@ -19,6 +20,7 @@ impl Together {
         Together {
             written: AtomicU64::new(0),
             opened: AtomicU64::new(0),
+            slept: AtomicU64::new(0),
             has_given_up: AtomicBool::new(false),
             awaited: [
                 AtomicU64::new(u64::MAX),
@@ -66,6 +68,16 @@ impl Together {
     /// Returns how often doors were opened.
     pub fn opened(&self) -> u64 {
         self.opened.load(Ordering::SeqCst)
+    }
+
+    /// Counts a call by which the loop sleeps.
+    pub fn note_slept(&self) {
+        self.slept.fetch_add(1, Ordering::SeqCst);
+    }
+
+    /// Returns how often the loop slept.
+    pub fn slept(&self) -> u64 {
+        self.slept.load(Ordering::SeqCst)
     }
 
     /// Gives the run up: from now on each read and write of a connection fails.
