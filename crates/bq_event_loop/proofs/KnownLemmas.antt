@@ -19,7 +19,7 @@ use Rattle.bq_seat.specs.declared.machine.Action.{Action}
 use Rattle.bq_seat.specs.declared.machine.Action.TheVariants as actions
 use Rattle.bq_seat.specs.declared.machine.SeatMachine.{SeatMachine}
 use Rattle.bq_event_loop.proofs.MarkLemmas.{one_if, same_one, times_push}
-use Rattle.bq_event_loop.specs.Known.{AreApart, AreKnown, AreKnownTo, AreSameLists, AreStill, ChangesOnly, ChangesOnlyIn, IsKnown}
+use Rattle.bq_event_loop.specs.Known.{AreApart, AreIdle, AreKnown, AreKnownTo, AreSameLists, AreStill, ChangesOnly, ChangesOnlyIn, IsKnown}
 use Rattle.bq_event_loop.specs.Known.{IsListedIn, IsNextOf, IsTaken, KeepsAll, KnowsAll, is_listed, is_looking, is_on, is_visited}
 use Rattle.bq_event_loop.specs.Listings.{Listing, all_free, enqueued, falling, freed, is_nowhere}
 use Rattle.bq_event_loop.specs.Marks.{times}
@@ -531,6 +531,38 @@ next_in_round_is l later (Some i) is same = record {
     chosen : (b : Bool) → Some i ≡ (if b then slice_get l.queue l.at else None) → Some i ≡ slice_get l.queue l.at
     chosen true e = e
     chosen false e = absurd cc
+
+-- No seat acts, and none checks for a client that may have come: no list has a seat, except that of
+-- the seats that check for a client if none may have come.
+none_on : (xs : List ℕ) → ((t : ℕ) → is_on xs t ≡ false) → xs ≡ []
+none_on [] none = refl
+none_on (x ∷ xs) none =
+    let here : is_on (x ∷ xs) x ≡ true = got_on (x ∷ xs) zero x refl in
+    let e : true ≡ false = sym here ∙ none x in
+    absurd cc
+
+left_none : (a b : Bool) → (a || b) ≡ false → a ≡ false
+left_none true b is = absurd cc
+left_none false b is = refl
+
+right_none : (a b : Bool) → (a || b) ≡ false → b ≡ false
+right_none true b is = absurd cc
+right_none false b is = is
+
+pub idle_visits : (may_come : Bool) (l : Listing) (visited : Option ℕ) → AreIdle may_come (is_listed l visited) (is_looking l)
+    → visited ≡ None
+idle_visits may_come l None idle = refl
+idle_visits may_come l (Some i) idle =
+    let e : true ≡ false = sym (is_same i i refl) ∙ right_none (is_on l.queue i) (i == i) (idle.acts i) in
+    absurd cc
+
+pub idle_queue : (may_come : Bool) (l : Listing) (visited : Option ℕ) → AreIdle may_come (is_listed l visited) (is_looking l)
+    → l.queue ≡ []
+idle_queue may_come l visited idle = none_on l.queue (λ t. left_none (is_on l.queue t) (is_visited visited t) (idle.acts t))
+
+pub idle_free : (may_come : Bool) (l : Listing) (visited : Option ℕ) → may_come ≡ true
+    → AreIdle may_come (is_listed l visited) (is_looking l) → l.free ≡ []
+idle_free may_come l visited may idle = none_on l.free (idle.checks may)
 
 pub listed_self : (l : Listing) (i : ℕ) → is_listed l (Some i) i ≡ true
 listed_self l i = or_right (is_on l.queue i) (i == i) (is_same i i refl)

@@ -15,6 +15,11 @@ use Rattle.bq_event_loop.specs.declared.turns.Turn.TheVariants as turns
 abbrev pub IsKnown : Bool → Bool → ℕ → Type 0 → Type 0
 IsKnown listed looks waits Still = (listed ≡ true) ⊎ (looks ≡ true) ⊎ (0 < waits) ⊎ Still
 
+-- No seat acts, and none checks for a client that may have come.
+pub record AreIdle (may_come : Bool) (listed looks : ℕ → Bool) : Type 0 where
+  pub acts : (seat : ℕ) → listed seat ≡ false
+  pub checks : may_come ≡ true → (seat : ℕ) → looks seat ≡ false
+
 -- No seat that checks for a client is one that acts.
 abbrev pub AreApart : (ℕ → Bool) → (ℕ → Bool) → Type 0
 AreApart listed looks = (seat : ℕ) → looks seat ≡ true → listed seat ≡ true → ⊥

@@ -5,7 +5,7 @@ use Rattle.bq_job.specs.declared.answer.Answer.{Answer}
 use Rattle.bq_job.specs.machine.Machine.{Machine}
 use Rattle.bq_line.specs.declared.attendant.Attendant.{Attendant}
 use Rattle.bq_event_loop.specs.DueTimes.{IsWithinDue}
-use Rattle.bq_event_loop.specs.Known.{AreKnown}
+use Rattle.bq_event_loop.specs.Known.{AreIdle, AreKnown}
 use Rattle.bq_event_loop.specs.LoopCores.{state_of}
 use Rattle.bq_event_loop.specs.declared.control_turns.ControlTurns.{ControlTurns}
 use Rattle.bq_event_loop.specs.declared.control_turns.Stage.{Stage}
@@ -17,6 +17,7 @@ use Rattle.bq_event_loop.specs.declared.control_watch.ControlKnown.TheVariants a
 use Rattle.bq_event_loop.specs.declared.control_watch.ControlWatch.{ControlWatch}
 use Rattle.bq_event_loop.specs.declared.control_watch.ControlWatch.TheVariants as watches
 use Rattle.bq_event_loop.specs.declared.order.visits.Visit.{Visit}
+use Rattle.bq_event_loop.specs.declared.turns.ControlReads.{ControlReads}
 use Rattle.bq_event_loop.specs.declared.turns.ControlStands.{ControlStands}
 use Rattle.bq_event_loop.specs.declared.turns.ControlStands.TheVariants as stands
 
@@ -58,6 +59,12 @@ pub record MayWait {C K : Type 0} (machine : K → Machine) (compared : K → �
 -- The same, or there is to be no wait at all.
 abbrev pub IsWaitFor : {C K : Type 0} → (K → Machine) → (K → ℕ) → Option ℕ → LoopCore C K → Type 0
 IsWaitFor machine compared most core = (most ≡ Some 0) ⊎ MayWait machine compared most core
+
+-- Something is left to do before a wait: a seat acts, or checks for a client that may have come,
+-- connections are left to close, something is due now, or the control line owes a step or is read.
+abbrev pub HasWork : Bool → (ℕ → Bool) → (ℕ → Bool) → Bool → Option ℕ → ControlStands → Option ControlReads → Type 0
+HasWork may_come listed looks are_more_away due standing reads =
+    (AreIdle may_come listed looks → ⊥) ⊎ (are_more_away ≡ true) ⊎ (due ≡ Some 0) ⊎ (standing ≡ stands.Owes) ⊎ (reads ≡ None → ⊥)
 
 -- What holds between two turns. No seat is forgotten, and each seat that has mail was woken for it.
 -- A wait of `due` milliseconds ends in time. The control line stands so.

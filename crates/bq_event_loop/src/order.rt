@@ -6,7 +6,7 @@
 //! first, then all steps are taken, and then all answers are written, so that each part finds its
 //! code and data in the processor's caches. Seats that were in the queue before come last.
 ghost use Rattle.std.specs.Prelude.{◌≡◌, ◌⊎◌, ℕ, true, false, None, Some, IfOk, IfSome, if◌then◌else◌};
-ghost use Rattle.bq_event_loop.specs.Known.{AreKnownTo, AreSameLists, IsFreeSeat, IsListedIn, IsNextOf, IsStillSeat, KnowsAll, is_listed};
+ghost use Rattle.bq_event_loop.specs.Known.{AreIdle, AreKnownTo, AreSameLists, IsFreeSeat, IsListedIn, IsNextOf, IsStillSeat, KnowsAll, is_listed};
 ghost use Rattle.bq_event_loop.specs.Known.{is_looking};
 ghost use Rattle.bq_event_loop.specs.Sleeping.{visited_by};
 
@@ -417,7 +417,8 @@ impl Order {
 
     // Returns true if a visit is under way, or a seat checks for a client.
     fn is_visiting(&self) -> bool
-        ensures { result ≡ false → visited_by self.now.stage self.now.visit ≡ None }
+        ensures none { result ≡ false → visited_by self.now.stage self.now.visit ≡ None }
+        ensures some { result ≡ true → visited_by self.now.stage self.now.visit ≡ None → ⊥ }
     {
         match self.stage {
             Stage::DoorLook(_) | Stage::Visit(_) | Stage::VisitLook(_, _) | Stage::HandOn(_, _) =>
@@ -430,6 +431,8 @@ impl Order {
     fn is_idle(&self, may_come: bool) -> bool
         ensures acts { result ≡ true → (seat : ℕ) → is_listed self.now.queue (visited_by self.now.stage self.now.visit) seat ≡ false }
         ensures checks { result ≡ true → may_come ≡ true → (seat : ℕ) → is_looking self.now.queue seat ≡ false }
+        ensures busy { result ≡ false
+            → AreIdle may_come (is_listed self.now.queue (visited_by self.now.stage self.now.visit)) (is_looking self.now.queue) → ⊥ }
     {
         if self.is_visiting() {
             return false;

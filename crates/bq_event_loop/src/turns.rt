@@ -1,6 +1,6 @@
 //! The choice of the next action.
 ghost use Rattle.std.specs.Prelude.{ℕ, ◌≡◌, ◌<◌, [], Bool, true, false};
-ghost use Rattle.bq_event_loop.specs.Known.{AreApart, AreKnown, IsFreeSeat, IsListedIn, IsStillSeat, KeepsAll};
+ghost use Rattle.bq_event_loop.specs.Known.{AreApart, AreIdle, AreKnown, IsFreeSeat, IsListedIn, IsStillSeat, KeepsAll};
 ghost use Rattle.bq_event_loop.specs.Sleeping.{IsAtTurn};
 ghost use Rattle.bq_event_loop.specs.SoFar.{IsLoopSoFar, beginning};
 
@@ -233,11 +233,13 @@ pub trait Turns {
         ensures apart { AreApart (listed self.old) (looks self.old) → AreApart (listed self.new) (looks self.new) };
 
     /// Returns true if the loop may sleep: no seat acts before it does, and none checks for a
-    /// client that may have come. The loop waits next, or asks the system what it has to report.
+    /// client that may have come. If it returns false, one does. The loop waits next, or asks the
+    /// system what it has to report.
     fn may_sleep(&mut self, may_come: bool) -> bool
         ensures seats { seats self.new ≡ seats self.old }
         ensures listed { (seat : ℕ) → listed self.new seat ≡ listed self.old seat }
         ensures looks { (seat : ℕ) → looks self.new seat ≡ looks self.old seat }
         ensures acts { result ≡ true → (seat : ℕ) → listed self.old seat ≡ false }
-        ensures checks { result ≡ true → may_come ≡ true → (seat : ℕ) → looks self.old seat ≡ false };
+        ensures checks { result ≡ true → may_come ≡ true → (seat : ℕ) → looks self.old seat ≡ false }
+        ensures busy { result ≡ false → AreIdle may_come (listed self.old) (looks self.old) → ⊥ };
 }

@@ -4,13 +4,13 @@ ghost use Rattle.bq_line.specs.Tending.{door_seen};
 ghost use Rattle.bq_event_loop.specs.Accepting.{may_come};
 ghost use Rattle.bq_event_loop.specs.Known.{AreKnown, ChangesOnly, IsFreeSeat, IsListedIn, IsStillSeat};
 ghost use Rattle.bq_event_loop.specs.Rows.{AreTended, KeepsRow};
-ghost use Rattle.bq_event_loop.specs.Sleeping.{IsAtTurn};
+ghost use Rattle.bq_event_loop.specs.Sleeping.{HasWork, IsAtTurn};
 
 use crate::doors::Doors;
 use crate::row::Row;
 use crate::sleeper::{Report, Sleeper};
 use crate::still::has_no_mail;
-use crate::turns::{ControlStands, News, SoFar, Stands, Turn, Turns};
+use crate::turns::{ControlReads, ControlStands, News, SoFar, Stands, Turn, Turns};
 use bq_core_api::QueueCore;
 use bq_host::Mail;
 use bq_line::attendant::{Looked, Progress};
@@ -238,7 +238,8 @@ fn sleep_or_ask<
     ensures { AreKnown L.may_give L.may_take (T.seats turns.new) (T.listed turns.new) (T.looks turns.new) []
         row.now.seats.items mails.now.items }
 {
-    if is_busy(turns, sleeper, doors, news) {
+    let reads = sleeper.control_reads(news.control);
+    if is_busy(turns, doors, news, reads) {
         sleeper.ask();
         return;
     }
@@ -248,7 +249,8 @@ fn sleep_or_ask<
 
 // Returns true if the loop must not sleep: a seat acts, or checks for a client that may have come,
 // the control line is read or owes a step, connections are left to close, or something is due now.
-fn is_busy<T: Turns, W: Sleeper>(turns: &mut T, sleeper: &W, doors: &Doors, news: &News) -> bool
+// If none of this is so, it returns false, so that the loop does not ask again and again.
+fn is_busy<T: Turns>(turns: &mut T, doors: &Doors, news: &News, reads: Option<ControlReads>) -> bool
     ensures seats { T.seats turns.new ≡ T.seats turns.old }
     ensures listed { (seat : ℕ) → T.listed turns.new seat ≡ T.listed turns.old seat }
     ensures looks { (seat : ℕ) → T.looks turns.new seat ≡ T.looks turns.old seat }
@@ -257,7 +259,9 @@ fn is_busy<T: Turns, W: Sleeper>(turns: &mut T, sleeper: &W, doors: &Doors, news
     ensures away { result ≡ false → doors.now.are_more_away ≡ false }
     ensures due { result ≡ false → news.now.due ≡ Some 0 → ⊥ }
     ensures owes { result ≡ false → news.now.control ≡ ControlStands.Owes → ⊥ }
-    ensures control { result ≡ false → W.awaits_control sleeper.now ≡ true }
+    ensures control { result ≡ false → reads ≡ None }
+    ensures busy { result ≡ true → HasWork (may_come doors.now.accepts) (T.listed turns.old) (T.looks turns.old)
+        doors.now.are_more_away news.now.due news.now.control reads }
 {
     if !turns.may_sleep(doors.may_come()) {
         return true;
@@ -271,12 +275,13 @@ fn is_busy<T: Turns, W: Sleeper>(turns: &mut T, sleeper: &W, doors: &Doors, news
     if owes(news.control) {
         return true;
     }
-    sleeper.control_reads(news.control).is_some()
+    reads.is_some()
 }
 
 // Returns true if the control line owes a step.
 fn owes(control: ControlStands) -> bool
-    ensures { result ≡ false → control ≡ ControlStands.Owes → ⊥ }
+    ensures none { result ≡ false → control ≡ ControlStands.Owes → ⊥ }
+    ensures owed { result ≡ true → control ≡ ControlStands.Owes }
 {
     matches!(control, ControlStands::Owes)
 }
