@@ -33,6 +33,9 @@ use bq_line::control_line::ControlInput;
 use bq_line::line::{Line, ReadBuffer};
 use std::snapshot::Snapshot;
 
+// How many actions a turn has at most: a seat reads, submits a step, takes the answer and writes it.
+const MOST_ACTIONS: u32 = 4;
+
 /// Serves all seats and the control line, one turn at a time, until every seat is done and the
 /// control line is over. Returns false if that was not reached within 2^64 - 1 turns, which at a
 /// million turns a second last for half a million years.
@@ -307,7 +310,8 @@ fn act_with_buffer<L: Line + Drop, D: Door<Line = L>, C: Clock + Drop, K: QueueC
     progress
 }
 
-// Does as much of a seat as the turn says.
+// Does as much of a seat as the turn says. A command is one turn, since a turn costs as much as a
+// small action.
 fn act_to_extent<L: Line + Drop, D: Door<Line = L>, C: Clock + Drop, K: QueueCore + Drop>(
     row: &mut Row<L, D>,
     core: &mut LoopCore<C, K>,
@@ -321,72 +325,36 @@ fn act_to_extent<L: Line + Drop, D: Door<Line = L>, C: Clock + Drop, K: QueueCor
     ensures only { ChangesOnly seat row.old.seats.items row.new.seats.items }
     ensures wakes { Wakes core.old.mails.items core.new.mails.items core.old.woken core.new.woken }
 {
-    match extent {
-        Extent::Command => do_command(row, core, seat, buffers),
-        _ => act_and_poll(row, core, seat, buffers),
-    }
-}
-
-// A command of a seat. It is one turn, since a turn costs as much as a small action.
-fn do_command<L: Line + Drop, D: Door<Line = L>, C: Clock + Drop, K: QueueCore + Drop>(
-    row: &mut Row<L, D>,
-    core: &mut LoopCore<C, K>,
-    seat: usize,
-    buffers: &mut Buffers,
-) -> Progress
-    requires ready { AreReadyFor K.machine K.comparisons L.seen (door_seen D.is_out D.is_at_end D.lines_over) seat core.old row.old }
-    ensures served { TurnServes K.machine K.comparisons C.given L.seen (door_seen D.is_out D.is_at_end D.lines_over) D.same
-        core.old row.old [] core.new row.new }
-    ensures only { ChangesOnly seat row.old.seats.items row.new.seats.items }
-    ensures wakes { Wakes core.old.mails.items core.new.mails.items core.old.woken core.new.woken }
-{
-    let progress = read_and_ask(row, core, seat, buffers);
-    if progress.has_moved() && row.seats[seat].writes() {
-        return act(row, core, seat, buffers);
+    let mut progress = Progress::NothingToDo;
+    for done in 0..MOST_ACTIONS {
+        progress = act(row, core, seat, buffers);
+        if !goes_on(row, seat, extent, done, progress) {
+            return progress;
+        }
     }
     progress
 }
 
-// One action of a seat. If a step is to be submitted next, the seat submits it and looks for the
-// answer.
-fn read_and_ask<L: Line + Drop, D: Door<Line = L>, C: Clock + Drop, K: QueueCore + Drop>(
-    row: &mut Row<L, D>,
-    core: &mut LoopCore<C, K>,
+// Returns true if the turn of a seat goes on after an action with this result, before which it did
+// `done` others. A seat that submitted a step looks for the answer at once: mostly the core gave it.
+// In a turn for a command it also writes the answer, and submits a step after its first action.
+fn goes_on<L: Line + Drop, D: Door<Line = L>>(
+    row: &Row<L, D>,
     seat: usize,
-    buffers: &mut Buffers,
-) -> Progress
-    requires ready { AreReadyFor K.machine K.comparisons L.seen (door_seen D.is_out D.is_at_end D.lines_over) seat core.old row.old }
-    ensures served { TurnServes K.machine K.comparisons C.given L.seen (door_seen D.is_out D.is_at_end D.lines_over) D.same
-        core.old row.old [] core.new row.new }
-    ensures only { ChangesOnly seat row.old.seats.items row.new.seats.items }
-    ensures wakes { Wakes core.old.mails.items core.new.mails.items core.old.woken core.new.woken }
-{
-    let progress = act_and_poll(row, core, seat, buffers);
-    if progress.has_moved() && row.seats[seat].submits() {
-        return act_and_poll(row, core, seat, buffers);
+    extent: Extent,
+    done: u32,
+    progress: Progress,
+) -> bool {
+    if !progress.has_moved() {
+        return false;
     }
-    progress
-}
-
-// One action of a seat. If it submitted a step, the seat looks for the answer at once: mostly the
-// core gave it.
-fn act_and_poll<L: Line + Drop, D: Door<Line = L>, C: Clock + Drop, K: QueueCore + Drop>(
-    row: &mut Row<L, D>,
-    core: &mut LoopCore<C, K>,
-    seat: usize,
-    buffers: &mut Buffers,
-) -> Progress
-    requires ready { AreReadyFor K.machine K.comparisons L.seen (door_seen D.is_out D.is_at_end D.lines_over) seat core.old row.old }
-    ensures served { TurnServes K.machine K.comparisons C.given L.seen (door_seen D.is_out D.is_at_end D.lines_over) D.same
-        core.old row.old [] core.new row.new }
-    ensures only { ChangesOnly seat row.old.seats.items row.new.seats.items }
-    ensures wakes { Wakes core.old.mails.items core.new.mails.items core.old.woken core.new.woken }
-{
-    let progress = act(row, core, seat, buffers);
-    if progress.has_moved() && row.seats[seat].polls_mail() {
-        return act(row, core, seat, buffers);
+    match row.seats.get(seat) {
+        Some(seat) => {
+            seat.polls_mail()
+                || extent == Extent::Command && (seat.writes() || done == 0 && seat.submits())
+        }
+        None => false,
     }
-    progress
 }
 
 fn act<L: Line + Drop, D: Door<Line = L>, C: Clock + Drop, K: QueueCore + Drop>(
