@@ -198,7 +198,7 @@ fn serve_at<R: Net + Threads + Wait + Clock + Print + Eprint + Sync, I: ControlR
 }
 
 // Serves by an event loop, whose listener must not block.
-fn serve_by_loop<R: Net + Wait + Clock + Print + Eprint, I: ControlReader + Drop>(
+fn serve_by_loop<R: Net + Clock + Print + Eprint, I: ControlReader + Drop>(
     rt: &R,
     alloc: Global,
     options: &Options,
@@ -304,7 +304,7 @@ pub fn run_by_threads<
 
 /// Runs a server by an event loop, in the same way. The listener must not block. The descriptor is
 /// that of the control line; with None it is read to its end before any door is looked at.
-pub fn run_loop<'l, R: Net + Wait + Clock + Print + Eprint, I: ControlReader + Drop>(
+pub fn run_loop<'l, R: Net + Clock + Print + Eprint, I: ControlReader + Drop>(
     rt: &'l R,
     alloc: Global,
     options: &Options,
@@ -376,7 +376,7 @@ pub fn serve_doors<
 /// none was opened.
 pub fn serve_doors_by_loop<
     'l,
-    R: Net + Wait + Clock + Eprint,
+    R: Net + Clock + Eprint,
     C: clock::Clock + Drop,
     I: ControlReader + Drop,
 >(
@@ -480,7 +480,7 @@ fn met_fault<R: Clock + Eprint>(doors: &[TcpDoor<'_, R>]) -> bool
 }
 
 // Makes a door at this listener.
-fn new_door<'l, R: Wait + Clock + Eprint>(
+fn new_door<'l, R: Clock + Eprint>(
     rt: &'l R,
     listener: &'l TcpListener,
     sessions: Option<u32>,
@@ -498,7 +498,7 @@ fn new_door<'l, R: Wait + Clock + Eprint>(
 }
 
 // Makes a door for each seat, all at one listener.
-fn new_doors<'l, R: Wait + Clock + Eprint>(
+fn new_doors<'l, R: Clock + Eprint>(
     rt: &'l R,
     alloc: Global,
     options: &Options,
