@@ -33,8 +33,7 @@ ended_begins ends.Quit asked answers written w = begins_whole written (answers_t
 ended_begins ends.EndOfInput asked answers written w = begins_whole written (answers_text answers) w
 ended_begins ends.ReadFault asked answers written w = elim w [
   | inl e ↦ begins_whole written (answers_text answers) e
-  | inr u ↦ subst (λ (xs : List Answer). IsBeginning written (answers_text xs)) (sym u.answers_are)
-      (texts_more written u.first (u.last ∷ []) (begins_whole written (answers_text u.first) u.written_is))
+  | inr u ↦ rw u.answers_are (texts_more written u.first (u.last ∷ []) (begins_whole written (answers_text u.first) u.written_is))
 ]
 ended_begins ends.WriteFault asked answers written w = grind (arith, common_steps, texts_cut)
 

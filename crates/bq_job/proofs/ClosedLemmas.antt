@@ -1,6 +1,6 @@
 -- A run answers `Closed` at most once to each close.
-use Rattle.std.proofs.Common.{ℕ, suc, ◌≡◌, ◌+◌, ◌≤◌, Bool, true, false, ◌&&◌, not, List, [], ◌∷◌, ◌++◌}
-use Rattle.std.proofs.Common.{map, length, refl, sym, ap, ◌∙◌, arith, subst, inl, inr, Option, Some, None}
+use Rattle.std.proofs.Common.{ℕ, ◌≡◌, ◌+◌, ◌≤◌, false, ◌&&◌, not, List, [], ◌∷◌, ◌++◌}
+use Rattle.std.proofs.Common.{map, length, refl, ap, ◌∙◌, arith, subst, inl, inr, Option, Some, None}
 use Rattle.std.proofs.lemmas.{Bool.{and_parts, cases_Bool, eqb-true}, Grind.common_steps}
 use Rattle.std.specs.Prelude.{◌==◌}
 use Rattle.bq_job.specs.beside.{AreLinesServed, closes, closings}
@@ -35,15 +35,7 @@ asked_unclosed request m s (changes_tube tube seconds one) = refl
 -- Only a close is itself answered `Closed`.
 own_unclosed : (memory : Memory) (m : Machine) (seat : ℕ) (what : Step) → closings (what ∷ []) ≡ 0
     → has_closed (told (acted memory m seat what).answer) ≡ false
-own_unclosed memory m seat what =
-    each_acted m seat (λ what e. closings (what ∷ []) ≡ 0 → has_closed (told e.answer) ≡ false) (record {
-      nothing = λ what h. refl;
-      connects = λ s is h. refl;
-      asks = λ request s is c w h. asked_unclosed request m s (kind_of request m s);
-      ends = λ s is h. refl;
-      closes = λ s is h. absurd (let f : suc 0 ≡ 0 = h in omega arith);
-      drains = λ h. refl;
-    }) (λ what h. refl) memory what
+own_unclosed memory m seat what = grind (arith, common_steps, cases_Bool, each_acted, told, asked_unclosed, kind_of)
 
 closes_most : (xs : List Answer) → closes xs ≤ length xs
 closes_most [] = omega arith
@@ -126,17 +118,12 @@ end_closings line asked end_steps (inr e) = ap closings e.0
 
 pub asked_steps_closings : (asked : List Request) (end_steps : List Step) → closings end_steps ≡ 0
     → closings (steps.Connect ∷ [] ++ map steps.Ask asked ++ end_steps) ≡ 0
-asked_steps_closings asked end_steps none =
-    closings_append (steps.Connect ∷ [] ++ map steps.Ask asked) end_steps
-    ∙ (let a = asked_closings asked in omega arith)
+asked_steps_closings asked end_steps none = grind (arith, common_steps, cases_Bool, closings_append, asked_closings)
 
 -- A connection that has ended was closed once.
 pub line_closings : (size : ℕ) (line : LineHeard) (over : LineEnd) (taken : List Step) → IsStepsOfLine size line over taken
     → closings taken ≡ 1
-line_closings size line over taken l =
-    let begun = steps.Connect ∷ [] ++ map steps.Ask l.asked ++ l.end_steps in
-    ap closings l.steps_are ∙ closings_append begun (steps.Close ∷ [])
-    ∙ (let a = asked_steps_closings l.asked l.end_steps (end_closings line l.asked l.end_steps l.ends) in omega arith)
+line_closings size line over taken l = grind (arith, common_steps, cases_Bool, closings_append, asked_steps_closings, end_closings)
 
 pub lines_closings : (size : ℕ) (lines : List LineOver) (own : List Step) (taken : List Answer) → AreLinesServed size lines own taken
     → closings own ≡ length lines

@@ -304,7 +304,8 @@ gives_parts P t size (line ∷ lines) own taken h m last history given s free no
     let e = line_ends t c.first last c.history c.rest ss more c.serves c.connected
     (grind (arith, common_steps, cases_Bool, within_asked)) c.runs c.steps_are in
     let g = e.goes in
-    let later = gives_parts P t size lines h.1 h.3 h.7 g.first last g.history g.given g.serves g.free g.owes tail after g.runs g.steps_are in (
+    let later =
+    gives_parts P t size lines h.1 h.3 h.7 g.first last g.history g.given g.serves g.free g.owes tail after g.runs g.steps_are in (
       e.part,
       e.later,
       e.unclosed,

@@ -1,5 +1,5 @@
 -- The headline as a whole, from a history and the laws of runs.
-use Rattle.std.proofs.{Common.{Bool, List, Option, ℕ, arith, rules, subst}, lemmas.Grind.common_steps}
+use Rattle.std.proofs.{Common.{Bool, List, Option, ℕ, arith, rules}, lemmas.Grind.common_steps}
 use Rattle.bq_job.specs.laws.{AreJobsServed, AreJobsServedIn, HeadlineHolds, LineHeadlineHolds, happenings, parts_of_run}
 use Rattle.bq_job.specs.promise.{Entry, GoesBy, IsHistoryOf, IsHistoryOfLine, IsRun, LineOver, Transition}
 use Rattle.bq_job.specs.machine.{GivenAnswer, Machine.Machine, Settings, new_machine}
@@ -17,7 +17,7 @@ jobs_served settings taken last goes = let first : Machine = new_machine setting
       held = λ p i. held_by_one_always settings taken last p goes i;
       deleted = λ t seat i d. run_deletes first taken last t seat goes i d;
       drained = λ early more t is drains. none_after_drain first early t more last
-          (subst (λ (ts : List Transition). GoesBy first ts last) is goes) drains;
+          (rw is at goes) drains;
       last_id_given = λ early more seat is. none_after_last_id first taken last early seat more goes is;
     }
 

@@ -31,8 +31,7 @@ late_one : (asked : List Request) (own others : List Answer) (written : List ℕ
     → length own + 1 ≡ answered_count asked → length (own ++ others) ≤ answered_count asked → written ≡ answers_text own
     → IsDone ends.ReadFault asked (own ++ others) written
 late_one asked own [] written waits h i w =
-    subst (λ (xs : List Answer). IsDone ends.ReadFault asked xs written) (sym (append-nil own))
-    (record { answered = inr (waits, h); written_is = inl w })
+    rw (append-nil own) (record { answered = inr (waits, h); written_is = inl w })
 late_one asked own (a ∷ []) written waits h i w = grind (arith, common_steps, length-append)
 late_one asked own (a ∷ b ∷ others) written waits h i w = absurd (omega (arith, length-append own (a ∷ b ∷ others)))
 
@@ -54,8 +53,7 @@ line_owed size line own got part l is few =
 
 -- a connection's answers, its `Closed`, and what comes after
 around_closed : (xs ys zs : List Answer) → (xs ++ (ys ++ answers.Closed ∷ [])) ++ zs ≡ (xs ++ ys) ++ answers.Closed ∷ zs
-around_closed xs ys zs = ap (λ (us : List Answer). us ++ zs) (sym (append_assoc xs ys (answers.Closed ∷ [])))
-    ∙ append_assoc (xs ++ ys) (answers.Closed ∷ []) zs
+around_closed xs ys zs = grind (arith, common_steps, cases_Bool, append_assoc)
 
 -- Connections that took a first part of what they were given, and no `Closed` but one each, are
 -- owed exactly what they took.

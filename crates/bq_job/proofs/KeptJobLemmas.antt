@@ -59,11 +59,10 @@ pub accepted_is_kept : (settings : Settings) (taken : List Transition) (last : M
     → list_any (is_deletion j.id) (happenings (early ++ p ∷ [])) ≡ false → IsKept j p.machine
 accepted_is_kept settings taken last early late p j goes split accepted none =
     let m = new_machine settings in
-    let u = up_to m last early late p (subst (λ parts. ArePartsGone m parts last) split
-    (run_gone m taken last (new_is_lawful settings) goes)) in
+    let u = up_to m last early late p (rw split at (run_gone m taken last (new_is_lawful settings) goes)) in
     let g = parts_go m (early ++ p ∷ []) p.machine u.gone in
-    let t = there_at_end j m p.machine g.parts g.moves (subst (λ hs. list_any (is_deletion j.id) hs ≡ false) (sym g.told) none)
-    (inr (subst (λ hs. Contains hs (put j)) (sym g.told) accepted)) in
+    let t = there_at_end j m p.machine g.parts g.moves (rw g.told none)
+    (inr (rw g.told accepted)) in
     let found = found_job j.id p.machine.jobs t.job t.found in
     record {
       job = t.job;

@@ -1,6 +1,6 @@
 -- What every part of a step keeps, and the changes of jobs and of seats that keep it.
 use Rattle.std.proofs.Common.{ℕ, zero, suc, ◌≡◌, ◌≤◌, ◌+◌, Bool, true, false, ◌&&◌, ◌||◌, not, cond, List}
-use Rattle.std.proofs.Common.{[], ◌∷◌, ◌++◌, map, arith, refl, sym, ◌∙◌, subst, inl, inr, Some, rules}
+use Rattle.std.proofs.Common.{[], ◌∷◌, ◌++◌, map, arith, refl, ◌∙◌, inl, inr, Some, rules}
 use Rattle.std.proofs.lemmas.Bool.{cases_Bool, and_parts, and_from, or_parts, or_left, or_right}
 use Rattle.std.proofs.lemmas.Bool.{or_cases, both_ways, cond_both, eqb-true, eqb-false, leb-false}
 use Rattle.std.proofs.lemmas.Grind.{common_steps}
@@ -97,7 +97,7 @@ still_held f seats j mild h =
           → ((f s).connected && is_held_by (f s).number j) ≡ true) seats
           (λ s c p. let parts = and_parts s.connected (is_held_by s.number j) p in
           and_from (f s).connected (is_held_by (f s).number j) (c.stays parts.0)
-          (subst (λ n. is_held_by n j ≡ true) (sym c.number) parts.1)) mild) e)
+          (rw c.number parts.1)) mild) e)
     ]
 
 -- Seats change mildly.

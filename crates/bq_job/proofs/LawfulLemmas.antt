@@ -92,11 +92,7 @@ pub record AreTurns (first : Machine) (given : List GivenAnswer) (last : Machine
   pub waiting : length given + waiting_count last ≤ waiting_count first
 
 turns_trace : IsTrace (λ m given n. Keeps m → AreTurns m given n)
-turns_trace = record {
-  none = λ m h. record { keeps = h; waiting = omega arith };
-  joins = λ a b c xs ys f g h. let one = f h in let two = g one.keeps in
-      record { keeps = two.keeps; waiting = omega (arith, length-append xs ys, one.waiting, two.waiting) };
-}
+turns_trace = grind (arith, common_steps, cases_Bool, length-append)
 
 one_turn : (m n : Machine) (g : GivenAnswer) → IsTurn m n → AreTurns m (g ∷ []) n
 one_turn m n g t = record { keeps = t.keeps; waiting = let w = t.waiting in omega arith }

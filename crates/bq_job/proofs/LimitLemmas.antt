@@ -5,7 +5,7 @@ use Rattle.std.specs.List.{AllByRecursion as All, Contains}
 use Rattle.bq_job.specs.{beside.IsLawful, laws.{Part, parts_in, parts_of_run}}
 use Rattle.bq_job.specs.machine.{acted, after_timers, at_moment}
 use Rattle.bq_job.specs.machine.{forgetting, new_machine, Machine.Machine}
-use Rattle.bq_job.specs.{promise.{GoesBy, IsTransition, Parts, Transition}, Types.{Settings, Step}}
+use Rattle.bq_job.specs.{promise.{GoesBy, IsTransition, Transition}, Types.{Settings, Step}}
 use Rattle.bq_job.proofs.{ActMoves.{After, after_acted}, Trace.{IsSteady, of_dispatches, of_ends, steady}}
 use Rattle.bq_job.proofs.KeptLemmas.{Keeps, kept_of_lawful}
 use Rattle.bq_job.proofs.{LawfulLemmas.{kept_of_timers, new_is_lawful, served, step_is_lawful}, ListLemmas.all_at}
@@ -65,8 +65,7 @@ within_parts settings t keeps is w =
     let w5 = within_then settings s.serves_then.between t.last w4
     (steady_adds_none s.serves_then.between t.last
     (of_ends steady s.serves_then.between s.ended_then t.last s.serves_then.ends_waits)) in (
-      subst (λ (ps : Parts). All (λ p. IsWithin settings p.machine) (parts_in (record t { parts = ps }))) (sym is.parts_are)
-          (w0, (w1, (w2, (w3, (w4, (w5, tt)))))),
+      rw is.parts_are (w0, (w1, (w2, (w3, (w4, (w5, tt)))))),
       w5,
     )
 

@@ -2,7 +2,7 @@
 use Rattle.std.proofs.Common.{◌++◌, ◌+◌, ◌*◌, ◌-◌, ◌%◌, ◌<◌, ◌≤◌, ◌∙◌, ◌∷◌, ◌≡◌, ◌&&◌, Bool, List, [], ℕ}
 use Rattle.std.proofs.Common.{drop, get_or, zero, suc, ap, arith, false, length, refl, replicate, sym, take, true}
 use Rattle.std.proofs.lemmas.Grind.{common_steps}
-use Rattle.std.proofs.lemmas.{Bool.{cases_order, Decides.nat_tests}, List.take-replicate, Nat.mul-le}
+use Rattle.std.proofs.lemmas.{Bool.{cases_Bool, cases_order, Decides.nat_tests}, List.take-replicate, Nat.mul-le}
 use Rattle.std.proofs.Math.Seq.{take-append-add}
 use Rattle.std.specs.Cmp.Lexicographic.{slice_cmp}
 use Rattle.std.specs.Int.{from_be_bytes, w64}
@@ -43,20 +43,7 @@ digits : (a b c d e f g h i j k l m n o p : ℕ) → a < 256 → b < 256 → c <
     → j < 256 → k < 256 → l < 256 → m < 256 → n < 256 → o < 256 → p < 256
     → nat_cmp (worth_of a b c d e f g h) (worth_of i j k l m n o p) ≡ slice_cmp nat_cmp (a ∷ b ∷ c ∷ d ∷ e ∷ f ∷ g ∷ h ∷ [])
     (i ∷ j ∷ k ∷ l ∷ m ∷ n ∷ o ∷ p ∷ [])
-digits a b c d e f g h i j k l m n o p sa sb sc sd se sf sg sh si sj sk sl sm sn so sp =
-    digit 72057594037927936 a i _ _ (omega arith) (omega arith)
-    ∙ ap (ordering_then (nat_cmp a i)) (digit 281474976710656 b j _ _ (omega arith) (omega arith)
-    ∙ ap (ordering_then (nat_cmp b j)) (digit 1099511627776 c k _ _ (omega arith) (omega arith)
-    ∙ ap (ordering_then (nat_cmp c k)) (digit 4294967296 d l _ _ (omega arith) (omega arith)
-    ∙ ap (ordering_then (nat_cmp d l)) (digit 16777216 e m _ _ (omega arith) (omega arith)
-    ∙ ap (ordering_then (nat_cmp e m)) (digit 65536 f n _ _ (omega arith) (omega arith)
-    ∙ ap (ordering_then (nat_cmp f n)) (digit 256 g o h p (omega arith) (omega arith)
-    ∙ ap (ordering_then (nat_cmp g o)) (last (nat_cmp h p))))))))
-  where
-    last : (r : Ordering) → r ≡ ordering_then r Equal
-    last Less = refl
-    last Equal = refl
-    last Greater = refl
+digits a b c d e f g h i j k l m n o p sa sb sc sd se sf sg sh si sj sk sl sm sn so sp = grind (arith, common_steps, cases_Bool, digit)
 
 then_assoc : (p q r : Ordering) → ordering_then p (ordering_then q r) ≡ ordering_then (ordering_then p q) r
 then_assoc Less q r = refl

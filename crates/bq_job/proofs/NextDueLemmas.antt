@@ -1,6 +1,6 @@
 -- Before the next due moment a tick changes nothing but the moment.
 use Rattle.std.proofs.Common.{◌&&◌, ◌++◌, ◌<◌, ◌||◌, ◌∙◌, ◌∷◌, ◌≡◌, List, None, Option}
-use Rattle.std.proofs.Common.{[], ℕ, ap, arith, false, inl, inr, refl, subst, true}
+use Rattle.std.proofs.Common.{[], ℕ, ap, arith, false, inl, inr, refl, true}
 use Rattle.std.proofs.lemmas.Bool.{and_from, cases_Bool, eq-eqb, le-leb, leb-true, lt-leb, or_parts}
 use Rattle.std.proofs.{lemmas.Grind.common_steps, Math.Nat.min-eq_left}
 use Rattle.std.specs.{List.{AllByRecursion as All, Contains}, Prelude.{◌==◌, IsTrue, count_by, flat_map, nat_lt}}
@@ -105,7 +105,7 @@ module _ (m : Machine) (at : ℕ) (h : IsLawful m) (early : IsTrue (is_before (a
       → Serves first handed ended last → (handed ≡ []) × (ended ≡ []) × (last ≡ at_moment at m)
   serves_none first handed ended last is s =
       let q = serves_nobody (at_moment at m) handed ended last h.dispatched no_wait_ends forgotten_same
-      (subst (λ (n : Machine). Serves n handed ended last) is s) in
+      (rw is at s) in
       (q.none_handed, q.none_ended, q.same)
 
   granted_here : (memory : Memory) (n : Machine) (seat : ℕ) → IsTrue (is_possible memory n seat steps.Tick)

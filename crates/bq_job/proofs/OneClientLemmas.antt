@@ -1,7 +1,7 @@
 -- What the parts of a step give to one client: turns of dispatch and ends of waits give it the
 -- answer that it waits for; the command's own effect gives it an answer or makes it wait.
 use Rattle.std.proofs.Common.{ℕ, zero, suc, ◌≡◌, ◌≤◌, ◌<◌, ◌+◌, Bool, true, false, ◌&&◌, cond, List, []}
-use Rattle.std.proofs.Common.{◌∷◌, ◌++◌, map, length, arith, refl, sym, ap, ◌∙◌, subst, inl, inr, Some}
+use Rattle.std.proofs.Common.{◌∷◌, ◌++◌, map, length, arith, refl, ap, ◌∙◌, inl, inr, Some}
 use Rattle.std.proofs.lemmas.Bool.{and_from, and_right, cases_Bool, cond_both, eq-eqb, eqb-false, eqb-true, or_from}
 use Rattle.std.proofs.lemmas.{Grind.common_steps, List.Folds.list_any-append}
 use Rattle.std.specs.{List.{AllByRecursion as All, Contains, list_any}, Prelude.◌==◌}
@@ -105,9 +105,7 @@ passes_turn_to : (seat : ℕ) (m next : Machine) (s : SeatRecord) (answer : Answ
     → is_waiting s ≡ true → is_closed_answer answer ≡ false → given ≡ (s.number, answer) → next.seats ≡ map (unwaited s.number) m.seats
     → Passes seat m.seats next.seats (given ∷ [])
 passes_turn_to seat m next s answer given there waits stays told is =
-    subst (λ seats. Passes seat m.seats seats (given ∷ [])) (sym is)
-    (subst (λ (g : GivenAnswer). Passes seat m.seats (map (unwaited s.number) m.seats) (g ∷ [])) (sym told)
-    (passes_turn seat m.seats s answer there waits stays))
+    rw (is, told) (passes_turn seat m.seats s answer there waits stays)
 
 passes_hand_out : (seat : ℕ) (m : Machine) (j : Job) (s : SeatRecord) (given : GivenAnswer) (next : Machine) → next_seat m j ≡ Some s
     → IsHandOut m j s given next → Passes seat m.seats next.seats (given ∷ [])

@@ -1,8 +1,8 @@
 -- Runs that have not ended: once all seats are gone, what is owed so far is the final promise.
 use Rattle.std.proofs.Common.{◌≡◌, ℕ, suc, zero, ◌+◌, ◌≤◌, ◌<◌, Bool, true, false, List, [], ◌∷◌, ◌++◌, Option, Some, None}
-use Rattle.std.proofs.Common.{map, length, replicate, ◌||◌, refl, sym, ap, ◌∙◌, arith, subst, inl, inr, append-nil, append_assoc}
+use Rattle.std.proofs.Common.{map, length, replicate, refl, sym, ap, ◌∙◌, arith, inl, inr, append-nil, append_assoc}
 use Rattle.std.proofs.lemmas.Grind.{common_steps}
-use Rattle.std.proofs.lemmas.{Bool.{or_from, or_parts}, List.{Folds.list_any-append, length-map, map-append}}
+use Rattle.std.proofs.lemmas.{Bool.{cases_Bool, or_from, or_parts}, List.{Folds.list_any-append, length-map, map-append}}
 use Rattle.std.specs.List.{list_any}
 use Rattle.bq_job.specs.machine.{GivenAnswer, Machine.Machine, Settings, new_machine}
 use Rattle.bq_job.specs.promise.{AreAllGone, AreDoorsOwed, AreDoorsOwedSoFar, AreLinesOwed, ArePickedFrom, DoorSoFar, Entry}
@@ -10,7 +10,8 @@ use Rattle.bq_job.specs.promise.{IsControlDone, IsControlSoFar, IsDoorOwedSoFar,
 use Rattle.bq_job.specs.promise.{LineHeard, LineOver, LineSeen, MayTellEnd, Run, answers_to, heard, is_gone, steps_at}
 use Rattle.bq_job.specs.{laws.LawsOfRuns.RunBegins, promise.moments_heard, Types.{Answer, Request, Step}}
 use Rattle.bq_job.specs.declared.step.Step.TheVariants as steps
-use Rattle.bq_job.proofs.{GivenLemmas.are_gone, JoinLemmas.{lines_served, seat_owed}, ListLemmas.heads, RunLemmas.{run_first, run_from, run_none}}
+use Rattle.bq_job.proofs.{GivenLemmas.are_gone, JoinLemmas.{lines_served, seat_owed}, ListLemmas.heads}
+use Rattle.bq_job.proofs.RunLemmas.{run_first, run_from, run_none}
 
 -- ---- a line never says that no more lines come
 
@@ -53,15 +54,7 @@ out_is_gone size (Some line) taken answers h gone =
 
 current_is_gone : (size : ℕ) (door : DoorSoFar) (taken : List Step) (answers : List Answer) (d : IsDoorOwedSoFar size door taken answers)
     → list_any is_gone taken ≡ true → d.current ≡ steps.Gone ∷ []
-current_is_gone size door taken answers d gone =
-    out_is_gone size door.out d.current d.later d.of_out
-    (behind (list_any is_gone d.own) (list_any is_gone d.current)
-    (sym (list_any-append is_gone d.own d.current) ∙ ap (λ (xs : List Step). list_any is_gone xs) (sym d.taken_is) ∙ gone)
-    (lines_go_on size door.over d.own d.got d.of_lines))
-  where
-    behind : (a b : Bool) → (a || b) ≡ true → a ≡ false → b ≡ true
-    behind true b h n = absurd cc
-    behind false b h n = h
+current_is_gone size door taken answers d gone = grind (arith, common_steps, cases_Bool, out_is_gone, list_any-append, lines_go_on)
 
 module _ (settings : Settings) (history : List Entry) (all : List GivenAnswer) (last : Machine)
     (runs : Run (new_machine settings) history all last) where
@@ -112,9 +105,7 @@ gone_is_last zero (x ∷ xs) rest e gone = nothing xs rest (heads x steps.Gone (
     nothing : (ys zs : List Step) → ys ++ zs ≡ [] → zs ≡ []
     nothing [] zs e = e
     nothing (y ∷ ys) zs e = absurd cc
-gone_is_last (suc n) (x ∷ xs) rest e gone =
-    let h = heads x steps.Drain (xs ++ rest) (replicate n steps.Drain ++ steps.Gone ∷ []) e in
-    gone_is_last n xs rest h.1 (subst (λ (step : Step). list_any is_gone (step ∷ xs) ≡ true) h.0 gone)
+gone_is_last (suc n) (x ∷ xs) rest e gone = grind (arith, common_steps, cases_Bool, heads, gone_is_last n xs rest)
 
 control_final : (text : List ℕ) (failed : Bool) (submitted : List Step) → IsControlSoFar text failed submitted
     → list_any is_gone submitted ≡ true → IsControlDone text failed submitted
@@ -178,7 +169,7 @@ run_begins settings readings early late given last r =
       run = record {
         runs = c.runs;
         timed = picked_first (map (λ (e : Entry). e.moment) early) (map (λ (e : Entry). e.moment) late) (moments_heard 0 readings)
-            (subst (λ (xs : List ℕ). ArePickedFrom xs (moments_heard 0 readings)) (map-append (λ (e : Entry). e.moment) early late) r.timed);
+            (rw (map-append (λ (e : Entry). e.moment) early late) at r.timed);
       };
       given_is = c.given_is;
     }

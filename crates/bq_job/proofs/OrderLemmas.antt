@@ -1,6 +1,6 @@
 -- Undisturbed jobs of one tube and priority are handed out in the order of their puts.
 use Rattle.std.proofs.Common.{ℕ, ◌≡◌, ◌≤◌, ◌<◌, Bool, true, false, ◌||◌, cond, List, [], ◌∷◌}
-use Rattle.std.proofs.Common.{◌++◌, arith, refl, sym, ap, ◌∙◌, subst, inl, inr, ◌⊎◌, Some}
+use Rattle.std.proofs.Common.{◌++◌, arith, refl, sym, ap, ◌∙◌, inl, inr, ◌⊎◌, Some}
 use Rattle.std.proofs.lemmas.Bool.{both_ways, cases_Bool, eq-eqb, eqb-true, or_from, or_parts}
 use Rattle.std.proofs.lemmas.{Grind.common_steps, List.{Elements.Contains-append_cases, Folds.list_any-append}}
 use Rattle.std.specs.{List.{AllByRecursion as All, Contains, list_any}, Prelude.{◌==◌}}
@@ -159,8 +159,7 @@ handed_in_order a b m n (p ∷ parts) moves now_a now_b pri tube less still_a st
     at_move go (putting q) = later go (ap (list_any (is_hand_out a.id)) q.happened_is) (ap (list_any (is_hand_out b.id)) q.happened_is)
     at_move go (handing h) =
         elim (cases_Bool (h.job.id == a.id)) [
-          | inl e ↦ subst (λ hs. comes_first (is_hand_out a.id) (is_hand_out b.id) (hs ++ happenings parts) ≡ true)
-              (sym h.happened_is) (rw e refl)
+          | inl e ↦ rw (h.happened_is, e) refl
           | inr e ↦ elim (cases_Bool (h.job.id == b.id)) [
             | inl f ↦ absurd (of_second h (eqb-true h.job.id b.id f) at_a)
             | inr f ↦ later go (ap (list_any (is_hand_out a.id)) h.happened_is ∙ rw e refl)

@@ -77,7 +77,7 @@ one_result first last other at seat what outcome given others shared a b =
     ap (λ x. acted x a.before seat what) memory ∙ ap (λ (m : Machine). acted b.memory m seat what) one.last_same in
     let after : a.after ≡ b.after = a.acts ∙ ap (λ (e : Effect). forgetting e.machine) act ∙ sym b.acts in
     let two = serves_one a.after a.handed_then a.ended_then b.handed_then b.ended_then last other p.2 q.2 a.serves_then
-    (subst (λ (m : Machine). Serves m b.handed_then b.ended_then other) (sym after) b.serves_then) in
+    (rw after b.serves_then) in
     (a.answers_are ∙ rw (one.handed_same, one.ended_same, act, two.handed_same, two.ended_same) refl ∙ sym b.answers_are, two.last_same)
   where
     parts_of_sharing : (memory : Memory) (handed handed_then : List GivenAnswer)

@@ -1,7 +1,7 @@
 -- A refused command changes nothing.
 use Rattle.std.proofs.Common.{◌∙◌, ◌≡◌, IsTrue, List, Some, ℕ, ap, append-nil, arith, false, refl, subst}
 use Rattle.std.proofs.{Common.true, lemmas.{Bool.{both_ways, cases_Bool}, Grind.common_steps}}
-use Rattle.bq_job.specs.machine.{Effect, GivenAnswer, IsStep, Machine.Machine, Memory, Outcome, SeatRecord, Serves, acted, after_timers}
+use Rattle.bq_job.specs.machine.{Effect, GivenAnswer, IsStep, Machine.Machine, Memory, Outcome, SeatRecord, acted, after_timers}
 use Rattle.bq_job.specs.{beside.{ChangesNothing, IsLawful, is_refusal}, machine.{at_moment, forgetting, silent}}
 use Rattle.bq_job.specs.{machine.telling, promise.parts_of, Types.{Answer, Request, Step}}
 use Rattle.bq_job.specs.declared.answer.Answer.TheVariants as answers
@@ -48,5 +48,5 @@ refused_is_tick first last at seat what outcome given answer h s e r =
     let kept = forgets_nothing s.before before.tubes in
     let after : s.after ≡ s.before = s.acts ∙ ap forgetting same ∙ kept in
     let quiet = serves_nobody s.before s.handed_then s.ended_then last before.dispatched before.wait_ends kept
-    (subst (λ (m : Machine). Serves m s.handed_then s.ended_then last) after s.serves_then) in
+    (rw after at s.serves_then) in
     grind (arith, common_steps, append-nil)

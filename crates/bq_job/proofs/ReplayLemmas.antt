@@ -1,5 +1,5 @@
 -- Replays: how one begins and goes on, and that a journal has at most one.
-use Rattle.std.proofs.Common.{◌++◌, ◌∙◌, ◌∷◌, ◌≡◌, List, [], ap, append-nil, arith, flat_map, map, refl, subst, sym}
+use Rattle.std.proofs.Common.{◌++◌, ◌∙◌, ◌∷◌, ◌≡◌, List, [], ap, append-nil, arith, flat_map, map, refl, sym}
 use Rattle.std.proofs.lemmas.{Grind.{common_steps, flat_map-append}, List.map-append}
 use Rattle.bq_job.specs.{beside.{entry_of, outcome_of, Replay.Replay}, declared.journal.Entry.Entry as JournalEntry}
 use Rattle.bq_job.specs.{machine.{GivenAnswer, IsStep, Outcome, Settings, new_machine, Machine.Machine}, promise.Entry}
@@ -59,7 +59,7 @@ one_run first last other (entry ∷ journal) (t ∷ taken) (u ∷ others) g h o 
     let step' : IsStep first entry.moment entry.seat entry.step (outcome_of entry) u.given u.last = grind (arith, common_steps) in
     let one = one_result first t.last u.last entry.moment entry.seat entry.step (outcome_of entry) t.given u.given refl step step' in
     let rest = one_run t.last last other journal taken others g.2 a.1 b.1
-    (subst (λ (m : Machine). GoesBy m others other) (sym one.1) g'.2) a'.1 b'.1 in (
+    (rw one.1 g'.2) a'.1 b'.1 in (
       ap (λ (xs : List GivenAnswer). xs ++ flat_map (λ (v : Transition). v.given) taken) one.0
           ∙ ap (λ (xs : List GivenAnswer). u.given ++ xs) rest.0,
       rest.1,

@@ -20,9 +20,7 @@ pub at_most_once : (settings : Settings) (taken : List Transition) (last : Machi
     → IsUndisturbed j (happenings (parts_of_run taken)) → count_by (is_hand_out j.id) (happenings (parts_of_run taken)) ≤ 1
 at_most_once settings taken last j goes u =
     let g = run_goes settings taken last goes in
-    subst (λ hs. count_by (is_hand_out j.id) hs ≤ 1) g.told
-    (handed_once j.id (new_machine settings) last g.parts g.moves
-    (subst (λ hs. list_any (disturbs j.id) hs ≡ false) (sym g.told) (still j (happenings (parts_of_run taken)) u)))
+    rw g.told at (handed_once j.id (new_machine settings) last g.parts g.moves (rw g.told (still j (happenings (parts_of_run taken)) u)))
 
 comes_itself : (p : Happening → Bool) (happened : List Happening) → list_any p happened ≡ true → comes_first p p happened ≡ true
 comes_itself p [] h = h
@@ -38,20 +36,16 @@ in_order_by_moves settings happened last a b g ua ub pri tube first out_a out_b 
     let put_a : Contains (happenings g.parts) (put a) = subst (λ hs. Contains hs (put a)) (sym g.told) ua.accepted in
     let put_b : Contains (happenings g.parts) (put b) = subst (λ hs. Contains hs (put b)) (sym g.told) ub.accepted in
     let ids : a.id ≤ b.id = ids_in_order a.id b m last g.parts g.moves
-    (subst (λ hs. comes_first (is_put a.id) (is_put b.id) hs ≡ true) (sym g.told) first) put_b in
+    (rw g.told first) put_b in
     elim (cases_Bool (a.id == b.id)) [
       | inl e ↦ let same = eqb-true a.id b.id e in
           subst (λ id. comes_first (is_hand_out a.id) (is_hand_out id) happened ≡ true) same
           (comes_itself (is_hand_out a.id) happened out_a)
       | inr e ↦
           let less : a.id < b.id = less_when_other a.id b.id ids e in
-          subst (λ hs. comes_first (is_hand_out a.id) (is_hand_out b.id) hs ≡ true) g.told
-          (handed_in_order a b m last g.parts g.moves ua.at_once ub.at_once pri tube less
-          (subst (λ hs. list_any (disturbs a.id) hs ≡ false) (sym g.told) (still a happened ua))
-          (subst (λ hs. list_any (disturbs b.id) hs ≡ false) (sym g.told) (still b happened ub))
-          (unborn (put_above a m last g.parts g.moves put_a) put_a) (unborn (put_above b m last g.parts g.moves put_b) put_b)
-          (subst (λ hs. list_any (is_hand_out a.id) hs ≡ true) (sym g.told) out_a)
-          (subst (λ hs. list_any (is_hand_out b.id) hs ≡ true) (sym g.told) out_b))
+          rw g.told at (handed_in_order a b m last g.parts g.moves ua.at_once ub.at_once pri tube less
+          (rw g.told (still a happened ua)) (rw g.told (still b happened ub)) (unborn (put_above a m last g.parts g.moves put_a) put_a)
+          (unborn (put_above b m last g.parts g.moves put_b) put_b) (rw g.told out_a) (rw g.told out_b))
     ]
   where
     less_when_other : (x y : ℕ) → x ≤ y → (x == y) ≡ false → x < y

@@ -1,6 +1,6 @@
 -- Runs, one step at a time: a run of no steps, of a first step and of a last step, and two joined
 -- runs.
-use Rattle.std.proofs.Common.{◌++◌, ◌∙◌, ◌∷◌, ◌≡◌, List, [], ap, append_assoc, arith, flat_map, map, refl, subst, sym}
+use Rattle.std.proofs.Common.{◌++◌, ◌∷◌, ◌≡◌, List, [], ap, append_assoc, arith, flat_map, map, refl, sym}
 use Rattle.std.proofs.lemmas.Grind.{common_steps}
 use Rattle.bq_job.specs.machine.{GivenAnswer, IsStep, Machine.Machine, Outcome}
 use Rattle.bq_job.specs.promise.{Entry, GoesBy, Run, Transition, parts_of}
@@ -66,11 +66,9 @@ pub run_append : (first next last : Machine) (history more : List Entry) (given 
     → Run next more later last → Run first (history ++ more) (given ++ later) last
 run_append first next last [] more given later r s =
     let ends = run_of_none first next given r in
-    subst (λ (xs : List GivenAnswer). Run first more (xs ++ later) last) (sym ends.0)
-    (subst (λ (m : Machine). Run m more later last) ends.1 s)
+    rw ends.0 (rw ends.1 at s)
 run_append first next last (e ∷ history) more given later r s =
     let b = run_first first next e history given r in
-    subst (λ (xs : List GivenAnswer). Run first (e ∷ history ++ more) xs last)
-    (sym (append_assoc b.now b.more later) ∙ ap (λ (xs : List GivenAnswer). xs ++ later) (sym b.given_is))
+    rw (b.given_is, append_assoc b.now b.more later)
     (run_from first b.next last e (history ++ more) b.outcome b.now (b.more ++ later) b.step
     (run_append b.next next last history more b.more later b.rest s))

@@ -94,8 +94,7 @@ handed_once id m n (p ∷ parts) moves still =
     at_move (handing h) still more rest =
         elim (cases_Bool (h.job.id == id)) [
           | inl e ↦
-              let spent : IsSpent id p.machine = subst (λ i. IsSpent i p.machine) (eqb-true h.job.id id e)
-              (spent_by_hand_out m p.machine p.happened h) in
+              let spent : IsSpent id p.machine = rw (eqb-true h.job.id id e) at (spent_by_hand_out m p.machine p.happened h) in
               let none = none_counted id (happenings parts) (none_more id p.machine n parts moves.1 more spent) in
               let one : count_by (is_hand_out id) p.happened ≡ 1 =
               ap (count_by (is_hand_out id)) h.happened_is ∙ count_cons (is_hand_out id) (handed_out h.job.id) [] ∙ rw e refl in

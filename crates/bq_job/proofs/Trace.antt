@@ -27,8 +27,7 @@ pub record IsServing (So : Machine → List GivenAnswer → Machine → Type 0) 
 module _ {So : Machine → List GivenAnswer → Machine → Type 0} (s : IsServing So) where
   forgotten : (first end last : Machine) (given : List GivenAnswer) → So first given end → last ≡ forgetting end → So first given last
   forgotten first end last given so is = subst (So first given) (sym is)
-      (subst (λ xs. So first xs (forgetting end)) (append-nil given)
-      (s.trace.joins first end (forgetting end) given [] so (s.forgets end)))
+      (rw (append-nil given) at (s.trace.joins first end (forgetting end) given [] so (s.forgets end)))
 
   pub of_dispatches : (first : Machine) (given : List GivenAnswer) (last : Machine) → Dispatches first given last → So first given last
   of_dispatches first given last d =
