@@ -1,5 +1,5 @@
 -- How the count of a core's comparisons grows along a history.
-use Rattle.std.proofs.Common.{◌≡◌, ℕ, ◌+◌, ◌≤◌, Bool, true, false, List, [], ◌∷◌}
+use Rattle.std.proofs.Common.{ℕ, ◌+◌, Bool, true, false, List, [], ◌∷◌}
 use Rattle.std.proofs.Common.{◌++◌, refl, sym, ap, ◌∙◌, subst, arith, append-nil, append_assoc}
 use Rattle.bq_job.specs.machine.Dispatch.{GivenAnswer}
 use Rattle.bq_job.specs.machine.Machine.{Machine}
@@ -28,7 +28,7 @@ within_on first middle next [] e given now from count to (none, (same, still)) w
   (
     ap (λ (xs : List GivenAnswer). xs ++ now) none ∙ sym (append-nil now),
     (
-      subst (λ (m : Machine). IsEntryWithin m e now next from to) same (subst (λ (n : ℕ). IsEntryWithin middle e now next n to) still w),
+      subst (λ (m : Machine). IsEntryWithin m e now next from to) same (rw still at w),
       (refl, (refl, refl)),
     ),
   ),

@@ -1,78 +1,56 @@
 -- How the count of a core's comparisons grows with what happens at its mail.
-use Rattle.std.proofs.Common.{◌≡◌, ℕ, Bool, true, false, List, [], ◌∷◌, ◌++◌, Option, refl, sym, ap, ◌∙◌, subst, append-nil, append_assoc}
+use Rattle.std.proofs.Common.{◌≡◌, ℕ, true, false, List, [], ◌∷◌, ◌++◌, refl, append-nil, append_assoc}
 use Rattle.bq_job.specs.declared.step.Step.{Step}
 use Rattle.bq_job.specs.machine.Dispatch.{GivenAnswer}
 use Rattle.bq_job.specs.machine.Machine.{Machine}
 use Rattle.bq_job.specs.machine.Steps.{Outcome}
 use Rattle.bq_job.specs.promise.Runs.{Entry}
 use Rattle.bq_core_api.specs.Cost.{IsLookWithin, IsStepWithin}
-use Rattle.bq_host.specs.Compared.{AreCompared, AreWithin, LooksOnce}
+use Rattle.bq_host.specs.Compared.{AreCompared, LooksOnce}
 use Rattle.bq_host.proofs.ComparedLemmas.{looked_within, within_on}
 use Rattle.bq_host.specs.{MailStates.MailState, Went.HasCompared}
 
--- After the steps so far, the core took one more.
+-- From the first state to the last the core stays within its bounds, after whatever it did before.
+abbrev pub Compares : MailState → List Entry → List GivenAnswer → MailState → Type 0
+Compares first history given last = (start : Machine) (before : List Entry) (gave : List GivenAnswer) (from : ℕ)
+    → HasCompared start before gave from first → HasCompared start (before ++ history) (gave ++ given) from last
+
+-- The core took one step.
 pub compared_step : (d n : MailState) (at seat : ℕ) (what : Step) (outcome : Outcome) (given : List GivenAnswer)
     → IsStepWithin d.core at seat what outcome given n.core d.compared n.compared → n.known ≡ false
-    → (start : Machine) (before : List Entry) (gave : List GivenAnswer) (from : ℕ) → HasCompared start before gave from d
-    → HasCompared start (before ++ record { moment = at; seat = seat; what = what } ∷ []) (gave ++ given) from n
+    → Compares d (record { moment = at; seat = seat; what = what } ∷ []) given n
 compared_step d n at seat what outcome given step unknown start before gave from h = (
   n.compared,
   within_on start d.core n.core before (record { moment = at; seat = seat; what = what }) gave given from h.0 n.compared h.1
       (record { looked = d.compared; outcome = outcome; look = looked_within d.known d.core h.0 d.compared h.2; step = step }),
-  subst (λ (b : Bool). LooksOnce b n.core n.compared n.compared) (sym unknown) refl,
+  rw unknown refl,
 )
 
--- no step was taken
-none_more : (start : Machine) (before : List Entry) (gave : List GivenAnswer) (from : ℕ) (d : MailState)
-    → HasCompared start before gave from d → HasCompared start (before ++ []) (gave ++ []) from d
-none_more start before gave from d h =
-    subst (λ (xs : List Entry). HasCompared start xs (gave ++ []) from d) (sym (append-nil before))
-    (subst (λ (xs : List GivenAnswer). HasCompared start before xs from d) (sym (append-nil gave)) h)
+-- No step was taken: what holds of the count at the first state holds at the last.
+none_more : (d n : MailState) → n.core ≡ d.core
+    → ((count : ℕ) → LooksOnce d.known d.core count d.compared → LooksOnce n.known n.core count n.compared) → Compares d [] [] n
+none_more d n core looked start before gave from h =
+    rw (append-nil before, append-nil gave) (h.0, (rw core h.1), looked h.0 h.2)
 
 -- The core was not used.
-pub compared_still : (d n : MailState) → n.core ≡ d.core → n.known ≡ d.known → n.compared ≡ d.compared
-    → (start : Machine) (before : List Entry) (gave : List GivenAnswer) (from : ℕ) → HasCompared start before gave from d
-    → HasCompared start (before ++ []) (gave ++ []) from n
-compared_still d n core known compared start before gave from h = none_more start before gave from n (
-  h.0,
-  subst (λ (m : Machine). AreWithin start before gave m from h.0) (sym core) h.1,
-  subst (λ (b : Bool). LooksOnce b n.core h.0 n.compared) (sym known)
-      (subst (λ (m : Machine). LooksOnce d.known m h.0 n.compared) (sym core)
-      (subst (λ (k : ℕ). LooksOnce d.known d.core h.0 k) (sym compared) h.2)),
-)
+pub compared_still : (d n : MailState) → n.core ≡ d.core → n.known ≡ d.known → n.compared ≡ d.compared → Compares d [] [] n
+compared_still d n core known compared = none_more d n core (λ count looked. rw (known, core, compared) looked)
 
 -- It was asked for the next due moment, if that was not known.
 pub compared_looked : (d n : MailState) → n.known ≡ true → n.core ≡ d.core
-    → ((count : ℕ) → LooksOnce d.known d.core count d.compared → IsLookWithin d.core count n.compared)
-    → (start : Machine) (before : List Entry) (gave : List GivenAnswer) (from : ℕ) → HasCompared start before gave from d
-    → HasCompared start (before ++ []) (gave ++ []) from n
-compared_looked d n known core once start before gave from h = none_more start before gave from n (
-  h.0,
-  subst (λ (m : Machine). AreWithin start before gave m from h.0) (sym core) h.1,
-  subst (λ (b : Bool). LooksOnce b n.core h.0 n.compared) (sym known)
-      (subst (λ (m : Machine). IsLookWithin m h.0 n.compared) (sym core) (once h.0 h.2)),
-)
+    → ((count : ℕ) → LooksOnce d.known d.core count d.compared → IsLookWithin d.core count n.compared) → Compares d [] [] n
+compared_looked d n known core once = none_more d n core (λ count looked. rw (known, core) (once count looked))
 
 -- One part of a history after another.
 pub compared_on : (first next last : MailState) (history more : List Entry) (given later : List GivenAnswer)
-    → ((start : Machine) (before : List Entry) (gave : List GivenAnswer) (from : ℕ) → HasCompared start before gave from first
-    → HasCompared start (before ++ history) (gave ++ given) from next)
-    → ((start : Machine) (before : List Entry) (gave : List GivenAnswer) (from : ℕ) → HasCompared start before gave from next
-    → HasCompared start (before ++ more) (gave ++ later) from last)
-    → (start : Machine) (before : List Entry) (gave : List GivenAnswer) (from : ℕ) → HasCompared start before gave from first
-    → HasCompared start (before ++ (history ++ more)) (gave ++ (given ++ later)) from last
+    → Compares first history given next → Compares next more later last → Compares first (history ++ more) (given ++ later) last
 compared_on first next last history more given later a b start before gave from h =
-    subst (λ (xs : List Entry). HasCompared start xs (gave ++ (given ++ later)) from last) (append_assoc before history more)
-    (subst (λ (xs : List GivenAnswer). HasCompared start ((before ++ history) ++ more) xs from last) (append_assoc gave given later)
-    (b start (before ++ history) (gave ++ given) from (a start before gave from h)))
+    rw (← append_assoc before history more, ← append_assoc gave given later)
+    (b start (before ++ history) (gave ++ given) from (a start before gave from h))
 
 -- From a core that has compared nothing.
 pub compared_all : (first last : MailState) (history : List Entry) (given : List GivenAnswer) → first.known ≡ false → first.compared ≡ 0
-    → ((start : Machine) (before : List Entry) (gave : List GivenAnswer) (from : ℕ) → HasCompared start before gave from first
-    → HasCompared start (before ++ history) (gave ++ given) from last)
-    → AreCompared first.core history given last.core 0 last.compared
+    → Compares first history given last → AreCompared first.core history given last.core 0 last.compared
 compared_all first last history given unknown none h =
-    let begun : HasCompared first.core [] [] 0 first =
-    (0, (refl, (refl, refl)), subst (λ (b : Bool). LooksOnce b first.core 0 first.compared) (sym unknown) none) in
-    let all = h first.core [] [] 0 begun in
+    let all = h first.core [] [] 0 (0, (refl, (refl, refl)), (rw unknown none)) in
     record { count = all.0; steps = all.1; look = looked_within last.known last.core all.0 last.compared all.2 }

@@ -9,7 +9,6 @@ use Rattle.bq_job.specs.machine.Dispatch.{GivenAnswer}
 use Rattle.bq_job.specs.machine.Machine.{Machine}
 use Rattle.bq_job.specs.promise.History.{is_tick}
 use Rattle.bq_line.specs.GivenReadings.{GaveReadings}
-use Rattle.bq_core_api.specs.Cost.{IsLookWithin, IsStepWithin}
 use Rattle.bq_core_api.specs.Outbox.{Outbox}
 use Rattle.bq_host.specs.Clocks.{Gives}
 use Rattle.bq_host.specs.MailStates.{MailState, mail_state}
@@ -25,7 +24,7 @@ pub by_then : {C : Type 0} (given : Gives C) (seat other : ℕ) (one two three :
     → other ≡ seat → SeatWentBy given seat one first submitted taken two next → SeatWentBy given other two next more later three last
     → SeatWentBy given seat one first (submitted ++ more) (taken ++ later) three last
 by_then given seat other one two three first next last submitted more taken later same a b =
-    let b' = subst (λ (n : ℕ). SeatWentBy given n two next more later three last) same b in (
+    let b' = rw same at b in (
       a.0 ++ b'.0,
       gave_then given one two three a.0 b'.0 a.1 b'.1,
       seat_on first next last seat a.0 b'.0 submitted more taken later a.2 b'.2,
@@ -38,8 +37,7 @@ pub timed_step : {C K : Type 0} (machine : K → Machine) (compared : K → ℕ)
     → SeatWentBy given seat old.time.clock (mail_state machine compared old held mails sorted)
     (if is_tick what then [] else what ∷ []) [] new.time.clock (mail_state machine compared new held mails marked)
 timed_step machine compared given seat what old new held mails sorted marked s empty =
-    let step = subst (λ (n : ℕ). IsStepWithin (machine old.core) n seat what s.outcome new.outs.given (machine new.core)
-    (compared old.core) (compared new.core)) s.time.heard s.step in
+    let step = rw s.time.heard at s.step in
     let none : option_to_list held ≡ [] = none_held (option_to_list held) old.outs.given empty in (
       s.reading ∷ [],
       s.time.gave,
@@ -61,8 +59,7 @@ timed_looked {C} {K} machine compared given seat old new looked held mails sorte
       subst (λ c. GaveReadings given old.time.clock [] c) (sym (ap (λ (h : HeardClock C). h.clock) time)) (gave_none given old.time.clock),
       seat_looked (mail_state machine compared old held mails sorted) (mail_state machine compared new held mails marked) seat
           (ap (λ (x : TimedCore C K). x.is_due_known) e ∙ l.known) (ap (λ (x : TimedCore C K). machine x.core) e ∙ l.same)
-          (λ count k. subst (λ (n : ℕ). IsLookWithin (machine old.core) count n)
-          (sym (ap (λ (x : TimedCore C K). compared x.core) e)) (l.once count k)) refl
+          (λ count k. rw (ap (λ (x : TimedCore C K). compared x.core) e) (l.once count k)) refl
           (ap (λ (x : TimedCore C K). option_to_list held ++ x.outs.given) e
           ∙ ap (λ (o : Outbox). option_to_list held ++ o.given) l.outs)
           (ap (λ (h : HeardClock C). h.moment) time),

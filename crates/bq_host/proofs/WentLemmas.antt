@@ -1,18 +1,18 @@
 -- What happens at a core with its clock and the mail of its seats, step by step.
-use Rattle.std.proofs.Common.{◌≡◌, ◌≢◌, ◌<◌, ℕ, zero, suc, Bool, true, false, true≢false, List, [], ◌∷◌, ◌++◌}
-use Rattle.std.proofs.Common.{Option, map, length, replicate, refl, sym, ap, ◌∙◌, arith, subst, inl, inr, append-nil, append_assoc}
+use Rattle.std.proofs.Common.{◌≡◌, ◌≢◌, ◌<◌, ℕ, zero, suc, true, false, true≢false, List, [], ◌∷◌, ◌++◌}
+use Rattle.std.proofs.Common.{Option, length, replicate, refl, sym, ap, ◌∙◌, arith, inl, inr, append-nil, append_assoc}
 use Rattle.std.specs.Prelude.{◌==◌, if◌then◌else◌, slice_index_or}
 use Rattle.std.proofs.lemmas.Bool.{cases_Bool, eq-eqb, eqb-true}
-use Rattle.std.proofs.lemmas.List.{length-replicate}
+use Rattle.std.proofs.lemmas.Grind.{common_steps}
+use Rattle.std.proofs.lemmas.List.{length-replicate, map-append}
 use Rattle.bq_job.specs.beside.NextDue.{next_due}
 use Rattle.bq_job.specs.declared.answer.Answer.{Answer}
 use Rattle.bq_job.specs.declared.settings.Settings.{Settings}
 use Rattle.bq_job.specs.declared.step.Step.{Step}
 use Rattle.bq_job.specs.machine.Dispatch.{GivenAnswer}
-use Rattle.bq_job.specs.machine.Machine.{Machine}
 use Rattle.bq_job.specs.machine.Steps.{Outcome}
 use Rattle.bq_job.specs.promise.History.{ArePickedFrom, IsTimedFrom, is_tick, last_heard, moment_heard, moments_heard, steps_at}
-use Rattle.bq_job.specs.promise.Runs.{Entry, Run, answers_to}
+use Rattle.bq_job.specs.promise.Runs.{Entry, answers_to}
 use Rattle.bq_job.proofs.OneClientLemmas.{answers_append}
 use Rattle.bq_job.proofs.RunLemmas.{run_append, run_from, run_none}
 use Rattle.bq_line.specs.GivenReadings.{GaveReadings}
@@ -20,18 +20,11 @@ use Rattle.bq_core_api.specs.Cost.{IsLookWithin, IsStepWithin}
 use Rattle.bq_host.specs.Compared.{LooksOnce}
 use Rattle.bq_host.specs.MailStates.{MailState, IsInOrder, IsNewMailState, IsSorted, waiting}
 use Rattle.bq_host.specs.Went.{CoreWent, SeatWent}
-use Rattle.bq_host.proofs.HasComparedLemmas.{compared_looked, compared_on, compared_step, compared_still}
+use Rattle.bq_host.proofs.HasComparedLemmas.{Compares, compared_looked, compared_on, compared_step, compared_still}
 
 pub steps_append : (t : ℕ) (xs ys : List Entry) → steps_at t (xs ++ ys) ≡ steps_at t xs ++ steps_at t ys
 steps_append t [] ys = refl
-steps_append t (x ∷ xs) ys =
-    elim (cases_Bool (is_tick x.what)) [
-      | inl e ↦ rw e (steps_append t xs ys)
-      | inr e ↦ elim (cases_Bool (x.seat == t)) [
-        | inl f ↦ rw (e, f) (ap (λ (more : List Step). x.what ∷ more) (steps_append t xs ys))
-        | inr f ↦ rw (e, f) (steps_append t xs ys)
-      ]
-    ]
+steps_append t (x ∷ xs) ys = grind (arith, common_steps, cases_Bool, steps_append t xs ys)
 
 moments_append : (last : ℕ) (xs ys : List (Option ℕ))
     → moments_heard last (xs ++ ys) ≡ moments_heard last xs ++ moments_heard (last_heard last xs) ys
@@ -53,23 +46,13 @@ picked_append (x ∷ xs) ys [] ns h i = absurd h
 picked_append (x ∷ xs) ys (m ∷ ms) ns (inl h) i = inl (h.0, picked_append xs ys ms ns h.1 i)
 picked_append (x ∷ xs) ys (m ∷ ms) ns (inr h) i = inr (picked_append (x ∷ xs) ys ms ns h i)
 
-map_append : (xs ys : List Entry) → map (λ (e : Entry). e.moment) (xs ++ ys) ≡ map (λ (e : Entry). e.moment) xs
-    ++ map (λ (e : Entry). e.moment) ys
-map_append [] ys = refl
-map_append (x ∷ xs) ys = ap (λ ms. x.moment ∷ ms) (map_append xs ys)
-
 -- two parts of a history are timed by the readings of both
-timed_on : (first next last : ℕ) (readings reads : List (Option ℕ)) (history more : List Entry) → IsTimedFrom first readings history next
+pub timed_on : (first next last : ℕ) (readings reads : List (Option ℕ)) (history more : List Entry)
+    → IsTimedFrom first readings history next
     → IsTimedFrom next reads more last → IsTimedFrom first (readings ++ reads) (history ++ more) last
 timed_on first next last readings reads history more a b = record {
-  picked =
-      let later_timed : ArePickedFrom (map (λ (e : Entry). e.moment) more) (moments_heard (last_heard first readings) reads) =
-      subst (λ (n : ℕ). ArePickedFrom (map (λ (e : Entry). e.moment) more) (moments_heard n reads)) a.last_is b.picked in
-      subst (λ (ms : List ℕ). ArePickedFrom ms (moments_heard first (readings ++ reads))) (sym (map_append history more))
-      (subst (λ (ms : List ℕ). ArePickedFrom (map (λ (e : Entry). e.moment) history ++ map (λ (e : Entry). e.moment) more) ms)
-      (sym (moments_append first readings reads))
-      (picked_append (map (λ (e : Entry). e.moment) history) (map (λ (e : Entry). e.moment) more) (moments_heard first readings)
-      (moments_heard (last_heard first readings) reads) a.picked later_timed));
+  picked = rw (map-append (λ (e : Entry). e.moment) history more, moments_append first readings reads)
+      (picked_append _ _ _ _ a.picked (rw a.last_is at b.picked));
   last_is = b.last_is ∙ ap (λ (n : ℕ). last_heard n reads) a.last_is ∙ sym (heard_append first readings reads);
 }
 
@@ -104,17 +87,33 @@ core_on first next last readings reads history more took later a b = record {
 entry_steps : (t at seat : ℕ) (what : Step)
     → steps_at t (record { moment = at; seat = seat; what = what } ∷ []) ≡
     (if is_tick what then [] else (if seat == t then what ∷ [] else []))
-entry_steps t at seat what =
-    elim (cases_Bool (is_tick what)) [
-      | inl e ↦ rw e refl
-      | inr e ↦ elim (cases_Bool (seat == t)) [
-        | inl f ↦ rw (e, f) refl
-        | inr f ↦ rw (e, f) refl
-      ]
-    ]
+entry_steps t at seat what = grind (arith, common_steps, cases_Bool)
 
-abbrev no_steps : List Step
-no_steps = []
+-- The core took no step, and no answer was taken out.
+pub core_still : (d n : MailState) (readings : List (Option ℕ)) → n.core ≡ d.core → IsTimedFrom d.heard readings [] n.heard
+    → length n.mails ≡ length d.mails → ((t : ℕ) → t < length d.mails → waiting t n ≡ waiting t d) → Compares d [] [] n
+    → CoreWent d readings [] (λ t. []) n
+core_still d n readings core timed many waits compared = record {
+  given = [];
+  runs = rw core (run_none d.core);
+  timed = timed;
+  many = many;
+  tied = λ t below. append-nil (waiting t d) ∙ sym (waits t below);
+  compared = compared;
+}
+
+-- The seat did nothing while no step was taken and no answer was taken out.
+pub seat_still : (d n : MailState) (seat : ℕ) (readings : List (Option ℕ)) → CoreWent d readings [] (λ t. []) n
+    → SeatWent seat d readings [] [] n
+seat_still d n seat readings went = record {
+  history = [];
+  took = λ t. [];
+  went = went;
+  submitted_is = refl;
+  taken_is = refl;
+  others_still = λ t differs. refl;
+  others_took = λ t differs. refl;
+}
 
 -- no answer is held if none is pending
 pub none_held : {X : Type 0} (xs ys : List X) → xs ++ ys ≡ [] → xs ≡ []
@@ -134,90 +133,37 @@ one_step d n seat what reading outcome given step unknown heard mails empty full
       took = λ t. [];
       went = record {
         given = given;
-        runs = subst (λ (xs : List GivenAnswer). Run d.core (entry ∷ []) xs n.core) (append-nil given)
+        runs = rw (← append-nil given)
             (run_from d.core n.core n.core entry [] outcome given [] step.step (run_none n.core));
         timed = record { picked = inl (refl, tt); last_is = heard };
         many = ap length mails;
         tied = λ t below. tied_at t;
         compared = compared_step d n at seat what outcome given step unknown;
       };
-      submitted_is = entry_steps seat at seat what
-          ∙ ap (λ (b : Bool). if is_tick what then [] else (if b then what ∷ [] else [])) (eq-eqb seat seat refl);
+      submitted_is = rw (entry_steps seat at seat what, eq-eqb seat seat refl) refl;
       taken_is = refl;
-      others_still = λ t differs. entry_steps t at seat what
-          ∙ ap (λ (b : Bool). if is_tick what then [] else (if b then what ∷ [] else []))
-          (not_equal seat t (λ e. differs (sym e))) ∙ neither;
+      others_still = λ t differs. grind (arith, common_steps, cases_Bool, entry_steps, eqb-true);
       others_took = λ t differs. refl;
     }
   where
     tied_at : (t : ℕ) → waiting t d ++ answers_to t given ≡ [] ++ waiting t n
-    tied_at t =
-        ap (λ (xs : List GivenAnswer). (slice_index_or d.mails t [] ++ answers_to t xs) ++ answers_to t given) empty
-        ∙ ap (λ (xs : List Answer). xs ++ answers_to t given) (append-nil (slice_index_or d.mails t []))
-        ∙ ap (λ (ms : List (List Answer)). slice_index_or ms t [] ++ answers_to t given) (sym mails)
-        ∙ ap (λ (xs : List GivenAnswer). slice_index_or n.mails t [] ++ answers_to t xs) (sym full)
-
-    not_equal : (a b : ℕ) → a ≢ b → (a == b) ≡ false
-    not_equal a b h = elim (cases_Bool (a == b)) [ inl e ↦ absurd (h (eqb-true a b e)) | inr e ↦ e ]
-
-    neither : (if is_tick what then no_steps else no_steps) ≡ no_steps
-    neither = elim (cases_Bool (is_tick what)) [ inl e ↦ rw e refl | inr e ↦ rw e refl ]
+    tied_at t = rw (empty, mails, full) (rw (append-nil (slice_index_or d.mails t [])) refl)
 
 -- The clock was read, and no step was taken.
 pub seat_heard : (d n : MailState) (seat : ℕ) (reading : Option ℕ) → n.core ≡ d.core → n.known ≡ d.known → n.compared ≡ d.compared
     → n.heard ≡ moment_heard d.heard reading → n.mails ≡ d.mails → n.pending ≡ d.pending
     → SeatWent seat d (reading ∷ []) [] [] n
-seat_heard d n seat reading core known compared heard mails pending = record {
-  history = [];
-  took = λ t. [];
-  went = record {
-    given = [];
-    runs = subst (λ (m : Machine). Run d.core [] [] m) (sym core) (run_none d.core);
-    timed = record { picked = tt; last_is = heard };
-    many = ap length mails;
-    tied = λ t below.
-        append-nil (waiting t d)
-        ∙ ap (λ (ms : List (List Answer)). slice_index_or ms t [] ++ answers_to t d.pending) (sym mails)
-        ∙ ap (λ (xs : List GivenAnswer). slice_index_or n.mails t [] ++ answers_to t xs) (sym pending);
-    compared = compared_still d n core known compared;
-  };
-  submitted_is = refl;
-  taken_is = refl;
-  others_still = λ t differs. refl;
-  others_took = λ t differs. refl;
-}
+seat_heard d n seat reading core known compared heard mails pending = seat_still d n seat (reading ∷ [])
+    (core_still d n (reading ∷ []) core (record { picked = tt; last_is = heard }) (ap length mails) (λ t below. rw (mails, pending) refl)
+    (compared_still d n core known compared))
 
 -- Nothing happened.
 pub core_none : (d : MailState) → CoreWent d [] [] (λ t. []) d
-core_none d = record {
-  given = [];
-  runs = run_none d.core;
-  timed = record { picked = tt; last_is = refl };
-  many = refl;
-  tied = λ t below.
-      append-nil (waiting t d);
-  compared = compared_still d d refl refl refl;
-}
+core_none d = core_still d d [] refl (record { picked = tt; last_is = refl }) refl (λ t below. refl) (compared_still d d refl refl refl)
 
 -- A seat did nothing, or one thing after another.
 pub seat_none : (d : MailState) (seat : ℕ) → SeatWent seat d [] [] [] d
-seat_none d seat = record {
-  history = [];
-  took = λ t. [];
-  went = record {
-    given = [];
-    runs = run_none d.core;
-    timed = record { picked = tt; last_is = refl };
-    many = refl;
-    tied = λ t below.
-        append-nil (waiting t d);
-    compared = compared_still d d refl refl refl;
-  };
-  submitted_is = refl;
-  taken_is = refl;
-  others_still = λ t differs. refl;
-  others_took = λ t differs. refl;
-}
+seat_none d seat = seat_still d d seat [] (core_none d)
 
 pub seat_on : (first next last : MailState) (seat : ℕ) (readings reads : List (Option ℕ)) (submitted more : List Step)
     (taken later : List Answer)
@@ -237,87 +183,49 @@ seat_on first next last seat readings reads submitted more taken later a b = rec
 
 -- Answers were only put into the mail: the seat did nothing.
 pub seat_sorted : (d n : MailState) (seat : ℕ) → IsSorted d n → SeatWent seat d [] [] [] n
-seat_sorted d n seat s = record {
-  history = [];
-  took = λ t. [];
-  went = record {
-    given = [];
-    runs = subst (λ (m : Machine). Run d.core [] [] m) (sym s.core) (run_none d.core);
-    timed = record { picked = tt; last_is = s.heard };
-    many = s.many;
-    tied = λ t below. append-nil (waiting t d) ∙ sym (s.waiting_is t below);
-    compared = compared_still d n s.core s.known s.compared;
-  };
-  submitted_is = refl;
-  taken_is = refl;
-  others_still = λ t differs. refl;
-  others_took = λ t differs. refl;
-}
+seat_sorted d n seat s = seat_still d n seat [] (core_still d n [] s.core (record { picked = tt; last_is = s.heard }) s.many s.waiting_is
+    (compared_still d n s.core s.known s.compared))
 
 -- The core was asked for the next due moment, if that was not known.
 pub seat_looked : (d n : MailState) (seat : ℕ) → n.known ≡ true → n.core ≡ d.core
     → ((count : ℕ) → LooksOnce d.known d.core count d.compared → IsLookWithin d.core count n.compared) → n.mails ≡ d.mails
     → n.pending ≡ d.pending → n.heard ≡ d.heard
     → SeatWent seat d [] [] [] n
-seat_looked d n seat known core once mails pending heard = record {
-  history = [];
-  took = λ t. [];
-  went = record {
-    given = [];
-    runs = subst (λ (m : Machine). Run d.core [] [] m) (sym core) (run_none d.core);
-    timed = record { picked = tt; last_is = heard };
-    many = ap length mails;
-    tied = λ t below.
-        append-nil (waiting t d)
-        ∙ ap (λ (ms : List (List Answer)). slice_index_or ms t [] ++ answers_to t d.pending) (sym mails)
-        ∙ ap (λ (xs : List GivenAnswer). slice_index_or n.mails t [] ++ answers_to t xs) (sym pending);
-    compared = compared_looked d n known core once;
-  };
-  submitted_is = refl;
-  taken_is = refl;
-  others_still = λ t differs. refl;
-  others_took = λ t differs. refl;
-}
+seat_looked d n seat known core once mails pending heard = seat_still d n seat []
+    (core_still d n [] core (record { picked = tt; last_is = heard }) (ap length mails) (λ t below. rw (mails, pending) refl)
+    (compared_looked d n known core once))
 
 -- What is in order stays so as long as its model does.
-pub order_on : (d n : MailState) → length n.mails ≡ length d.mails → n.core ≡ d.core → n.most ≡ d.most → n.known ≡ d.known → n.due ≡ d.due
-    → (n.sorted ≡ true → n.pending ≡ []) → IsInOrder d → IsInOrder n
-order_on d n mails core most known due none o = record {
-  many = mails ∙ o.many ∙ ap (λ (m : Machine). m.settings.seats) (sym core);
-  room = subst (λ (k : ℕ). n.core.settings.seats < k) (sym most) (subst (λ (m : Machine). m.settings.seats < d.most) (sym core) o.room);
+pub order_sorted : (d n : MailState) → IsSorted d n → (n.sorted ≡ true → n.pending ≡ []) → IsInOrder d → IsInOrder n
+order_sorted d n s none o = record {
+  many = rw s.core (s.many ∙ o.many);
+  room = rw (s.core, s.most) o.room;
   none_pending = none;
-  due_is = λ k. due ∙ o.due_is (sym known ∙ k) ∙ ap next_due (sym core);
+  due_is = λ k. s.due ∙ o.due_is (sym s.known ∙ k) ∙ ap next_due (sym s.core);
 }
 
-pub order_sorted : (d n : MailState) → IsSorted d n → (n.sorted ≡ true → n.pending ≡ []) → IsInOrder d → IsInOrder n
-order_sorted d n s none o = order_on d n s.many s.core s.most s.known s.due none o
+abbrev the_empty : List Answer
+the_empty = []
 
 -- A new core is in order.
 pub order_new : (settings : Settings) (d : MailState) → IsNewMailState settings d → IsInOrder d
 order_new settings d new = record {
-  many = ap length new.mails ∙ length-replicate settings.seats none_yet ∙ ap (λ (m : Machine). m.settings.seats) (sym new.core);
-  room = subst (λ (m : Machine). m.settings.seats < d.most) (sym new.core) new.room;
+  many = rw (new.mails, new.core) (length-replicate settings.seats the_empty);
+  room = rw new.core new.room;
   none_pending = λ k. new.pending;
   due_is = λ k. absurd (true≢false (sym k ∙ new.unknown));
 }
-  where
-    none_yet : List Answer
-    none_yet = []
 
 -- a clock that was not read gave no reading
 pub gave_none : {C : Type 0} (given : C → List (Option ℕ) → C → Type 0) (clock : C) → GaveReadings given clock [] clock
-gave_none given clock first before h = subst (λ (rs : List (Option ℕ)). given first rs clock) (sym (append-nil before)) h
+gave_none given clock first before h = rw (append-nil before) h
 
 pub gave_then : {C : Type 0} (given : C → List (Option ℕ) → C → Type 0) (a b c : C) (readings reads : List (Option ℕ))
     → GaveReadings given a readings b → GaveReadings given b reads c → GaveReadings given a (readings ++ reads) c
 gave_then given a b c readings reads h i first before g =
-    subst (λ (rs : List (Option ℕ)). given first rs c) (append_assoc before readings reads)
-    (i first (before ++ readings) (h first before g))
+    rw (← append_assoc before readings reads) (i first (before ++ readings) (h first before g))
 
 -- a new core has no mail
-abbrev the_empty : List Answer
-the_empty = []
-
 no_mail : (n t : ℕ) → slice_index_or (replicate n []) t [] ≡ the_empty
 no_mail zero t = refl
 no_mail (suc n) zero = refl
@@ -328,7 +236,4 @@ new_mails_are settings d new = ap length new.mails ∙ length-replicate settings
 
 -- No answer waits at a new core.
 pub none_waits : (settings : Settings) (d : MailState) (seat : ℕ) → IsNewMailState settings d → waiting seat d ≡ []
-none_waits settings d seat new =
-    ap (λ (ms : List (List Answer)). slice_index_or ms seat [] ++ answers_to seat d.pending) new.mails
-    ∙ ap (λ (xs : List Answer). xs ++ answers_to seat d.pending) (no_mail settings.seats seat)
-    ∙ ap (answers_to seat) new.pending
+none_waits settings d seat new = rw (new.mails, new.pending, no_mail settings.seats seat) refl

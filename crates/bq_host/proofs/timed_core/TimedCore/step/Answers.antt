@@ -1,14 +1,12 @@
-use Rattle.std.proofs.Common.{◌<◌, refl, subst, sym}
+use Rattle.std.proofs.Common.{refl}
 use Rattle.std.proofs.lemmas.Bool.{false≢true}
-use Rattle.bq_job.specs.declared.settings.Settings.{Settings}
 use Rattle.bq_host.proofs.timed_core.TimedCore.step.Goals as goal
 
 pub returns-clause-ready : goal.returns-clause-ready
 returns-clause-ready g c =
     let s = c.step_in_place in
     record {
-      room = subst (λ n. (g.K.QueueCore.machine s.new.self).settings.seats < n) (sym s.ensures.most)
-          (subst (λ (x : Settings). x.seats < c.args.self.now.outs.most) (sym s.ensures.settings) c.requires.ready.room);
+      room = rw (s.ensures.most, s.ensures.settings) c.requires.ready.room;
       due = λ known. absurd (false≢true known);
     }
 
