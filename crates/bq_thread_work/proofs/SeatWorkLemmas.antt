@@ -1,5 +1,5 @@
 -- A seat at work at its end of the links.
-use Rattle.std.proofs.Common.{◌≡◌, ℕ, List, inl, inr, subst, sym, append-nil, ◌∙◌, ap, ◌++◌}
+use Rattle.std.proofs.Common.{◌≡◌, ℕ, List, inl, inr, sym, append-nil, ◌∙◌, ap, ◌++◌}
 use Rattle.bq_job.specs.declared.answer.Answer.{Answer}
 use Rattle.bq_job.specs.declared.step.Step.{Step}
 use Rattle.bq_job.specs.promise.LineSteps.{LineSeen}
@@ -24,5 +24,4 @@ pub tended_on : {L : Type 0} (seen : L → LineSeen) (size : ℕ) (old new : Sea
     → IsTended seen size b next new.submitted new.taken
 tended_on seen size old new a b door next h t =
     let c = calls_at old new h.0 h.1 h.2 in
-    subst (λ (xs : List Step). IsTended seen size b next xs new.taken) c.0
-    (subst (λ (ys : List Answer). IsTended seen size b next (old.submitted ++ h.0) ys) c.1 (h.3 size old.submitted old.taken t).0)
+    rw (c.0, c.1) at (h.3 size old.submitted old.taken t).0

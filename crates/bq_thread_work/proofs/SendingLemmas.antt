@@ -1,7 +1,7 @@
 -- Answers are sent one after another, or kept.
-use Rattle.std.proofs.Common.{◌≡◌, ◌≢◌, ℕ, ◌<◌, List, [], ◌∷◌, ◌++◌, length, refl, sym, ap, ◌∙◌, inl, inr, append-nil, append_assoc, subst}
+use Rattle.std.proofs.Common.{arith, ◌≡◌, ◌≢◌, ℕ, List, [], ◌∷◌, ◌++◌, refl, sym, ap, ◌∙◌, inl, inr, append-nil, append_assoc}
 use Rattle.std.specs.Prelude.{◌==◌}
-use Rattle.std.proofs.lemmas.Bool.{cases_Bool, eqb-true, eqb-false}
+use Rattle.std.proofs.lemmas.{Bool.{cases_Bool, eq-eqb, eqb-true, eqb-false}, Grind.common_steps}
 use Rattle.std.proofs.lemmas.List.{get_or-set_other}
 use Rattle.bq_job.specs.declared.answer.Answer.{Answer}
 use Rattle.bq_job.specs.machine.Dispatch.{GivenAnswer}
@@ -17,7 +17,7 @@ sent_on a b c xs ys zs h i = record {
   intake = i.intake ∙ h.intake;
   rings = i.rings ∙ h.rings;
   taken = i.taken ∙ h.taken;
-  each = λ seat within. i.each seat (subst (λ (rings : List _). seat < length rings) (sym h.rings) within) ∙ h.each seat within;
+  each = λ seat within. i.each seat (rw h.rings within) ∙ h.each seat within;
 }
 
 -- with other answers after them
@@ -39,22 +39,15 @@ sent_before a b xs ys more h = record {
 pub sent_next : (a b : CoreState) (kept left rest new : List GivenAnswer) (g : GivenAnswer) → left ≡ g ∷ rest
     → AreSent a (kept ++ g ∷ []) b new → AreSent a (kept ++ left) b (new ++ rest)
 sent_next a b kept left rest new g is h =
-    subst (λ (all : List GivenAnswer). AreSent a all b (new ++ rest))
-    (append_assoc kept (g ∷ []) rest ∙ ap (λ (all : List GivenAnswer). kept ++ all) (sym is))
-    (sent_before a b (kept ++ g ∷ []) new rest h)
+    rw (append_assoc kept (g ∷ []) rest ∙ ap (λ (all : List GivenAnswer). kept ++ all) (sym is))
+    at (sent_before a b (kept ++ g ∷ []) new rest h)
 
 -- the answer of another end
 pub to_other : (seat t : ℕ) (answer : Answer) → seat ≢ t → answers_to t ((seat, answer) ∷ []) ≡ []
-to_other seat t answer other = elim (cases_Bool (seat == t)) [
-  | inl e ↦ absurd (other (eqb-true seat t e))
-  | inr e ↦ rw e refl
-]
+to_other seat t answer other = grind (arith, common_steps, cases_Bool, eqb-true)
 
 to_own : (seat : ℕ) (answer : Answer) → answers_to seat ((seat, answer) ∷ []) ≡ answer ∷ []
-to_own seat answer = elim (cases_Bool (seat == seat)) [
-  | inl e ↦ rw e refl
-  | inr e ↦ absurd (eqb-false seat seat e refl)
-]
+to_own seat answer = rw (eq-eqb seat seat refl) refl
 
 -- the answers sent to another end
 sent_else : (old new : CoreState) (seat t : ℕ) (answer : Answer) → new ≡ with_room (with_sent old seat answer) seat (room_for new seat)
@@ -71,18 +64,14 @@ sent_one old new kept seat answer is to none = record {
   rings = ap (λ (c : CoreState). c.rings) is;
   taken = ap (λ (c : CoreState). c.taken) is;
   each = λ t within. elim (cases_Bool (seat == t)) [
-    | inl e ↦ subst (λ (n : ℕ). sent_to new n ++ answers_to n kept ≡ sent_to old n ++ answers_to n (kept ++ (seat, answer) ∷ []))
-        (eqb-true seat t e) own
+    | inl e ↦ rw (← eqb-true seat t e) own
     | inr e ↦ elsewhere t (eqb-false seat t e)
   ];
 }
   where
     own : sent_to new seat ++ answers_to seat kept ≡ sent_to old seat ++ answers_to seat (kept ++ (seat, answer) ∷ [])
-    own =
-        ap (λ (all : List Answer). sent_to new seat ++ all) none ∙ append-nil (sent_to new seat) ∙ to
-        ∙ ap (λ (all : List Answer). sent_to old seat ++ all)
-        (sym (answers_append seat kept ((seat, answer) ∷ [])
-        ∙ ap (λ (all : List Answer). all ++ answers_to seat ((seat, answer) ∷ [])) none ∙ to_own seat answer))
+    own = rw (none, to, answers_append seat kept ((seat, answer) ∷ []), none, to_own seat answer)
+        (append-nil (sent_to old seat ++ answer ∷ []))
 
     elsewhere : (t : ℕ) → seat ≢ t → sent_to new t ++ answers_to t kept ≡ sent_to old t ++ answers_to t (kept ++ (seat, answer) ∷ [])
     elsewhere t other =

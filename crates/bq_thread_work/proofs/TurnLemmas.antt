@@ -1,6 +1,6 @@
 -- How the turns of the core's driver combine.
 use Rattle.std.proofs.Common.{◌≡◌, ℕ, Bool, true, false, List, [], ◌∷◌, ◌++◌, Option, Some, None}
-use Rattle.std.proofs.Common.{◌≤◌, ◌⊎◌, ◌∙◌, arith, refl, sym, ap, subst, inl, inr}
+use Rattle.std.proofs.Common.{◌≤◌, ◌⊎◌, ◌∙◌, arith, refl, ap, subst, inl, inr}
 use Rattle.std.proofs.Math.Nat.{le-max_left}
 use Rattle.bq_job.specs.declared.settings.Settings.{Settings}
 use Rattle.bq_job.specs.declared.step.Step.{Step}
@@ -8,7 +8,6 @@ use Rattle.bq_job.specs.declared.step.Step.TheVariants.{Tick}
 use Rattle.bq_job.specs.machine.Machine.{Machine}
 use Rattle.bq_job.specs.machine.Steps.{IsStep}
 use Rattle.bq_job.specs.promise.History.{moment_heard}
-use Rattle.bq_core_api.specs.Cost.{IsLookWithin}
 use Rattle.bq_core_api.specs.Outbox.{Outbox}
 use Rattle.bq_host.specs.Clocks.{Gives}
 use Rattle.bq_host.specs.Timed.{HasHeard, HasLooked, IsReady, LooksAndSteps, PassesOver}
@@ -35,18 +34,15 @@ on_both given machine compared old mid new a b = record {
 }
 
 -- The core was asked for the next due moment, if it was not known.
-looked_on : {C K : Type 0} (machine : K → Machine) (compared : K → ℕ) (old : CoreDriver C K) (t looked : TimedCore C K)
-    → HasLooked machine compared old.timed looked → t ≡ looked
+looked_on : {C K : Type 0} (machine : K → Machine) (compared : K → ℕ) (old : CoreDriver C K) (looked : TimedCore C K)
+    → HasLooked machine compared old.timed looked
     → (settings : Settings) (from : ℕ) (readings : List (Option ℕ)) → HasWorked settings from readings (driver_state machine compared old)
-    → HasWorked settings from readings (driver_state machine compared (record old { timed = t }))
-looked_on machine compared old t looked l e settings from readings w =
-    worked_looked settings from readings (driver_state machine compared old) (driver_state machine compared (record old { timed = t })) w
-    (ap (λ (x : TimedCore _ _). machine x.core) e ∙ l.same)
-    (ap (λ (x : TimedCore _ _). x.time.moment) e ∙ ap (λ (h : HeardClock _). h.moment) l.time) refl
-    (ap (λ (x : TimedCore _ _). old.sender.kept.items ++ x.outs.given) e ∙ ap (λ (o : Outbox). old.sender.kept.items ++ o.given) l.outs)
-    refl (ap (λ (x : TimedCore _ _). x.is_due_known) e ∙ l.known)
-    (λ count k. subst (λ (n : ℕ). IsLookWithin (machine old.timed.core) count n)
-    (sym (ap (λ (x : TimedCore _ _). compared x.core) e)) (l.once count k))
+    → HasWorked settings from readings (driver_state machine compared (record old { timed = looked }))
+looked_on machine compared old looked l settings from readings w =
+    worked_looked settings from readings (driver_state machine compared old)
+    (driver_state machine compared (record old { timed = looked })) w l.same (ap (λ (h : HeardClock _). h.moment) l.time) refl (ap (λ (o :
+    Outbox). old.sender.kept.items ++ o.given) l.outs) refl l.known
+    l.once
 
 -- Time passed, and no step was taken.
 pub on_over : {C K : Type 0} (given : Gives C) (machine : K → Machine) (compared : K → ℕ) (old : CoreDriver C K) (t : TimedCore C K)
@@ -56,21 +52,17 @@ on_over {C} {K} given machine compared old t order ready (looked, l, rest) = rec
   order = record { ready = ready; sender = order.sender; many = order.many; all = order.all };
   end = (refl, refl);
   settings = elim rest [
-    | inl e ↦ ap (λ (x : TimedCore C K). (machine x.core).settings) e ∙ ap (λ (m : Machine). m.settings) l.same
+    | inl e ↦ rw e (ap (λ (m : Machine). m.settings) l.same)
     | inr h ↦ ap (λ (x : TimedCore C K). (machine x.core).settings) h.2 ∙ ap (λ (m : Machine). m.settings) l.same
   ];
   work = λ settings from first w. elim rest [
-    | inl e ↦ (
-      w.0,
-      subst (λ (h : HeardClock C). given first w.0 h.clock) (sym (ap (λ (x : TimedCore C K). x.time) e ∙ l.time)) w.1,
-      looked_on machine compared old t looked l e settings from w.0 w.2,
-    )
+    | inl e ↦ rw e (w.0, (rw l.time w.1), looked_on machine compared old looked l settings from w.0 w.2)
     | inr h ↦ (
       w.0 ++ h.0 ∷ [],
-      h.1.gave first w.0 (subst (λ (x : HeardClock C). given first w.0 x.clock) (sym l.time) w.1),
+      h.1.gave first w.0 (rw l.time w.1),
       worked_heard settings from w.0 (driver_state machine compared (record old { timed = looked }))
           (driver_state machine compared (record old { timed = t })) h.0
-          (looked_on machine compared old looked looked l refl settings from w.0 w.2)
+          (looked_on machine compared old looked l settings from w.0 w.2)
           (ap (λ (x : TimedCore C K). machine x.core) h.2) h.1.heard refl
           (ap (λ (x : TimedCore C K). old.sender.kept.items ++ x.outs.given) h.2) refl (ap (λ (x : TimedCore C K). x.is_due_known) h.2)
           (ap (λ (x : TimedCore C K). compared x.core) h.2),
@@ -81,7 +73,7 @@ on_over {C} {K} given machine compared old t order ready (looked, l, rest) = rec
 -- A reading never lowers the latest moment.
 pub not_lowered : (last next : ℕ) (reading : Option ℕ) → next ≡ moment_heard last reading → last ≤ next
 not_lowered last next None e = omega (arith, e)
-not_lowered last next (Some moment) e = subst (λ (n : ℕ). last ≤ n) (sym e) (le-max_left last moment)
+not_lowered last next (Some moment) e = rw e (le-max_left last moment)
 
 -- The clock was read, and nothing else happened.
 pub on_heard : {C K : Type 0} (given : Gives C) (machine : K → Machine) (compared : K → ℕ) (old : CoreDriver C K) (time : HeardClock C)
@@ -115,10 +107,10 @@ on_ticked {C} {K} given machine compared old t order ready none (looked, l, s) =
   settings = s.settings ∙ ap (λ (m : Machine). m.settings) l.same;
   work = λ settings from first w. (
     w.0 ++ s.reading ∷ [],
-    s.time.gave first w.0 (subst (λ (x : HeardClock C). given first w.0 x.clock) (sym l.time) w.1),
+    s.time.gave first w.0 (rw l.time w.1),
     worked_tick settings from w.0 (driver_state machine compared (record old { timed = looked }))
         (driver_state machine compared (record old { timed = t })) s.reading s.outcome t.outs.given
-        (looked_on machine compared old looked looked l refl settings from w.0 w.2) s.step s.time.heard refl
+        (looked_on machine compared old looked l settings from w.0 w.2) s.step s.time.heard refl
         (pending_on old.sender.kept.items old.sender.kept.items looked.outs.given t.outs.given refl
         (ap (λ (o : Outbox). o.given) l.outs ∙ none)) refl s.unknown,
   );
@@ -156,7 +148,6 @@ busy_from {C} {K} machine old mid new taken core busy = elim busy [
   | inl t ↦ inl (t.0, t.1 ∙ ap (λ (steps : List (ℕ × Step)). steps ++ t.0 ∷ []) taken)
   | inr h ↦ inr (record {
     outcome = h.outcome;
-    step = subst (λ (k : K). IsStep (machine k) new.timed.time.moment 0 Tick h.outcome new.timed.outs.given (machine new.timed.core))
-        core h.step;
+    step = rw core at h.step;
   })
 ]

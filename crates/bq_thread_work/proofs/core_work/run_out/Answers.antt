@@ -1,6 +1,4 @@
 use Rattle.std.proofs.Common.{◌≡◌, ◌∙◌, ◌+◌, ap, length, subst, sym}
-use Rattle.bq_link.specs.EndStates.{CoreState}
-use Rattle.bq_thread_work.specs.CoreWork.{IsCoreDone}
 use Rattle.bq_thread_work.specs.Worked.{driver_state}
 use Rattle.bq_thread_work.proofs.TurnLemmas.{on_both, on_still}
 use Rattle.bq_thread_work.proofs.WorkedLemmas.{worked_all}
@@ -30,8 +28,5 @@ returns-then-turn-clause-ran g c settings from first w rings =
     (order.many ∙ sym order.sender.places.ends ∙ ends) over.all_gone in (
       work.0,
       subst (λ clock. g.C.Clock.given first work.0 clock) (sym parts.2) work.1,
-      subst (λ (e : CoreState). IsCoreDone settings work.0 e (g.K.QueueCore.machine c.into_parts.result.1) from
-          (g.K.QueueCore.comparisons c.into_parts.result.1)) (sym parts.0)
-          (subst (λ (k : _). IsCoreDone settings work.0 driver.sender.end (g.K.QueueCore.machine k) from (g.K.QueueCore.comparisons k))
-          (sym parts.1) done),
+      rw (parts.0, parts.1) done,
     )

@@ -1,10 +1,7 @@
-use Rattle.std.proofs.Common.{◌∙◌, refl, sym, subst, [], List}
-use Rattle.bq_job.specs.declared.answer.Answer.{Answer}
-use Rattle.bq_job.specs.declared.step.Step.{Step}
-use Rattle.bq_line.specs.Tending.{IsTended, attendant, door_seen}
+use Rattle.std.proofs.Common.{◌∙◌, refl}
+use Rattle.bq_line.specs.Tending.{attendant, door_seen}
 use Rattle.bq_line.specs.declared.attendant.LinePlace.TheVariants as places
 use Rattle.bq_line.proofs.TendingLemmas.{tended_new}
-use Rattle.bq_link.specs.EndStates.{IsSameSeat, SeatState}
 use Rattle.bq_thread_work.proofs.SeatWorkLemmas.{tended_on}
 use Rattle.bq_thread_work.proofs.seat_work.seat_work.Goals as goal
 
@@ -18,8 +15,7 @@ loop-init g c =
     record {
       iterator = (tt, tt);
       same = (refl, refl, refl);
-      tended = subst (λ (xs : List Step). IsTended g.L.Line.seen size a (at c.args.door) xs c.args.end.taken) (sym c.requires.end.submitted)
-          (subst (λ (ys : List Answer). IsTended g.L.Line.seen size a (at c.args.door) [] ys) (sym c.requires.end.taken) first);
+      tended = rw (c.requires.end.submitted, c.requires.end.taken) first;
       door = g.met.D.Door.same_self c.args.door;
     }
 
@@ -34,9 +30,7 @@ loop-preserved g c =
     (at new.door) c.attend_at-progress.ensures.went c.loop.invariant.tended in
     record {
       iterator = (tt, tt);
-      same = subst (λ (e : SeatState). IsSameSeat c.args.end e) (sym c.pause.ensures)
-          (same.0 ∙ before.0, same.1 ∙ before.1, same.2 ∙ before.2);
-      tended = subst (λ (e : SeatState). IsTended g.L.Line.seen size new.attendant (at new.door) e.submitted e.taken)
-          (sym c.pause.ensures) on;
+      same = rw c.pause.ensures (same.0 ∙ before.0, same.1 ∙ before.1, same.2 ∙ before.2);
+      tended = rw c.pause.ensures on;
       door = c.attend_at-progress.ensures.door c.args.door c.loop.invariant.door;
     }

@@ -1,4 +1,4 @@
-use Rattle.std.proofs.Common.{◌≡◌, ◌∙◌, ◌+◌, ◌<◌, ◌≤◌, [], ap, arith, deque_capacity, false, true≢false, length, refl, subst, sym}
+use Rattle.std.proofs.Common.{◌≡◌, ◌∙◌, ◌+◌, ◌≤◌, [], ap, arith, deque_capacity, false, true≢false, length, subst, sym}
 use Rattle.std.proofs.lemmas.List.{length-replicate}
 use Rattle.bq_core_api.specs.Outbox.{Outbox}
 use Rattle.bq_thread_work.proofs.WorkedLemmas.{known_none, none_pending, worked_none}
@@ -14,8 +14,7 @@ returns-clause-order g c =
     let over = c.over.ensures in
     record {
       ready = record {
-        room = subst (λ k. (machine k).settings.seats < c.over.result.outs.most) (sym over.core)
-            (subst (λ (o : Outbox). (machine c.args.core).settings.seats < o.most) (sym over.outs) c.requires.outs);
+        room = rw (over.core, over.outs) c.requires.outs;
         due = λ known. absurd (true≢false (sym known ∙ over.unknown));
       };
       sender = record {

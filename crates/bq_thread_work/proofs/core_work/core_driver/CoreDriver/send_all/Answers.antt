@@ -1,4 +1,4 @@
-use Rattle.std.proofs.Common.{◌∙◌, ◌<◌, refl, subst, sym}
+use Rattle.std.proofs.Common.{◌∙◌, refl, sym}
 use Rattle.bq_thread_work.specs.Worked.{driver_state}
 use Rattle.bq_thread_work.proofs.WorkedLemmas.{worked_sent}
 use Rattle.bq_thread_work.proofs.core_work.core_driver.CoreDriver.send_all.Goals as goal
@@ -10,8 +10,7 @@ returns-clause-on g c =
     record {
       order = record {
         ready = record {
-          room = subst (λ n. (g.K.QueueCore.machine c.args.self.now.timed.core).settings.seats < n)
-              (sym sent.most) order.ready.room;
+          room = rw sent.most order.ready.room;
           due = order.ready.due;
         };
         sender = sent.rest;

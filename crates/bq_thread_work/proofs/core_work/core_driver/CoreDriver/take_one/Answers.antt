@@ -1,7 +1,7 @@
 use Rattle.std.proofs.Common.{◌∙◌, ◌++◌, ◌∷◌, [], ap, inl, subst, sym}
 use Rattle.bq_link.specs.EndStates.{CoreState}
 use Rattle.bq_thread_work.specs.Sending.{AreStuck}
-use Rattle.bq_thread_work.specs.Worked.{WorksOn, driver_state}
+use Rattle.bq_thread_work.specs.Worked.{driver_state}
 use Rattle.bq_thread_work.specs.declared.core_work.sender.Sender.{Sender}
 use Rattle.bq_thread_work.proofs.WorkedLemmas.{pending_on, worked_step}
 use Rattle.bq_thread_work.proofs.core_work.core_driver.CoreDriver.take_one.Goals as goal
@@ -32,9 +32,7 @@ returns-in-Some-clause-on g c =
 
 pub returns-in-None-clause-on : goal.returns-in-None-clause-on
 returns-in-None-clause-on g c =
-    subst (λ (s : Sender). WorksOn g.C.Clock.given g.K.QueueCore.machine g.K.QueueCore.comparisons
-    (record c.args.self.now { sender = s }) c.tick_if_due.new.self) c.in-None.ensures.none.0
-    c.tick_if_due.ensures.on
+    rw c.in-None.ensures.none.0 at c.tick_if_due.ensures.on
 
 pub returns-in-Some-clause-found : goal.returns-in-Some-clause-found
 returns-in-Some-clause-found g c =

@@ -1,14 +1,12 @@
 use Rattle.std.proofs.Common.{◌∙◌, ap, inl, inr, subst, sym}
 use Rattle.bq_thread_work.specs.Sending.{AreStuck}
-use Rattle.bq_thread_work.specs.Worked.{WorksOn}
 use Rattle.bq_thread_work.specs.declared.core_work.core_driver.CoreDriver.{CoreDriver}
 use Rattle.bq_thread_work.proofs.TurnLemmas.{busy_from, on_both}
 use Rattle.bq_thread_work.proofs.core_work.core_driver.CoreDriver.turn.Goals as goal
 
 pub returns-then-not-has_room-clause-on : goal.returns-then-not-has_room-clause-on
 returns-then-not-has_room-clause-on g c =
-    subst (λ (h : CoreDriver _ _). WorksOn g.C.Clock.given g.K.QueueCore.machine g.K.QueueCore.comparisons c.args.self.now h)
-    (sym c.rest.ensures) c.send_all-has_room.ensures.on
+    rw c.rest.ensures c.send_all-has_room.ensures.on
 
 pub returns-then-not-go_on-clause-on : goal.returns-then-not-go_on-clause-on
 returns-then-not-go_on-clause-on g c = on_both _ _ _ c.args.self.now c.go_on.new.self c.await_step.new.self
@@ -29,8 +27,7 @@ returns-then-not-go_on-clause-stuck g c =
 
 pub returns-else-not-go_on-clause-stuck : goal.returns-else-not-go_on-clause-stuck
 returns-else-not-go_on-clause-stuck g c =
-    c.go_on.ensures.found.0 (subst (λ (h : CoreDriver _ _). AreStuck h.sender.end h.sender.kept.items) (sym c.give_way.ensures.rest)
-    c.send_all-has_room.ensures.stuck)
+    c.go_on.ensures.found.0 (rw c.give_way.ensures.rest c.send_all-has_room.ensures.stuck)
 
 pub returns-else-not-go_on-clause-turned : goal.returns-else-not-go_on-clause-turned
 returns-else-not-go_on-clause-turned g c = λ _.

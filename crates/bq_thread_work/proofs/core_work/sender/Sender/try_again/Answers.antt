@@ -1,5 +1,4 @@
-use Rattle.std.proofs.Common.{◌∙◌, ◌++◌, arith, ap, length, subst, sym}
-use Rattle.bq_thread_work.specs.Sending.{AreSent}
+use Rattle.std.proofs.Common.{◌∙◌, ◌++◌, arith, ap, length}
 use Rattle.bq_thread_work.proofs.SendingLemmas.{sent_next, sent_on}
 use Rattle.bq_thread_work.proofs.core_work.sender.Sender.try_again.Goals as goal
 
@@ -15,10 +14,10 @@ loop-seat-preserved c =
           let e = c.send_or_keep.ensures.ends in let a = ap (λ q. length q.items) aside in
           omega (arith, i, l, f, e, a);
       ends = c.send_or_keep.ensures.ends ∙ c.loop-seat.invariant.ends;
-      sent = subst (λ q. AreSent c.args.self.now.end c.args.self.now.kept.items after.end (after.kept.items ++ q.items)) (sym aside)
+      sent = rw aside
           (sent_on c.args.self.now.end before.end after.end c.args.self.now.kept.items (before.kept.items ++ before.aside.items)
-          (after.kept.items ++ c.pop_front.new.self.items) c.loop-seat.invariant.sent
-          (sent_next before.end after.end before.kept.items before.aside.items c.pop_front.new.self.items after.kept.items
-          (c.in-Some.seat, c.in-Some.answer) c.in-Some.ensures.items c.send_or_keep.ensures.sent));
+          (after.kept.items ++ c.pop_front.new.self.items) c.loop-seat.invariant.sent (sent_next before.end after.end before.kept.items
+          before.aside.items c.pop_front.new.self.items after.kept.items (c.in-Some.seat, c.in-Some.answer) c.in-Some.ensures.items
+          c.send_or_keep.ensures.sent));
       stuck = c.send_or_keep.ensures.stuck;
     }
