@@ -6,7 +6,7 @@ ghost use Rattle.bq_event_loop.specs.ControlTold.{TellsOn};
 ghost use Rattle.bq_host.specs.MailStates.{IsInOrder};
 ghost use Rattle.bq_event_loop.specs.Known.{AreKnown, ChangesOnly, ChangesOnlyIn, KeepsAll};
 ghost use Rattle.bq_event_loop.specs.LoopCores.{WentAt, WentInOrder, state_of};
-ghost use Rattle.bq_event_loop.specs.Rows.{AreDone};
+ghost use Rattle.bq_event_loop.specs.Rows.{AreDone, AreTended, KeepsRow};
 ghost use Rattle.bq_event_loop.specs.Serving.{AreReady, AreReadyFor, IsServing, ServesOn, TurnServes};
 ghost use Rattle.bq_event_loop.specs.SoFar.{beginning};
 ghost use Rattle.bq_event_loop.specs.Sleeping.{IsWaitFor, stands_of};
@@ -26,11 +26,12 @@ use crate::waiting::end_turn;
 use bq_core_api::QueueCore;
 use bq_job::Seat;
 use bq_line::Door;
-use bq_line::attendant::Progress;
+use bq_line::attendant::{LinePlace, Progress};
 use bq_line::buffers::Buffers;
 use bq_line::clock::Clock;
 use bq_line::control_line::ControlInput;
 use bq_line::line::{Line, ReadBuffer};
+use bq_seat::PIECE_ROOM;
 use std::snapshot::Snapshot;
 
 // How many actions a turn has at most: a seat reads, submits a step, takes the answer and writes it.
@@ -287,9 +288,9 @@ fn goes_with(extent: Extent, stands: Stands) -> bool
     }
 }
 
-// Does as much of a seat as the turn says. Its connection has the read buffer meanwhile. One that
-// keeps bytes keeps the buffer and gives its own in exchange. If it has ended, its door gives it
-// back.
+// Does as much of a seat as the turn says. If its connection uses a read buffer, it has this one
+// meanwhile. One that keeps bytes keeps the buffer and gives its own in exchange. If it has ended,
+// its door gives it back.
 fn act_with_buffer<L: Line + Drop, D: Door<Line = L>, C: Clock + Drop, K: QueueCore + Drop>(
     row: &mut Row<L, D>,
     core: &mut LoopCore<C, K>,
@@ -304,10 +305,39 @@ fn act_with_buffer<L: Line + Drop, D: Door<Line = L>, C: Clock + Drop, K: QueueC
     ensures only { ChangesOnly seat row.old.seats.items row.new.seats.items }
     ensures wakes { Wakes core.old.mails.items core.new.mails.items core.old.woken core.new.woken }
 {
-    row.exchange(seat, buffer);
+    let lends = uses_buffer(row, seat);
+    exchange_if(lends, row, seat, buffer);
     let progress = act_to_extent(row, core, seat, buffers, extent);
-    row.exchange(seat, buffer);
+    exchange_if(lends, row, seat, buffer);
     progress
+}
+
+// Returns true if the connection of a seat has bytes in its read buffer, or if a body lacks more bytes
+// than a piece holds.
+fn uses_buffer<L: Line + Drop, D: Door<Line = L>>(row: &Row<L, D>, seat: usize) -> bool {
+    let Some(seat) = row.seats.get(seat) else {
+        return false;
+    };
+    match &seat.place {
+        LinePlace::On(line, _, _) => line.has_unread() || seat.machine.missing() > PIECE_ROOM,
+        _ => false,
+    }
+}
+
+// Swaps the read buffer of a seat with this one if that is wanted and both are empty.
+fn exchange_if<L: Line + Drop, D: Door<Line = L>>(
+    lends: bool,
+    row: &mut Row<L, D>,
+    seat: usize,
+    buffer: &mut ReadBuffer,
+)
+    requires tended { AreTended L.seen (door_seen D.is_out D.is_at_end D.lines_over) row.old }
+    ensures keeps { KeepsRow L.seen (door_seen D.is_out D.is_at_end D.lines_over) D.same row.old row.new }
+    ensures only { ChangesOnly seat row.old.seats.items row.new.seats.items }
+{
+    if lends {
+        row.exchange(seat, buffer);
+    }
 }
 
 // Does as much of a seat as the turn says. A command is one turn, since a turn costs as much as a

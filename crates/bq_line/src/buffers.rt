@@ -21,8 +21,8 @@ use std::alloc::Global;
 /// first.
 #[derive(Drop)]
 pub struct Buffers {
-    /// Most answers with a body are joined here, and a connection without a buffer of its own is
-    /// read into it.
+    /// Most answers with a body are joined here, and a connection is read into it, except for the
+    /// rest of a long body.
     pub piece: [u8; PIECE_ROOM],
     /// For the head of an answer.
     pub head: HeadBuf,
@@ -387,9 +387,28 @@ fn after_error(e: StreamError) -> Wrote
 }
 
 /// Reads the connection once and passes what came to the seat machine, which puts its next action
-/// into `next`. Bytes in the connection's own buffer are passed on without copying them. A
-/// connection without a buffer is read into `piece`.
+/// into `next`. Mostly the connection is read into `piece`. It is read through its own buffer if that
+/// has bytes, or a body lacks more than a piece; these bytes are passed on without copying them.
 pub fn read<L: Line>(
+    alloc: Global,
+    machine: &mut SeatMachine,
+    next: &mut Action,
+    line: &mut L,
+    piece: &mut [u8],
+) -> Progress
+    requires { length piece.old ≡ PIECE_ROOM }
+    ensures { ReadsLine L.seen L.lies_over result machine.old line.old machine.new line.new next.new }
+{
+    if line.has_unread() || machine.missing() > PIECE_ROOM {
+        read_buffered(alloc, machine, next, line, piece)
+    } else {
+        read_piece(alloc, machine, next, line, piece)
+    }
+}
+
+// Reads the connection through its own buffer.
+#[inline(never)]
+fn read_buffered<L: Line>(
     alloc: Global,
     machine: &mut SeatMachine,
     next: &mut Action,
@@ -431,7 +450,6 @@ fn hand_on<L: Line>(
 }
 
 // Passes on as many bytes as the body lacks, or all that there are.
-#[inline(never)]
 fn hand_on_body<L: Line>(
     alloc: Global,
     machine: &mut SeatMachine,
@@ -460,6 +478,7 @@ fn body_at_hand<L: Line>(machine: &SeatMachine, line: &L) -> usize
     line.unread().len().min(machine.missing())
 }
 
+// Reads the connection into the piece.
 fn read_piece<L: Line>(
     alloc: Global,
     machine: &mut SeatMachine,
@@ -514,7 +533,7 @@ fn fill_line<L: Line>(machine: &SeatMachine, line: &mut L) -> Result<(), StreamE
     line.fill(!machine.has_outstanding())
 }
 
-// Does the same for a connection without a buffer of its own.
+// Reads a connection into the piece, and waits and sends in the same way.
 fn read_line<L: Line>(
     machine: &SeatMachine,
     line: &mut L,
@@ -525,6 +544,7 @@ fn read_line<L: Line>(
     ensures seen { L.seen line.new ≡ after_read result piece.new (L.seen line.old) }
     ensures stays { StaysOver L.lies_over line.old line.new }
 {
+    line.expect_more(false);
     if machine.has_outstanding() {
         line.read_now(piece)
     } else {

@@ -237,9 +237,10 @@ impl<S: Duplex> Line for IoLine<S> {
     ghost no_fault = { λ first line over. over.fault };
 }
 
-/// A connection over a stream that is read through a buffer of the connection's own. Buffered bytes
-/// are lent to the caller, so that they need not be copied. The stream is read only if the buffer
-/// is empty, for as many bytes as fit. Writes go to the stream at once.
+/// A connection over a stream that can be read through a buffer of the connection's own. Buffered
+/// bytes are lent to the caller, so that they need not be copied. The stream is read only if the
+/// buffer is empty: into it by `fill`, for as many bytes as fit, and past it by `read`. Writes go to
+/// the stream at once.
 #[derive(Drop)]
 pub struct BufferedLine<S> {
     line: IoLine<S>,
@@ -264,7 +265,7 @@ impl<S: Duplex> BufferedLine<S> {
         }
     }
 
-    // Reads from the buffer once or, if it is empty, from the stream.
+    // Reads from the buffer once or, if it is empty, from the stream past it.
     fn read_by(&mut self, buf: &mut [u8], waits: bool) -> Result<usize, StreamError>
         requires { 0 < length buf.old }
         ensures bound { ReadsAtMost result buf.new }

@@ -157,7 +157,7 @@ pub fn fill<S: Duplex>(
     }
 }
 
-/// Reads from the buffer. If it is empty, reads the stream into it once first.
+/// Reads from the buffer. If it is empty, reads the stream once, past the buffer.
 pub fn read_through<S: Duplex>(
     buffer: &mut ReadBuffer,
     stream: &mut S,
@@ -170,8 +170,11 @@ pub fn read_through<S: Duplex>(
     ensures fault { FailsIf (S.may_fail stream.old) result }
     ensures same { S.may_fail stream.new ≡ S.may_fail stream.old }
 {
-    fill(buffer, stream, waits)?;
-    Ok(give(buffer, buf))
+    if buffer.is_empty() {
+        read_by(stream, buf, waits)
+    } else {
+        Ok(give(buffer, buf))
+    }
 }
 
 // Moves as many bytes as possible from the front of the buffer into `buf`, and returns how many.
