@@ -39,6 +39,8 @@ pub struct LoopCore<C, K> {
     pub is_sorted: bool,
     /// The seats that received mail and have to be woken.
     pub woken: Woken,
+    /// True if the clock was read since the loop waited.
+    pub is_fresh: bool,
 }
 
 impl<C: Clock + Drop, K: QueueCore + Drop> LoopCore<C, K> {
@@ -73,6 +75,7 @@ impl<C: Clock + Drop, K: QueueCore + Drop> LoopCore<C, K> {
             mails,
             is_sorted: true,
             woken,
+            is_fresh: false,
         })
     }
 
@@ -99,6 +102,7 @@ impl<C: Clock + Drop, K: QueueCore + Drop> LoopCore<C, K> {
         ensures went { WentInOrder K.machine K.comparisons C.given seat self.old (as_submitted what.now) [] self.new }
     {
         self.is_sorted = false;
+        self.is_fresh = true;
         self.timed.take_step(seat, what);
     }
 
@@ -320,6 +324,9 @@ impl<C: Clock + Drop, K: QueueCore + Drop> LoopCore<C, K> {
 
     /// Takes a tick if something is due by now, and puts all answers into the mail. Returns in how
     /// many milliseconds something is due next, or `None` if nothing is; 0 if something was due.
+    ///
+    /// A reading of the clock since the last call is taken for the moment now, so the loop calls
+    /// this before each wait, and only then.
     pub fn pass_time(&mut self) -> Option<u64>
         requires order { IsInOrder (state_of K.machine K.comparisons self.old) }
         ensures went { WentInOrder K.machine K.comparisons C.given 0 self.old [] [] self.new }
@@ -328,6 +335,7 @@ impl<C: Clock + Drop, K: QueueCore + Drop> LoopCore<C, K> {
         ensures within { IsLimit result (next_due (K.machine self.new.timed.core)) self.new.timed.time.moment }
     {
         let ticks = self.tick_if_due();
+        self.is_fresh = false;
         let _all = self.sort(0);
         self.rest(ticks)
     }
@@ -369,7 +377,7 @@ impl<C: Clock + Drop, K: QueueCore + Drop> LoopCore<C, K> {
         ensures same { K.machine self.new.timed.core ≡ K.machine self.old.timed.core }
         ensures went { WentInOrder K.machine K.comparisons C.given 0 self.old [] [] self.new }
     {
-        self.timed.is_due()
+        self.timed.is_due(self.is_fresh)
     }
 
     // The same, and takes a tick then.
@@ -382,7 +390,7 @@ impl<C: Clock + Drop, K: QueueCore + Drop> LoopCore<C, K> {
         ensures same { result ≡ false → K.machine self.new.timed.core ≡ K.machine self.old.timed.core }
         ensures went { WentInOrder K.machine K.comparisons C.given 0 self.old [] [] self.new }
     {
-        let ticks = self.timed.tick_if_due(0);
+        let ticks = self.timed.tick_if_due(0, self.is_fresh);
         self.is_sorted = !ticks;
         ticks
     }

@@ -161,7 +161,10 @@ impl<C: Clock + Drop, K: QueueCore + Drop> TimedCore<C, K> {
 
     /// Takes a tick if something is due by now, and returns whether it did. The clock is read
     /// once, unless nothing will ever be due; the tick is taken at the moment of that reading.
-    pub fn tick_if_due(&mut self, seat: Seat) -> bool
+    ///
+    /// `is_fresh` says that the last reading is as good as a new one: if nothing was due then, the
+    /// clock is not read.
+    pub fn tick_if_due(&mut self, seat: Seat, is_fresh: bool) -> bool
         requires ready { IsReady K.machine self.old }
         ensures ready { IsReady K.machine self.new }
         ensures over { result ≡ false → PassesOver C.given K.machine K.comparisons self.old self.new }
@@ -171,7 +174,7 @@ impl<C: Clock + Drop, K: QueueCore + Drop> TimedCore<C, K> {
         ensures due { self.new.due ≡ next_due (K.machine self.old.core) }
         ensures settings { (K.machine self.new.core).settings ≡ (K.machine self.old.core).settings }
     {
-        if !self.is_due() {
+        if !self.is_due(is_fresh) {
             return false;
         }
         self.tick(seat);
@@ -198,8 +201,8 @@ impl<C: Clock + Drop, K: QueueCore + Drop> TimedCore<C, K> {
     }
 
     /// Returns whether something is due by now. The clock is read once, unless nothing will
-    /// ever be due.
-    pub fn is_due(&mut self) -> bool
+    /// ever be due, or the last reading is fresh and nothing was due then.
+    pub fn is_due(&mut self, is_fresh: bool) -> bool
         requires ready { IsReady K.machine self.old }
         ensures ready { IsReady K.machine self.new }
         ensures over { PassesOver C.given K.machine K.comparisons self.old self.new }
@@ -212,6 +215,9 @@ impl<C: Clock + Drop, K: QueueCore + Drop> TimedCore<C, K> {
         let Some(due) = self.look() else {
             return false;
         };
+        if is_fresh && self.time.moment < due {
+            return false;
+        }
         self.hear();
         if due > self.time.moment {
             return false;

@@ -105,7 +105,7 @@ impl<C: Clock + Drop> Desk<C> {
         ensures many { length (state_of self.new).mails ≡ length (state_of self.old).mails }
         ensures went { WentAt C.given seat self.old [] [] self.new }
     {
-        let _ticks = self.timed.tick_if_due(seat);
+        let _ticks = self.timed.tick_if_due(seat, false);
     }
 
     fn take_mail(&mut self, seat: Seat) -> Option<Answer>

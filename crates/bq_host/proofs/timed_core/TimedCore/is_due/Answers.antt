@@ -13,6 +13,15 @@ returns-in_default-clause-over g c =
       inl refl,
     )
 
+pub returns-then-self-due-clause-over : goal.returns-then-self-due-clause-over
+returns-then-self-due-clause-over g c =
+    let l = c.look.ensures in (
+      c.look.new.self,
+      looked g.K.QueueCore.machine g.K.QueueCore.comparisons c.args.self.now c.look.new.self c.look.result l.due l.known
+          l.same l.once l.rest,
+      inl refl,
+    )
+
 pub returns-then-due-self-clause-ready : goal.returns-then-due-self-clause-ready
 returns-then-due-self-clause-ready g c =
     let o = c.look.ensures.ready in
