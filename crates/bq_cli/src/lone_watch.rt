@@ -146,9 +146,16 @@ impl<'e, 'r, R: rt::Clock + Eprint> Sleeper for LoneWatch<'e, 'r, R> {
             .sleep(turns, row, mails, so_far, doors, due, most);
     }
 
-    fn ask(&mut self) {
+    fn ask<T: Turns>(
+        &mut self,
+        turns: &T,
+        doors: &Doors,
+        due: Option<u64>,
+        stands: ControlStands,
+        reads: Option<ControlReads>,
+    ) {
         let _keeps = self.keeps_reports();
-        self.watch.ask();
+        self.watch.ask(turns, doors, due, stands, reads);
     }
 
     fn reports(&self) -> usize {

@@ -4,7 +4,7 @@ ghost use Rattle.std.specs.Option.{option_map};
 ghost use Rattle.std.specs.Duration.{as_nanos};
 ghost use Rattle.bq_event_loop.specs.Accepting.{may_come, rests};
 ghost use Rattle.bq_event_loop.specs.Known.{AreStill};
-ghost use Rattle.bq_event_loop.specs.Sleeping.{IsNoLonger, MayWait, stands_of};
+ghost use Rattle.bq_event_loop.specs.Sleeping.{HasWork, IsNoLonger, MayWait, stands_of};
 
 use crate::doors::Doors;
 use crate::row::Row;
@@ -32,7 +32,7 @@ pub enum Report {
 }
 
 /// Waits for the system. The loop waits by `sleep` alone, so it can wait only while nothing moves
-/// at any seat.
+/// at any seat. It asks without waiting only if something is left to be done.
 pub trait Sleeper {
     /// The clock by which a shortage of resources is waited out.
     type System: rt::Clock;
@@ -90,8 +90,21 @@ pub trait Sleeper {
         requires control { awaits_control self.old ≡ true }
         requires owes { stands_of so_far.now.whole_control.value.owes_drain so_far.now.whole_control.value.stage ≡ ControlStands.Owes → ⊥ };
 
-    /// Asks the system what it has to report, without waiting.
-    fn ask(&mut self);
+    /// Asks the system what it has to report, without waiting. The loop does so only if something
+    /// is left to be done, so it does not ask again and again. `due` is as in `sleep`, and `reads`
+    /// is how far the control line, which stands so, is read. All is passed for the contract alone.
+    fn ask<T: Turns>(
+        &mut self,
+        turns: &T,
+        doors: &Doors,
+        due: Option<u64>,
+        stands: ControlStands,
+        reads: Option<ControlReads>,
+    )
+        // A seat acts, or checks for a client that may have come, connections are left to be
+        // closed, something is due now, or the control line owes a step or is read.
+        requires work { HasWork (may_come doors.now.accepts) (T.listed turns.now) (T.looks turns.now) doors.now.are_more_away
+            due stands reads };
 
     /// Returns how many reports the last wait or question gave.
     fn reports(&self) -> usize;

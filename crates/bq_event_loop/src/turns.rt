@@ -241,5 +241,5 @@ pub trait Turns {
         ensures looks { (seat : ℕ) → looks self.new seat ≡ looks self.old seat }
         ensures acts { result ≡ true → (seat : ℕ) → listed self.old seat ≡ false }
         ensures checks { result ≡ true → may_come ≡ true → (seat : ℕ) → looks self.old seat ≡ false }
-        ensures busy { result ≡ false → AreIdle may_come (listed self.old) (looks self.old) → ⊥ };
+        ensures busy { result ≡ false → AreIdle may_come (listed self.new) (looks self.new) → ⊥ };
 }

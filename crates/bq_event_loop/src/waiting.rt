@@ -240,7 +240,7 @@ fn sleep_or_ask<
 {
     let reads = sleeper.control_reads(news.control);
     if is_busy(turns, doors, news, reads) {
-        sleeper.ask();
+        sleeper.ask(turns, doors, news.due, news.control, reads);
         return;
     }
     let most = doors.longest_wait(sleeper.system(), news.due);
@@ -260,7 +260,7 @@ fn is_busy<T: Turns>(turns: &mut T, doors: &Doors, news: &News, reads: Option<Co
     ensures due { result ≡ false → news.now.due ≡ Some 0 → ⊥ }
     ensures owes { result ≡ false → news.now.control ≡ ControlStands.Owes → ⊥ }
     ensures control { result ≡ false → reads ≡ None }
-    ensures busy { result ≡ true → HasWork (may_come doors.now.accepts) (T.listed turns.old) (T.looks turns.old)
+    ensures busy { result ≡ true → HasWork (may_come doors.now.accepts) (T.listed turns.new) (T.looks turns.new)
         doors.now.are_more_away news.now.due news.now.control reads }
 {
     if !turns.may_sleep(doors.may_come()) {

@@ -115,7 +115,14 @@ impl<'r, R: rt::Clock> Sleeper for Watch<'r, R> {
         let _polled = self.poll.poll(&mut self.events, most);
     }
 
-    fn ask(&mut self) {
+    fn ask<T: Turns>(
+        &mut self,
+        _turns: &T,
+        _doors: &Doors,
+        _due: Option<u64>,
+        _stands: ControlStands,
+        _reads: Option<ControlReads>,
+    ) {
         let _polled = self.poll.poll(&mut self.events, Some(Duration::ZERO));
     }
 

@@ -94,7 +94,14 @@ impl<'t> Sleeper for Nobody<'t> {
         self.all.note_slept();
     }
 
-    fn ask(&mut self) {}
+    fn ask<T: Turns>(
+        &mut self,
+        _turns: &T,
+        _doors: &Doors,
+        _due: Option<u64>,
+        _stands: ControlStands,
+        _reads: Option<ControlReads>,
+    ) {}
 
     fn reports(&self) -> usize {
         0
