@@ -9,6 +9,7 @@ pub mod LoopCores
 pub mod Marks
 pub mod NewLoops
 pub mod Refused
+pub mod Reports
 pub mod Rows
 pub mod Serving
 pub mod Sleeping

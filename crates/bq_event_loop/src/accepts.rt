@@ -36,7 +36,7 @@ pub struct Accepts {
 }
 
 impl Accepts {
-    ghost use Rattle.bq_event_loop.specs.Accepting.{may_come, rests};
+    ghost use Rattle.bq_event_loop.specs.Accepting.{IsPassed, may_come, rests};
 
     /// Returns the state at the start, when connections may have come before anything was watched.
     pub fn new() -> Accepts
@@ -73,7 +73,7 @@ impl Accepts {
     /// again.
     pub fn rest<R: rt::Clock>(&mut self, rt: &R)
         ensures rests { rests self.new.rest ≡ true }
-        ensures kept { self.new.may_have_come ≡ self.old.may_have_come }
+        ensures kept { self.new ≡ record self.old { rest = self.new.rest } }
     {
         self.rest = match Instant::now(rt) {
             Ok(now) => match now.checked_add(Duration::from_millis(REST)) {
@@ -102,15 +102,18 @@ impl Accepts {
 
     /// Notes that a wait has ended, and ends the pause if its time has passed.
     pub fn pass<R: rt::Clock>(&mut self, rt: &R)
-        ensures ends { rests self.old.rest ≡ false → rests self.new.rest ≡ false }
-        ensures kept { self.new.may_have_come ≡ self.old.may_have_come }
+        ensures passed { IsPassed self.old.rest self.new.rest }
+        ensures kept { self.new ≡ record self.old { rest = self.new.rest } }
     {
         if self.is_rested(rt) {
             self.rest = Rest::None;
         }
     }
 
-    fn is_rested<R: rt::Clock>(&self, rt: &R) -> bool {
+    // Returns true if a pause ends with this wait, or there is none.
+    fn is_rested<R: rt::Clock>(&self, rt: &R) -> bool
+        ensures { result ≡ false → IsPassed self.now.rest self.now.rest }
+    {
         match self.rest {
             Rest::Until(until) => match Instant::now(rt) {
                 Ok(now) => now >= until,

@@ -2,7 +2,8 @@
 ghost use Rattle.std.specs.Prelude.{◌≡◌, true, false, Some};
 ghost use Rattle.std.specs.Option.{option_map};
 ghost use Rattle.std.specs.Duration.{as_nanos};
-ghost use Rattle.bq_event_loop.specs.Accepting.{may_come, rests};
+ghost use Rattle.bq_event_loop.specs.Accepting.{IsPassed, may_come, rests};
+ghost use Rattle.bq_event_loop.specs.Reports.{AfterTurningAway, IsAfterLook, IsTurnedAway, one_came};
 ghost use Rattle.bq_event_loop.specs.Sleeping.{IsNoLonger};
 
 use crate::accepts::Accepts;
@@ -51,14 +52,15 @@ impl Doors {
     }
 
     /// Notes that the system reported a connection.
-    pub(crate) fn one_may_have_come(&mut self) {
+    pub(crate) fn one_may_have_come(&mut self)
+        ensures { self.new ≡ one_came self.old }
+    {
         self.accepts.one_may_have_come();
     }
 
     /// Notes the result of a check for a connection, and whether one may have come before it.
     pub(crate) fn note_looked<R: rt::Clock>(&mut self, rt: &R, may_have_come: bool, looked: Looked)
-        ensures seen { (looked ≡ Looked.NotYet → ⊥) → self.new.accepts.may_have_come ≡ self.old.accepts.may_have_come }
-        ensures rests { looked ≡ Looked.Later → rests self.new.accepts.rest ≡ true }
+        ensures { IsAfterLook looked may_have_come self.old self.new }
     {
         match looked {
             Looked::Opened | Looked::NoMore => {}
@@ -77,26 +79,31 @@ impl Doors {
         &mut self,
         rt: &R,
         row: &Row<L, D>,
-    ) {
-        for _ in 0..TURNED_AWAY {
-            match row.turn_away() {
-                TurnedAway::Closed => {}
-                TurnedAway::Waits => return,
-                TurnedAway::NoneThere => {
-                    self.accepts.none_there();
-                    return;
-                }
-                TurnedAway::Later => {
-                    self.accepts.rest(rt);
-                    return;
-                }
-            }
-        }
-        self.are_more_away = true;
+    )
+        ensures { IsTurnedAway self.old self.new }
+    {
+        self.note_turned_away(rt, close_some(row));
     }
 
-    /// Notes that a wait has ended.
-    pub(crate) fn pass<R: rt::Clock>(&mut self, rt: &R) {
+    // Notes the result of the last of these closes. If it is `Closed`, more connections may wait.
+    fn note_turned_away<R: rt::Clock>(&mut self, rt: &R, turned: TurnedAway)
+        ensures { AfterTurningAway turned self.old self.new }
+    {
+        match turned {
+            TurnedAway::Closed => self.are_more_away = true,
+            TurnedAway::Waits => {}
+            TurnedAway::NoneThere => self.accepts.none_there(),
+            TurnedAway::Later => self.accepts.rest(rt),
+        }
+    }
+
+    /// Notes that a wait has ended. No connections are left to be closed, and a pause ends if its
+    /// time has passed.
+    pub(crate) fn pass<R: rt::Clock>(&mut self, rt: &R)
+        ensures away { self.new.are_more_away ≡ false }
+        ensures came { self.new.accepts.may_have_come ≡ self.old.accepts.may_have_come }
+        ensures rest { IsPassed self.old.accepts.rest self.new.accepts.rest }
+    {
         self.are_more_away = false;
         self.accepts.pass(rt);
     }
@@ -109,4 +116,16 @@ impl Doors {
     {
         longest_wait(due, self.accepts.rests_for(rt))
     }
+}
+
+// Lets a door close connections one by one, until it closes none or some were closed. Returns what
+// the last try did.
+fn close_some<L: Line + Drop, D: Door<Line = L>>(row: &Row<L, D>) -> TurnedAway {
+    for _ in 0..TURNED_AWAY {
+        let turned = row.turn_away();
+        if turned != TurnedAway::Closed {
+            return turned;
+        }
+    }
+    TurnedAway::Closed
 }

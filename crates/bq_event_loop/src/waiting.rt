@@ -2,7 +2,8 @@
 ghost use Rattle.std.specs.Prelude.{◌≡◌, ◌⊎◌, ℕ, [], true, false, None, Some};
 ghost use Rattle.bq_line.specs.Tending.{door_seen};
 ghost use Rattle.bq_event_loop.specs.Accepting.{may_come};
-ghost use Rattle.bq_event_loop.specs.Known.{AreKnown, ChangesOnly, IsFreeSeat, IsListedIn, IsStillSeat};
+ghost use Rattle.bq_event_loop.specs.Known.{AreKnown, ChangesOnly, IsFreeSeat, IsListedIn, IsStillSeat, KeepsAll};
+ghost use Rattle.bq_event_loop.specs.Reports.{ChangesOnlyBy, IsAfterTurn, IsToldOf, MayHaveCome, doors_after};
 ghost use Rattle.bq_event_loop.specs.Rows.{AreTended, KeepsRow};
 ghost use Rattle.bq_event_loop.specs.Sleeping.{HasWork, IsAtTurn};
 
@@ -68,6 +69,9 @@ pub fn end_turn<
     ensures still { IsStillSeat L.may_give L.may_take news.new.still row.new.seats.items mails.now.items }
     ensures due { news.new.due ≡ news.old.due }
     ensures control { news.new.control ≡ news.old.control }
+    // The turns learn whether a door should be checked.
+    ensures may_come { news.old.may_come ≡ may_come doors.old.accepts → news.new.may_come ≡ may_come doors.new.accepts }
+    ensures doors { IsAfterTurn turn news.new.free doors.old doors.new }
 {
     news.free = None;
     news.still = None;
@@ -101,6 +105,7 @@ fn note_seat<L: Line + Drop, D: Door<Line = L>>(
     ensures free { news.new.free ≡ news.old.free }
     ensures due { news.new.due ≡ news.old.due }
     ensures control { news.new.control ≡ news.old.control }
+    ensures may_come { news.new.may_come ≡ news.old.may_come }
 {
     news.stands = row.stands(seat);
     news.tries_again = row.tries_again(seat);
@@ -151,6 +156,9 @@ fn look<W: Sleeper, L: Line + Drop, D: Door<Line = L>>(
     ensures still { news.new.still ≡ news.old.still }
     ensures due { news.new.due ≡ news.old.due }
     ensures control { news.new.control ≡ news.old.control }
+    ensures may_come { news.new.may_come ≡ may_come doors.new.accepts }
+    // Only a check that found no client changes what is known of the doors.
+    ensures found { news.new.free ≡ None → doors.new ≡ doors.old }
 {
     let may_have_come = doors.may_come();
     let watcher = LineWatcher { sleeper, seat };
@@ -163,7 +171,8 @@ fn look<W: Sleeper, L: Line + Drop, D: Door<Line = L>>(
 
 // Returns the seat if it found no client and checks again when one may have come.
 fn free_after(looked: Looked, seat: usize) -> Option<usize>
-    ensures { (free : ℕ) → result ≡ Some free → (free ≡ seat) × ((looked ≡ Looked.NotYet) ⊎ (looked ≡ Looked.Later)) }
+    ensures some { (free : ℕ) → result ≡ Some free → (free ≡ seat) × ((looked ≡ Looked.NotYet) ⊎ (looked ≡ Looked.Later)) }
+    ensures none { result ≡ None → (looked ≡ Looked.Opened) ⊎ (looked ≡ Looked.NoMore) }
 {
     match looked {
         Looked::Opened | Looked::NoMore => None,
@@ -207,6 +216,8 @@ fn wait<
     ensures still { news.new.still ≡ news.old.still }
     ensures due { news.new.due ≡ news.old.due }
     ensures control { news.new.control ≡ news.old.control }
+    ensures may_come { news.new.may_come ≡ may_come doors.new.accepts }
+    ensures come { doors.old.accepts.may_have_come ≡ true → doors.new.accepts.may_have_come ≡ true }
 {
     sleep_or_ask(turns, sleeper, doors, row, mails, news, so_far);
     doors.pass(sleeper.system());
@@ -300,6 +311,8 @@ fn note_reports<T: Turns, W: Sleeper, L: Line + Drop, D: Door<Line = L>>(
     ensures keeps { KeepsRow L.seen (door_seen D.is_out D.is_at_end D.lines_over) D.same row.old row.new }
     ensures known { AreKnown L.may_give L.may_take (T.seats turns.new) (T.listed turns.new) (T.looks turns.new) []
         row.new.seats.items mails.now.items }
+    ensures listed { KeepsAll (T.listed turns.old) (T.listed turns.new) }
+    ensures doors { MayHaveCome doors.old doors.new }
 {
     for number in 0..sleeper.reports() {
         let report = sleeper.report(number);
@@ -307,6 +320,7 @@ fn note_reports<T: Turns, W: Sleeper, L: Line + Drop, D: Door<Line = L>>(
     }
 }
 
+// Notes one report: it wakes the seat of a connection, or notes that a client may have connected.
 fn note_report<T: Turns, L: Line + Drop, D: Door<Line = L>>(
     report: Report,
     turns: &mut T,
@@ -320,6 +334,10 @@ fn note_report<T: Turns, L: Line + Drop, D: Door<Line = L>>(
     ensures keeps { KeepsRow L.seen (door_seen D.is_out D.is_at_end D.lines_over) D.same row.old row.new }
     ensures known { AreKnown L.may_give L.may_take (T.seats turns.new) (T.listed turns.new) (T.looks turns.new) []
         row.new.seats.items mails.now.items }
+    ensures woken { IsToldOf report (T.seats turns.old) (T.looks turns.old) (T.listed turns.new) }
+    ensures listed { KeepsAll (T.listed turns.old) (T.listed turns.new) }
+    ensures only { ChangesOnlyBy report row.old.seats.items row.new.seats.items }
+    ensures doors { doors.new ≡ doors_after report doors.old }
 {
     match report {
         Report::Line(seat, ready) => {

@@ -1,8 +1,10 @@
 //! The system as epoll (`mio`) reports it.
 ghost use Rattle.std.specs.Prelude.{◌≡◌, None, true, IfOk, IfSome};
+ghost use Rattle.mio.specs.Event.{event_token};
+ghost use Rattle.bq_event_loop.specs.Reports.{IsReportOf};
 ghost use Rattle.bq_event_loop.specs.Sleeping.{is_awaited};
 
-use crate::control_watch::{CONTROL, ControlCame, ControlWatch};
+use crate::control_watch::{ControlCame, ControlWatch};
 use crate::doors::Doors;
 use crate::row::Row;
 use crate::sleeper::{Report, Sleeper};
@@ -134,17 +136,11 @@ impl<'r, R: rt::Clock> Sleeper for Watch<'r, R> {
         let Some(event) = self.events.iter().as_slice().get(number) else {
             return Report::Nothing;
         };
-        let token = event.token();
-        if token == DOORS {
-            return Report::Doors;
-        }
-        if token == CONTROL {
-            if let Some(came) = ControlCame::of(event) {
-                self.control.more_came(came);
-            }
+        if let Some(came) = ControlCame::of(event) {
+            self.control.more_came(came);
             return Report::Nothing;
         }
-        Report::Line(token.0, readiness_of(event))
+        report_of(event)
     }
 }
 
@@ -180,6 +176,17 @@ fn watch_listener(registry: &Registry, watched: Option<RawFd>, fd: RawFd) -> Res
         Ok(()) => Ok(()),
         Err(_) => Err(TurnsFault::Refused),
     }
+}
+
+// Returns the report that an event of a door or a connection is.
+fn report_of(event: &Event) -> Report
+    ensures { IsReportOf (event_token event.now) result }
+{
+    let token = event.token();
+    if token == DOORS {
+        return Report::Doors;
+    }
+    Report::Line(token.0, readiness_of(event))
 }
 
 fn readiness_of(event: &Event) -> Readiness {

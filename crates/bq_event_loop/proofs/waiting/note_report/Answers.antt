@@ -1,3 +1,5 @@
+use Rattle.std.proofs.Common.{subst, sym}
+use Rattle.bq_event_loop.specs.Reports.{IsToldOf}
 use Rattle.bq_event_loop.proofs.WaitingLemmas.{known_reported}
 use Rattle.bq_event_loop.proofs.waiting.note_report.Goals as goal
 
@@ -8,3 +10,8 @@ returns-in-Line-clause-known g c =
     (g.T.Turns.listed c.args.turns.now) (g.T.Turns.looks c.args.turns.now) (g.T.Turns.listed c.wake.new.self)
     (g.T.Turns.looks c.wake.new.self) _ c.args.row.now.seats.items c.note_ready.new.self.seats.items c.args.mails.now.items told.seats
     told.woken told.keeps told.looking told.apart c.note_ready.ensures.only c.note_ready.ensures.between c.requires.known
+
+pub returns-in-Line-clause-woken : goal.returns-in-Line-clause-woken
+returns-in-Line-clause-woken g c =
+    subst (λ r. IsToldOf r (g.T.Turns.seats c.args.turns.now) (g.T.Turns.looks c.args.turns.now) (g.T.Turns.listed c.wake.new.self))
+    (sym c.in-Line.is) c.wake.ensures.woken
