@@ -1,7 +1,5 @@
 //! The system as an event loop sees it that has no other thread beside it.
 ghost use Rattle.std.specs.Prelude.{◌≤◌};
-ghost use Rattle.std.specs.Option.{option_map};
-ghost use Rattle.std.specs.Duration.{as_nanos};
 ghost use Rattle.bq_event_loop.specs.Sleeping.{is_awaited};
 ghost use Rattle.bq_cli.specs.Sooner.{IsSooner};
 
@@ -20,7 +18,6 @@ use std::alloc::Global;
 use std::io::Eprint;
 use std::net::Net;
 use std::os::fd::RawFd;
-use std::time::Duration;
 use std::{io, rt};
 
 /// How soon a report is tried again that standard error did not take, in milliseconds.
@@ -89,8 +86,8 @@ impl<'e, 'r, R: Eprint> LoneWatch<'e, 'r, R> {
     }
 
     // Tries reports again that wait. While they do, the loop does not sleep for long.
-    fn with_reports(&self, most: Option<Duration>) -> Option<Duration>
-        ensures { IsSooner (option_map as_nanos most) (option_map as_nanos result) }
+    fn with_reports(&self, most: Option<u64>) -> Option<u64>
+        ensures { IsSooner most result }
     {
         if self.keeps_reports() {
             return sooner(most);
@@ -139,7 +136,7 @@ impl<'e, 'r, R: rt::Clock + Eprint> Sleeper for LoneWatch<'e, 'r, R> {
         so_far: &SoFar<L, D, C, I, K>,
         doors: &Doors,
         due: Option<u64>,
-        most: Option<Duration>,
+        most: Option<u64>,
     ) {
         let most = self.with_reports(most);
         self.watch
@@ -168,18 +165,17 @@ impl<'e, 'r, R: rt::Clock + Eprint> Sleeper for LoneWatch<'e, 'r, R> {
 }
 
 // Returns a wait that is no longer than this one, and short.
-fn sooner(most: Option<Duration>) -> Option<Duration>
-    ensures { IsSooner (option_map as_nanos most) (option_map as_nanos result) }
+fn sooner(most: Option<u64>) -> Option<u64>
+    ensures { IsSooner most result }
 {
-    let again = Duration::from_millis(AGAIN);
     match most {
-        None => Some(again),
-        Some(most) => Some(shorter(most, again)),
+        None => Some(AGAIN),
+        Some(most) => Some(shorter(most)),
     }
 }
 
-fn shorter(most: Duration, again: Duration) -> Duration
-    ensures { as_nanos result ≤ as_nanos most }
+fn shorter(most: u64) -> u64
+    ensures { result ≤ most }
 {
-    if most < again { most } else { again }
+    if most < AGAIN { most } else { AGAIN }
 }

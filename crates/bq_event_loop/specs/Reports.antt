@@ -5,7 +5,6 @@ use Rattle.bq_line.specs.declared.attendant.Looked.{Looked}
 use Rattle.bq_line.specs.declared.attendant.Looked.TheVariants as results
 use Rattle.bq_line.specs.declared.door.turned_away.TurnedAway.{TurnedAway}
 use Rattle.bq_line.specs.declared.door.turned_away.TurnedAway.TheVariants as closes
-use Rattle.mio.specs.declared.token.Token.{Token}
 use Rattle.bq_event_loop.specs.Accepting.{rests}
 use Rattle.bq_event_loop.specs.Known.{ChangesOnly}
 use Rattle.bq_event_loop.specs.declared.doors.Doors.{Doors}
@@ -45,9 +44,9 @@ pub record IsTurnedAway (old new : Doors) : Type 0 where
   pub after : AfterTurningAway turned old new
 
 -- The report that an event with this token is, if it is not one of the control line.
-abbrev pub IsReportOf : Token → Report → Type 0
-IsReportOf token reports.Doors = token ≡ record { 0 = 18446744073709551614 }
-IsReportOf token (reports.Line seat ready) = (token ≡ record { 0 = seat }) × (seat ≢ 18446744073709551614)
+abbrev pub IsReportOf : ℕ → Report → Type 0
+IsReportOf token reports.Doors = token ≡ 18446744073709551614
+IsReportOf token (reports.Line seat ready) = (token ≡ seat) × (seat ≢ 18446744073709551614)
 IsReportOf token reports.Nothing = ⊥
 
 -- the doors after a report

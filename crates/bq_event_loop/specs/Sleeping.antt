@@ -1,5 +1,5 @@
 -- What holds when an event loop waits for the system.
-use Rattle.std.specs.Prelude.{ℕ, ◌≡◌, ◌≤◌, ◌*◌, ◌⊎◌, Bool, true, false, List, [], Option, Some, None}
+use Rattle.std.specs.Prelude.{ℕ, ◌≡◌, ◌≤◌, ◌⊎◌, Bool, true, false, List, [], Option, Some, None}
 use Rattle.bq_job.specs.beside.NextDue.{next_due}
 use Rattle.bq_job.specs.declared.answer.Answer.{Answer}
 use Rattle.bq_job.specs.machine.Machine.{Machine}
@@ -77,8 +77,8 @@ pub record IsAtTurn {L C I K : Type 0} (gives takes : L → Bool) (machine : K �
   pub in_time : IsWaitFor machine compared due core
   pub stands : standing ≡ stands_of control.owes_drain control.stage
 
--- A wait, in nanoseconds, that is no longer than this limit in milliseconds.
+-- A wait that is no longer than this limit. `None` stands for one without a limit.
 abbrev pub IsNoLonger : Option ℕ → Option ℕ → Type 0
 IsNoLonger wait None = Unit {0}
 IsNoLonger None (Some most) = ⊥
-IsNoLonger (Some wait) (Some most) = wait ≤ most * 1000000
+IsNoLonger (Some wait) (Some most) = wait ≤ most

@@ -1,6 +1,5 @@
 //! Whether connections may be accepted.
 ghost use Rattle.std.specs.Prelude.{◌≡◌, ◌≤◌, ◌↔◌, false, true, IfSome, IsNone};
-ghost use Rattle.std.specs.Duration.{as_nanos};
 
 use std::rt;
 use std::time::{Duration, Instant};
@@ -18,12 +17,16 @@ enum Rest {
     OneWait,
 }
 
-// Returns this length of time, or that of a pause if it is shorter.
-fn at_most_rest(left: Duration) -> Duration
-    ensures { as_nanos result ≤ 100000000 }
+// Returns this length of time in milliseconds, rounded up, or that of a pause if it is shorter.
+fn at_most_rest(left: Duration) -> u64
+    ensures { result ≤ 100 }
 {
-    let most = Duration::from_millis(REST);
-    if left < most { left } else { most }
+    let ms = left.as_nanos().div_ceil(1_000_000);
+    if ms < u128::from(REST) {
+        ms as u64
+    } else {
+        REST
+    }
 }
 
 /// What is known about connections that were not accepted yet. All doors share it, and one
@@ -84,19 +87,19 @@ impl Accepts {
         };
     }
 
-    /// Returns how long no connection is accepted, at most 100 ms, or `None` if connections are
-    /// accepted.
-    pub fn rests_for<R: rt::Clock>(&self, rt: &R) -> Option<Duration>
+    /// Returns for how many milliseconds no connection is accepted, at most 100, or `None` if
+    /// connections are accepted.
+    pub fn rests_for<R: rt::Clock>(&self, rt: &R) -> Option<u64>
         ensures none { IsNone result ↔ (rests self.now.rest ≡ false) }
-        ensures most { IfSome result (λ left. as_nanos left ≤ 100000000) }
+        ensures most { IfSome result (λ left. left ≤ 100) }
     {
         match self.rest {
             Rest::None => None,
             Rest::Until(until) => match Instant::now(rt) {
                 Ok(now) => Some(at_most_rest(until.saturating_duration_since(now))),
-                Err(_) => Some(Duration::from_millis(REST)),
+                Err(_) => Some(REST),
             },
-            Rest::OneWait => Some(Duration::from_millis(REST)),
+            Rest::OneWait => Some(REST),
         }
     }
 

@@ -1,14 +1,13 @@
 //! When the control line is read, and how far.
 ghost use Rattle.std.specs.Prelude.{◌≡◌, None, Some, IfOk, IfSome, IsOk, pos};
 ghost use Rattle.std.specs.IoError.{raw_os_error};
-ghost use Rattle.mio.specs.Event.{event_token};
 ghost use Rattle.bq_event_loop.specs.ControlWatching.{IsNewWatch, after_report, after_turn, reads_at, reads_of};
 ghost use Rattle.bq_event_loop.specs.Sleeping.{IsControlStill};
 
 use crate::turns::{ControlReads, ControlStands, TurnsFault};
-use mio::event::Event;
 use mio::unix::SourceFd;
 use mio::{Interest, Registry, Token};
+use os::EpollEvent;
 use std::io;
 use std::os::fd::RawFd;
 
@@ -22,17 +21,17 @@ const IS_FILE: i32 = 1;
 /// system makes one.
 #[derive(Clone, Copy)]
 pub struct ControlCame {
-    token: Token,
+    token: u64,
 }
 
 impl ControlCame {
     /// Returns the report that this event is, if it is one of the control line.
-    pub fn of(event: &Event) -> Option<ControlCame>
-        ensures event { IfSome result (λ came. came.token ≡ event_token event.now) }
-        ensures control { IfSome result (λ came. came.token ≡ record { 0 = 18446744073709551615 }) }
+    pub fn of(event: &EpollEvent) -> Option<ControlCame>
+        ensures event { IfSome result (λ came. came.token ≡ event.now.data) }
+        ensures control { IfSome result (λ came. came.token ≡ 18446744073709551615) }
     {
-        let token = event.token();
-        if token == CONTROL {
+        let token = event.data;
+        if token == CONTROL.0 as u64 {
             Some(ControlCame { token })
         } else {
             None

@@ -1,7 +1,5 @@
 //! What a loop knows of connections that were not accepted yet.
 ghost use Rattle.std.specs.Prelude.{◌≡◌, true, false, Some};
-ghost use Rattle.std.specs.Option.{option_map};
-ghost use Rattle.std.specs.Duration.{as_nanos};
 ghost use Rattle.bq_event_loop.specs.Accepting.{IsPassed, may_come, rests};
 ghost use Rattle.bq_event_loop.specs.Reports.{AfterTurningAway, IsAfterLook, IsTurnedAway, one_came};
 ghost use Rattle.bq_event_loop.specs.Sleeping.{IsNoLonger};
@@ -13,7 +11,6 @@ use bq_line::attendant::Looked;
 use bq_line::line::Line;
 use bq_line::{Door, TurnedAway};
 use std::rt;
-use std::time::Duration;
 
 /// How many connections are closed in a round while all seats are taken.
 const TURNED_AWAY: u32 = 64;
@@ -108,11 +105,11 @@ impl Doors {
         self.accepts.pass(rt);
     }
 
-    /// Returns how long the loop may sleep: no longer than until something is due, in milliseconds,
-    /// or a pause of the doors ends. `None` is a wait without a limit.
-    pub(crate) fn longest_wait<R: rt::Clock>(&self, rt: &R, due: Option<u64>) -> Option<Duration>
-        ensures due { IsNoLonger (option_map as_nanos result) due }
-        ensures rest { rests self.now.accepts.rest ≡ true → IsNoLonger (option_map as_nanos result) (Some 100) }
+    /// Returns how many milliseconds the loop may sleep: until something is due, or a pause of the
+    /// doors ends, whichever is first. `None` is a wait without a limit.
+    pub(crate) fn longest_wait<R: rt::Clock>(&self, rt: &R, due: Option<u64>) -> Option<u64>
+        ensures due { IsNoLonger result due }
+        ensures rest { rests self.now.accepts.rest ≡ true → IsNoLonger result (Some 100) }
     {
         longest_wait(due, self.accepts.rests_for(rt))
     }

@@ -1,7 +1,5 @@
 //! The system, as a loop sees it: what it reports, and the one call that may wait.
 ghost use Rattle.std.specs.Prelude.{◌≡◌, ℕ, [], Bool, true, false, None, Some, IsNone};
-ghost use Rattle.std.specs.Option.{option_map};
-ghost use Rattle.std.specs.Duration.{as_nanos};
 ghost use Rattle.bq_event_loop.specs.Accepting.{may_come, rests};
 ghost use Rattle.bq_event_loop.specs.Known.{AreStill};
 ghost use Rattle.bq_event_loop.specs.Sleeping.{HasWork, IsNoLonger, MayWait, stands_of};
@@ -17,7 +15,6 @@ use bq_line::control_line::ControlInput;
 use bq_line::line::{Line, Readiness};
 use std::alloc::Global;
 use std::os::fd::RawFd;
-use std::time::Duration;
 use std::{io, rt};
 
 /// Something that the system reported.
@@ -54,8 +51,9 @@ pub trait Sleeper {
     /// Has the system report when there is more of the control line, which was read.
     fn watch_control(&mut self, stands: ControlStands);
 
-    /// Waits until the system reports something, at most this long. `due` is in how many
-    /// milliseconds something is due. All but `most` is passed for the contract alone.
+    /// Waits until the system reports something, at most this many milliseconds if there is a
+    /// limit. `due` is in how many milliseconds something is due. All but `most` is passed for the
+    /// contract alone.
     fn sleep<
         T: Turns,
         L: Line + Drop,
@@ -71,7 +69,7 @@ pub trait Sleeper {
         so_far: &SoFar<L, D, C, I, K>,
         doors: &Doors,
         due: Option<u64>,
-        most: Option<Duration>,
+        most: Option<u64>,
     )
         // Nothing moves at any seat: its next action would move nothing, or it checks for a client,
         // and none can have come.
@@ -84,8 +82,8 @@ pub trait Sleeper {
         requires woken { so_far.now.whole_core.value.woken.waiting ≡ [] }
         // All answers are in the mail of their seats, and the next due moment is not missed.
         requires due { MayWait K.machine K.comparisons due so_far.now.whole_core.value }
-        requires limit { IsNoLonger (option_map as_nanos most) due }
-        requires rest { rests doors.now.accepts.rest ≡ true → IsNoLonger (option_map as_nanos most) (Some 100) }
+        requires limit { IsNoLonger most due }
+        requires rest { rests doors.now.accepts.rest ≡ true → IsNoLonger most (Some 100) }
         // The control line owes nothing, and the system reports when there is more of it.
         requires control { awaits_control self.old ≡ true }
         requires owes { stands_of so_far.now.whole_control.value.owes_drain so_far.now.whole_control.value.stage ≡ ControlStands.Owes → ⊥ };

@@ -1,26 +1,21 @@
 //! How long the loop waits for the system to report something.
-ghost use Rattle.std.specs.Prelude.{◌≡◌, ◌*◌, min, Some};
-ghost use Rattle.std.specs.Option.{option_map};
-ghost use Rattle.std.specs.Duration.{as_nanos};
+ghost use Rattle.std.specs.Prelude.{◌≡◌, min, Some};
 ghost use Rattle.bq_event_loop.specs.Waits.{shorter_of};
 
-use std::time::Duration;
-
-/// Returns the longest wait: until something is due, in milliseconds, or a pause ends, whichever is
+/// Returns the longest wait in milliseconds: until something is due, or a pause ends, whichever is
 /// first. `None` is a wait without a limit.
-pub fn longest_wait(due: Option<u64>, rest: Option<Duration>) -> Option<Duration>
-    ensures { option_map as_nanos result
-        ≡ shorter_of (option_map (λ ms. ms * 1000000) due) (option_map as_nanos rest) }
+pub fn longest_wait(due: Option<u64>, rest: Option<u64>) -> Option<u64>
+    ensures { result ≡ shorter_of due rest }
 {
     match due {
-        Some(ms) => Some(until(Duration::from_millis(ms), rest)),
+        Some(due) => Some(until(due, rest)),
         None => rest,
     }
 }
 
 // Returns the shorter of a wait and a pause, if there is one.
-fn until(due: Duration, rest: Option<Duration>) -> Duration
-    ensures { Some (as_nanos result) ≡ shorter_of (Some (as_nanos due)) (option_map as_nanos rest) }
+fn until(due: u64, rest: Option<u64>) -> u64
+    ensures { Some result ≡ shorter_of (Some due) rest }
 {
     match rest {
         Some(left) => shorter(due, left),
@@ -28,8 +23,8 @@ fn until(due: Duration, rest: Option<Duration>) -> Duration
     }
 }
 
-fn shorter(due: Duration, rest: Duration) -> Duration
-    ensures { as_nanos result ≡ min (as_nanos due) (as_nanos rest) }
+fn shorter(due: u64, rest: u64) -> u64
+    ensures { result ≡ min due rest }
 {
     if due < rest { due } else { rest }
 }

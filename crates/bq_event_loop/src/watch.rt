@@ -1,6 +1,6 @@
 //! The system as epoll (`mio`) reports it.
 ghost use Rattle.std.specs.Prelude.{◌≡◌, None, true, IfOk, IfSome};
-ghost use Rattle.mio.specs.Event.{event_token};
+ghost use Rattle.bq_event_loop.specs.Waits.{timeout_of};
 ghost use Rattle.bq_event_loop.specs.Reports.{IsReportOf};
 ghost use Rattle.bq_event_loop.specs.Sleeping.{is_awaited};
 
@@ -15,13 +15,13 @@ use bq_line::Door;
 use bq_line::clock::Clock;
 use bq_line::control_line::ControlInput;
 use bq_line::line::{Line, Readiness};
-use mio::event::Event;
+use libc::net::{EPOLLERR, EPOLLHUP, EPOLLIN, EPOLLOUT, EPOLLPRI, EPOLLRDHUP};
 use mio::unix::SourceFd;
-use mio::{Events, Interest, Poll, Registry, Token};
+use mio::{Interest, Poll, Registry, Token};
+use os::EpollEvent;
 use std::alloc::Global;
 use std::net::Net;
-use std::os::fd::RawFd;
-use std::time::Duration;
+use std::os::fd::{AsRawFd, RawFd};
 use std::{io, rt};
 
 /// The token of the doors. The token of a connection is the number of its seat.
@@ -36,7 +36,9 @@ const EVENTS: usize = 256;
 pub struct Watch<'r, R> {
     rt: &'r R,
     poll: Poll,
-    events: Events,
+    // What the last wait or question gave, at the front, and how many.
+    events: Vec<EpollEvent, Global>,
+    came: usize,
     control: ControlWatch,
 }
 
@@ -54,7 +56,8 @@ impl<'r, R: Net> Watch<'r, R> {
         doors: &[D],
         control: Option<RawFd>,
     ) -> Result<Watch<'r, R>, TurnsFault> {
-        let Ok(events) = Events::with_capacity(alloc, EVENTS) else {
+        let unused = EpollEvent { events: 0, data: 0 };
+        let Ok(events) = Vec::from_elem(alloc, unused, EVENTS) else {
             return Err(TurnsFault::NoMemory);
         };
         let Ok(poll) = Poll::new(rt) else {
@@ -66,8 +69,19 @@ impl<'r, R: Net> Watch<'r, R> {
             rt,
             poll,
             events,
+            came: 0,
             control,
         })
+    }
+}
+
+impl<'r, R> Watch<'r, R> {
+    // Waits for at most this many milliseconds, or without a limit if they are negative. A failed
+    // wait gives nothing. `Poll::poll` would copy each event, and divide the timeout.
+    fn wait(&mut self, most: i32)
+        ensures control { self.new.control ≡ self.old.control }
+    {
+        self.came = os::epoll_wait(self.poll.as_raw_fd(), &mut self.events, most);
     }
 }
 
@@ -111,10 +125,9 @@ impl<'r, R: rt::Clock> Sleeper for Watch<'r, R> {
         _so_far: &SoFar<L, D, C, I, K>,
         _doors: &Doors,
         _due: Option<u64>,
-        most: Option<Duration>,
+        most: Option<u64>,
     ) {
-        // A failed wait reports nothing.
-        let _polled = self.poll.poll(&mut self.events, most);
+        self.wait(timeout_of(most));
     }
 
     fn ask<T: Turns>(
@@ -125,15 +138,18 @@ impl<'r, R: rt::Clock> Sleeper for Watch<'r, R> {
         _stands: ControlStands,
         _reads: Option<ControlReads>,
     ) {
-        let _polled = self.poll.poll(&mut self.events, Some(Duration::ZERO));
+        self.wait(0);
     }
 
     fn reports(&self) -> usize {
-        self.events.iter().as_slice().len()
+        self.came
     }
 
     fn report(&mut self, number: usize) -> Report {
-        let Some(event) = self.events.iter().as_slice().get(number) else {
+        if number >= self.came {
+            return Report::Nothing;
+        }
+        let Some(event) = self.events.get(number) else {
             return Report::Nothing;
         };
         if let Some(came) = ControlCame::of(event) {
@@ -179,21 +195,32 @@ fn watch_listener(registry: &Registry, watched: Option<RawFd>, fd: RawFd) -> Res
 }
 
 // Returns the report that an event of a door or a connection is.
-fn report_of(event: &Event) -> Report
-    ensures { IsReportOf (event_token event.now) result }
+fn report_of(event: &EpollEvent) -> Report
+    ensures { IsReportOf event.now.data result }
 {
-    let token = event.token();
-    if token == DOORS {
+    let token = event.data as usize;
+    if token == DOORS.0 {
         return Report::Doors;
     }
-    Report::Line(token.0, readiness_of(event))
+    Report::Line(token, readiness_of(event.events))
 }
 
-fn readiness_of(event: &Event) -> Readiness {
-    let is_closing = event.is_read_closed() || event.is_error() || event.is_priority();
+// Returns what these flags of `epoll(7)` say.
+fn readiness_of(flags: u32) -> Readiness {
+    let is_ended = flags & EPOLLIN != 0 && flags & EPOLLRDHUP != 0;
     Readiness {
-        reads: event.is_readable() || is_closing,
-        writes: event.is_writable() || event.is_error(),
-        is_closing,
+        reads: flags & (EPOLLIN | EPOLLPRI | EPOLLHUP | EPOLLERR) != 0,
+        writes: flags & (EPOLLOUT | EPOLLERR) != 0,
+        is_closing: flags & (EPOLLHUP | EPOLLERR | EPOLLPRI) != 0 || is_ended,
+    }
+}
+
+// Returns the limit of a wait in the form that epoll takes: -1 for none, and 24 days at most.
+fn timeout_of(most: Option<u64>) -> i32
+    ensures { result ≡ timeout_of most }
+{
+    match most {
+        Some(most) => most.min(i32::MAX as u64) as i32,
+        None => -1,
     }
 }

@@ -89,7 +89,7 @@ impl<'t> Sleeper for Nobody<'t> {
         _so_far: &SoFar<L, D, C, I, K>,
         _doors: &Doors,
         _due: Option<u64>,
-        _most: Option<Duration>,
+        _most: Option<u64>,
     ) {
         self.all.note_slept();
     }
