@@ -1,10 +1,10 @@
 -- What the threads of a run did, combined along the core's history.
-use Rattle.std.proofs.Common.{◌≡◌, ℕ, zero, suc, ◌+◌, ◌<◌, ◌≤◌, Bool, true, false, cond, List, [], ◌∷◌, ◌++◌, Option, map, filter, length}
+use Rattle.std.proofs.Common.{◌≡◌, ℕ, zero, suc, ◌+◌, ◌<◌, Bool, true, false, List, [], ◌∷◌, ◌++◌, Option, map, filter, length}
 use Rattle.std.proofs.Common.{refl, sym, ap, ◌∙◌, arith, subst, inl, inr, append-nil, add-zero, slice_index_or, not, nat_le}
 use Rattle.std.specs.Prelude.{◌==◌}
 use Rattle.std.specs.List.{All, list_all}
 use Rattle.std.proofs.lemmas.List.{length-append, length-map}
-use Rattle.std.proofs.lemmas.Bool.{cases_Bool, eqb-true, eqb-false, le-leb}
+use Rattle.std.proofs.lemmas.{Bool.{cases_Bool, eqb-true, eqb-false, le-leb}, Grind.common_steps}
 use Rattle.bq_job.specs.declared.answer.Answer.{Answer}
 use Rattle.bq_job.specs.declared.settings.Settings.{Settings}
 use Rattle.bq_job.specs.declared.step.Step.{Step}
@@ -17,7 +17,7 @@ use Rattle.bq_job.specs.promise.Runs.{Entry, GoesBy, Transition, answers_to}
 use Rattle.bq_job.specs.beside.SeatDid.{IsSeatDone}
 use Rattle.bq_job.specs.machine.Steps.{IsStep, Outcome}
 use Rattle.bq_job.specs.beside.Ties.{AreTied}
-use Rattle.bq_link.specs.EndStates.{CoreState, SeatState, sent_to}
+use Rattle.bq_link.specs.EndStates.{CoreState, SeatState}
 use Rattle.bq_link.specs.Submissions.{AreBelow, steps_of}
 use Rattle.bq_line.specs.Tending.{DoorSeen, IsDoorServed}
 use Rattle.bq_line.specs.declared.control_line.ControlLine.{ControlLine}
@@ -25,7 +25,7 @@ use Rattle.bq_job.proofs.JoinLemmas.{doors_owed}
 use Rattle.bq_host.specs.Compared.{AreCompared}
 use Rattle.bq_thread_work.specs.CoreWork.{IsCoreDone}
 use Rattle.bq_link.specs.Ticks.{IsTickless}
-use Rattle.bq_run.specs.Linked.{AreSettled, AreStill, IsCoreStill, IsEndOf, IsLinked, IsSettled}
+use Rattle.bq_run.specs.Linked.{AreSettled, AreStill, IsCoreStill, IsEndOf, IsLinked}
 use Rattle.bq_run.specs.Threads.{AreServed, IsControlOver, IsCoreOver}
 use Rattle.bq_run.proofs.GoneLemmas.{EndsByGone, control_ends_by_gone, none_waits, seat_ends_by_gone}
 use Rattle.bq_run.proofs.ThreadLemmas.{last_at, lasts_many, served_at}
@@ -38,15 +38,7 @@ pairs entries = map (λ (e : Entry). (e.seat, e.what)) entries
 of_pairs : (seat : ℕ) (entries : List Entry)
     → map (λ (e : Entry). e.what) (filter (λ (e : Entry). e.seat == seat) entries) ≡ steps_of seat (pairs entries)
 of_pairs seat [] = refl
-of_pairs seat (e ∷ entries) = picked (of_pairs seat entries) (e.seat == seat)
-  where
-    picked : map (λ (e : Entry). e.what) (filter (λ (e : Entry). e.seat == seat) entries) ≡ steps_of seat (pairs entries) → (own : Bool)
-        → map (λ (e : Entry). e.what) (cond own (e ∷ filter (λ (e : Entry). e.seat == seat) entries)
-        (filter (λ (e : Entry). e.seat == seat) entries))
-        ≡ map (λ (t : ℕ × Step). t.1) (cond own ((e.seat, e.what) ∷ filter (λ (t : ℕ × Step). t.0 == seat) (pairs entries))
-        (filter (λ (t : ℕ × Step). t.0 == seat) (pairs entries)))
-    picked more true = ap (λ (xs : List Step). e.what ∷ xs) more
-    picked more false = more
+of_pairs seat (e ∷ entries) = grind (arith, common_steps, cases_Bool, of_pairs seat entries)
 
 tickless_first : (xs ys : List (ℕ × Step)) → IsTickless (xs ++ ys) → IsTickless xs
 tickless_first [] ys h = tt
@@ -61,10 +53,8 @@ tickless_whole (x ∷ xs) h = rw h.0 (ap (λ (ys : List (ℕ × Step)). x ∷ ys
 seats_below : (seats : ℕ) (entries : List Entry) → AreBelow (seats + 1) (pairs entries)
     → list_all (λ (e : Entry). nat_le e.seat seats) entries ≡ true
 seats_below seats [] h = refl
-seats_below seats (e ∷ entries) h = let here : nat_le e.seat seats ≡ true = below e.seat h.0 in rw here (seats_below seats entries h.1)
-  where
-    below : (n : ℕ) → n < seats + 1 → nat_le n seats ≡ true
-    below n less = le-leb n seats (omega (arith, less))
+seats_below seats (e ∷ entries) h =
+    rw (le-leb e.seat seats (omega (arith, h.0))) (seats_below seats entries h.1)
 
 -- the answers that the end at a place took, and those that wait for it
 taken_at : List SeatState → ℕ → List Answer
@@ -91,9 +81,10 @@ waiting_there [] place d h = absurd (omega (arith, h))
 waiting_there (e ∷ ends) zero d h = refl
 waiting_there (e ∷ ends) (suc place) d h = waiting_there ends place d (omega (arith, h))
 
-some_end : (ends : List SeatState) (place : ℕ) → place < length ends → SeatState
-some_end [] place h = absurd (omega (arith, h))
-some_end (e ∷ ends) place h = e
+-- a list with an element at this place has one
+some_of : {X : Type 0} (xs : List X) (place : ℕ) → place < length xs → X
+some_of [] place h = absurd (omega (arith, h))
+some_of (x ∷ xs) place h = x
 
 -- All threads have ended: that of each seat with its door, that of the core, and the control line.
 -- The ends were compared with the core's.
@@ -124,16 +115,12 @@ module _ {D : Type 0} (at : D → DoorSeen) (settings : Settings) (readings : Li
   taken_is : pairs (without_ticks history) ≡ core.taken
   taken_is =
       let none : 0 < length ends = let e = a.many in omega arith in
-      let s = a.settled 0 (some_end ends 0 none) none in
+      let s = a.settled 0 (some_of ends 0 none) none in
       a.core_done.taken_is ∙ tickless_whole core.taken (tickless_first core.taken s.waiting s.tickless)
-
-  some_door : (xs : List D) (place : ℕ) → place < length xs → D
-  some_door [] place h = absurd (omega (arith, h))
-  some_door (x ∷ xs) place h = x
 
   door_ends_by_gone : (place : ℕ) (e : SeatState) → place < length doors → EndsByGone (end_at place e).submitted
   door_ends_by_gone place e less =
-      let d = some_door doors place less in
+      let d = some_of doors place less in
       let s = a.served place d e less in
       seat_ends_by_gone settings.max_job_size (at (slice_index_or doors place d)).lines_over (end_at place e).submitted
       (end_at place e).taken s.done
@@ -181,7 +168,7 @@ module _ {D : Type 0} (at : D → DoorSeen) (settings : Settings) (readings : Li
   door_tied : (place : ℕ) → place < length doors → (d : D) → IsDoorTied place (at (slice_index_or doors place d))
   door_tied place below d =
       let here : place < length ends = let m = a.many in let n = a.doored in omega (arith, below) in
-      let e : SeatState = some_end ends place here in
+      let e : SeatState = some_of ends place here in
       let s = a.served place d e below in
       let of = end_of place e here in
       let took = taken_there ends place e here in
@@ -200,8 +187,7 @@ module _ {D : Type 0} (at : D → DoorSeen) (settings : Settings) (readings : Li
   doors_tied from [] h = tt
   doors_tied from (d ∷ rest) h =
       let more = doors_tied (suc from) rest (λ j below e.
-      subst (λ (n : ℕ). IsDoorTied n (at (slice_index_or rest j e))) (let e : from + suc j ≡ suc from + j = omega arith in e)
-      (h (suc j) (omega (arith, below)) e)) in
+      rw (let e : from + suc j ≡ suc from + j = omega arith in e) at (h (suc j) (omega (arith, below)) e)) in
       let here : IsDoorTied from (at d) = subst (λ (n : ℕ). IsDoorTied n (at d)) (add-zero from) (h 0 (omega arith) d) in
       (refl, here.answers_are, here.done, more)
 
@@ -213,12 +199,12 @@ module _ {D : Type 0} (at : D → DoorSeen) (settings : Settings) (readings : Li
   control_tied : IsControlDone text failed (steps_at settings.seats history)
   control_tied =
       let here : settings.seats < length ends = let m = a.many in omega arith in
-      let e : SeatState = some_end ends settings.seats here in
-      subst (λ (steps : List Step). IsControlDone text failed steps) (sym (submitted_is settings.seats e here)) (a.control_done e)
+      let e : SeatState = some_of ends settings.seats here in
+      rw (submitted_is settings.seats e here) (a.control_done e)
 
   nobody_else : list_all (λ (e : Entry). nat_le e.seat settings.seats) (without_ticks history) ≡ true
   nobody_else = seats_below settings.seats (without_ticks history)
-      (subst (λ (xs : List (ℕ × Step)). AreBelow (settings.seats + 1) xs) (sym taken_is) a.core_done.numbers)
+      (rw taken_is a.core_done.numbers)
 
   -- One history of all threads.
   pub record IsJoinedRun : Type 0 where
@@ -248,7 +234,7 @@ module _ {D : Type 0} (at : D → DoorSeen) (settings : Settings) (readings : Li
   pub all_at_end : All (λ (d : D). ((at d).is_out ≡ false) × ((at d).is_at_end ≡ true)) doors
   all_at_end place d below =
       let here : place < length ends = let m = a.many in let n = a.doored in omega (arith, below) in
-      let s = a.served place d (some_end ends place here) below in
+      let s = a.served place d (some_of ends place here) below in
       (s.inside, s.at_end)
 
 -- The core's end has taken nothing and sent nothing since.
@@ -301,14 +287,11 @@ pub core_over_of : {C : Type 0} (gives : C → List (Option ℕ) → C → Type 
     (clock first : C) (last : CoreState) (machine : Machine) (to : ℕ) (after : C)
     → from ≡ settings → begun ≡ core → first ≡ clock → IsCoreOver gives from begun first last machine to after
     → IsCoreOver gives settings core clock last machine to after
-core_over_of {C} gives settings from core begun clock first last machine to after a b d o =
-    subst (λ (s : Settings). IsCoreOver gives s core clock last machine to after) a
-    (subst (λ (k : CoreState). IsCoreOver gives from k clock last machine to after) b
-    (subst (λ (x : C). IsCoreOver gives from begun x last machine to after) d o))
+core_over_of {C} gives settings from core begun clock first last machine to after a b d o = rw (a, b, d) at o
 
 pub served_of : {D : Type 0} (at : D → DoorSeen) (size limit : ℕ) (firsts lasts : List SeatState) (doors : List D) → limit ≡ size
     → AreServed at limit firsts lasts doors → AreServed at size firsts lasts doors
-served_of at size limit firsts lasts doors e s = subst (λ (n : ℕ). AreServed at n firsts lasts doors) e s
+served_of at size limit firsts lasts doors e s = rw e at s
 
 -- There is still a door for each seat.
 pub still_doored : {D : Type 0} (at : D → DoorSeen) (size seats : ℕ) (all firsts lasts : List SeatState)

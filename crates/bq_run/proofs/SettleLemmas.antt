@@ -1,11 +1,11 @@
 -- Ends are compared with the core's one after another.
 use Rattle.std.proofs.Common.{◌≡◌, ◌≢◌, ℕ, zero, suc, ◌+◌, ◌<◌, List, [], ◌∷◌, length, refl}
-use Rattle.std.proofs.Common.{sym, ap, ◌∙◌, arith, subst, inl, inr, Some, nat_lt, slice_get, slice_set, slice_index_or}
+use Rattle.std.proofs.Common.{sym, ap, ◌∙◌, arith, subst, inl, inr, Some, slice_get, slice_set, slice_index_or}
 use Rattle.std.specs.Prelude.{◌==◌}
-use Rattle.std.proofs.lemmas.Bool.{cases_Bool, eqb-false, eqb-true, ltb-false, ltb-true}
+use Rattle.std.proofs.lemmas.Bool.{cases_Bool, eqb-false, eqb-true}
 use Rattle.std.proofs.lemmas.List.{get_or-set_other, get_or-set_same, length-set}
-use Rattle.bq_link.specs.EndStates.{CoreState, IsPair, IsSameCore, IsSameSeat, SeatState}
-use Rattle.bq_run.specs.Linked.{ArePaired, AreSettled, AreStill, IsCoreStill, IsEndStill, IsSettled}
+use Rattle.bq_link.specs.EndStates.{CoreState, IsPair, SeatState}
+use Rattle.bq_run.specs.Linked.{ArePaired, AreStill, IsCoreStill, IsEndStill, IsSettled}
 use Rattle.bq_run.specs.declared.run.Run.{Run}
 use Rattle.bq_run.specs.declared.run.posts.Ended.{Ended}
 
@@ -63,33 +63,21 @@ still_set first ends i x new below s e = record { many = length-set ends i new �
     each_at place d within = elim (cases_Bool (place == i)) [
       | inl same ↦
           let is : place ≡ i = eqb-true place i same in
-          let old : IsEndStill (slice_index_or first i d) (slice_index_or ends i d) =
-          s.each i d (subst (λ (n : ℕ). n < length first) is within) in
-          let on : IsEndStill (slice_index_or ends i d) new = subst (λ (z : SeatState). IsEndStill z new) (there ends i x d below) e in
-          subst (λ (n : ℕ). IsEndStill (slice_index_or first n d) (slice_index_or (slice_set ends i new) n d)) (sym is)
-          (subst (λ (z : SeatState). IsEndStill (slice_index_or first i d) z) (sym (get_or-set_same ends i new d below))
-          (end_still_on (slice_index_or first i d) (slice_index_or ends i d) new old on))
-      | inr other ↦
-          subst (λ (z : SeatState). IsEndStill (slice_index_or first place d) z)
-          (sym (get_or-set_other ends i place new d (eqb-false place i other))) (s.each place d within)
+          rw (is, get_or-set_same ends i new d below) (end_still_on (slice_index_or first i d) (slice_index_or ends i d) new
+          (s.each i d (rw is at within)) (rw (there ends i x d below) at e))
+      | inr other ↦ rw (get_or-set_other ends i place new d (eqb-false place i other)) (s.each place d within)
     ]
 
 pub settled_more : (core later : CoreState) (ends : List SeatState) (i : ℕ) (new : SeatState) → i < length ends → IsCoreStill core later
     → ((place : ℕ) (d : SeatState) → place < i → IsSettled core place (slice_index_or ends place d)) → IsSettled later i new
     → (place : ℕ) (d : SeatState) → place < i + 1 → IsSettled later place (slice_index_or (slice_set ends i new) place d)
 settled_more core later ends i new below c before here place d less = elim (cases_Bool (place == i)) [
-  | inl same ↦
-      subst (λ (n : ℕ). IsSettled later n (slice_index_or (slice_set ends i new) n d)) (sym (eqb-true place i same))
-      (subst (λ (z : SeatState). IsSettled later i z) (sym (get_or-set_same ends i new d below)) here)
+  | inl same ↦ rw (eqb-true place i same, get_or-set_same ends i new d below) here
   | inr other ↦
       let differs : place ≢ i = eqb-false place i other in
-      subst (λ (z : SeatState). IsSettled later place z) (sym (get_or-set_other ends i place new d differs))
-      (settled_on core later place (slice_index_or ends place d) c (before place d (earlier differs)))
+      rw (get_or-set_other ends i place new d differs)
+      (settled_on core later place (slice_index_or ends place d) c (before place d (omega (arith, less, differs))))
 ]
-  where
-    earlier : place ≢ i → place < i
-    earlier differs = elim (cases_Bool (nat_lt place i))
-        [ inl e ↦ ltb-true place i e | inr e ↦ absurd (differs (let h = ltb-false place i e in omega (arith, less))) ]
 
 -- A property of a run that is built from what the threads returned holds for every run with these
 -- parts.

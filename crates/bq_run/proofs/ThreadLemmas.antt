@@ -1,6 +1,6 @@
 -- The threads of a run: their posts, their starts and what they returned.
 use Rattle.std.proofs.Common.{◌≡◌, ◌==◌, ◌&&◌, ℕ, zero, suc, ◌<◌, true, false, not, Ok, Err, List, []}
-use Rattle.std.proofs.Common.{◌∷◌, ◌++◌, Some, map, length, refl, sym, ap, ◌∙◌, arith, subst, append_assoc, slice_get, slice_index_or}
+use Rattle.std.proofs.Common.{◌∷◌, ◌++◌, Some, map, length, refl, sym, ap, ◌∙◌, arith, append_assoc, slice_get, slice_index_or}
 use Rattle.std.specs.Prelude.{◌↔◌, IsErrOf, IsTrue, Result}
 use Rattle.std.proofs.lemmas.Bool.{eq-eqb}
 use Rattle.bq_job.specs.declared.settings.Settings.{Settings}
@@ -23,12 +23,9 @@ pub served_more : {D : Type 0} (at : D → DoorSeen) (size : ℕ) (firsts lasts 
     → AreServed at size firsts lasts doors → IsSameSeat first last → IsDoorServed size (at door) last.submitted last.taken
     → AreServed at size (firsts ++ first ∷ []) (lasts ++ last ∷ []) (doors ++ door ∷ [])
 served_more at size [] [] [] first last door h same served = ((same, served), tt)
-served_more at size [] [] (d ∷ ds) first last door h same served = absurd h
-served_more at size [] (e ∷ es) ds first last door h same served = absurd h
-served_more at size (f ∷ fs) [] ds first last door h same served = absurd h
-served_more at size (f ∷ fs) (e ∷ es) [] first last door h same served = absurd h
 served_more at size (f ∷ fs) (e ∷ es) (d ∷ ds) first last door h same served =
     (h.0, served_more at size fs es ds first last door h.1 same served)
+served_more at size _ _ _ first last door h same served = absurd h
 
 pub joined_first : {X Y : Type 0} (f : X → Y) (firsts : List Y) (xs rest : List X) (x : X) → xs ≡ x ∷ rest
     → (firsts ++ f x ∷ []) ++ map f rest ≡ firsts ++ map f xs
@@ -38,11 +35,8 @@ joined_first {X} f firsts xs rest x e = append_assoc firsts (f x ∷ []) (map f 
 pub lasts_many : {D : Type 0} (at : D → DoorSeen) (size : ℕ) (firsts lasts : List SeatState) (doors : List D)
     → AreServed at size firsts lasts doors → (length lasts ≡ length firsts) × (length doors ≡ length firsts)
 lasts_many at size [] [] [] h = (refl, refl)
-lasts_many at size [] [] (d ∷ ds) h = absurd h
-lasts_many at size [] (e ∷ es) ds h = absurd h
-lasts_many at size (f ∷ fs) [] ds h = absurd h
-lasts_many at size (f ∷ fs) (e ∷ es) [] h = absurd h
 lasts_many at size (f ∷ fs) (e ∷ es) (d ∷ ds) h = let more = lasts_many at size fs es ds h.1 in (ap suc more.0, ap suc more.1)
+lasts_many at size _ _ _ h = absurd h
 
 -- each end that was returned is the one that its thread began with, and the end of the control line
 -- comes after the others
@@ -52,13 +46,10 @@ same_at : {D : Type 0} (at : D → DoorSeen) (size : ℕ) (firsts lasts : List S
     → IsSameSeat (slice_index_or (firsts ++ first ∷ []) place d) (slice_index_or (lasts ++ last ∷ []) place d)
 same_at at size [] [] [] first last h same zero d below = same
 same_at at size [] [] [] first last h same (suc place) d below = absurd (omega (arith, below))
-same_at at size [] [] (x ∷ xs) first last h same place d below = absurd h
-same_at at size [] (e ∷ es) ds first last h same place d below = absurd h
-same_at at size (f ∷ fs) [] ds first last h same place d below = absurd h
-same_at at size (f ∷ fs) (e ∷ es) [] first last h same place d below = absurd h
 same_at at size (f ∷ fs) (e ∷ es) (x ∷ xs) first last h same zero d below = h.0.0
 same_at at size (f ∷ fs) (e ∷ es) (x ∷ xs) first last h same (suc place) d below =
     same_at at size fs es xs first last h.1 same place d (omega (arith, below))
+same_at at size _ _ _ first last h same place d below = absurd h
 
 pub back_paired : {D : Type 0} (at : D → DoorSeen) (size : ℕ) (core core_last : CoreState) (all firsts lasts : List SeatState)
     (doors : List D) (first last : SeatState)
@@ -66,7 +57,7 @@ pub back_paired : {D : Type 0} (at : D → DoorSeen) (size : ℕ) (core core_las
     → IsSameCore core core_last
     → ArePaired core_last (lasts ++ last ∷ [])
 back_paired at size core core_last all firsts lasts doors first last new whole served same same_core place d below =
-    let new' : AreNewSeats core (firsts ++ first ∷ []) = subst (λ (xs : List SeatState). AreNewSeats core xs) (sym whole) new in
+    let new' : AreNewSeats core (firsts ++ first ∷ []) = rw whole new in
     let within : place < length (firsts ++ first ∷ []) = let m = (lasts_many at size firsts lasts doors served).0 in
     omega (arith, below, length-append firsts (first ∷ []), length-append lasts (last ∷ [])) in
     let n = new' place d within in
@@ -80,13 +71,10 @@ pub served_at : {D : Type 0} (at : D → DoorSeen) (size : ℕ) (firsts lasts : 
     → IsDoorServed size (at (slice_index_or doors place d)) (slice_index_or (lasts ++ last ∷ []) place e).submitted
     (slice_index_or (lasts ++ last ∷ []) place e).taken
 served_at at size [] [] [] last h place d e below = absurd (omega (arith, below))
-served_at at size [] [] (x ∷ xs) last h place d e below = absurd h
-served_at at size [] (y ∷ es) ds last h place d e below = absurd h
-served_at at size (f ∷ fs) [] ds last h place d e below = absurd h
-served_at at size (f ∷ fs) (y ∷ es) [] last h place d e below = absurd h
 served_at at size (f ∷ fs) (y ∷ es) (x ∷ xs) last h zero d e below = h.0.1
 served_at at size (f ∷ fs) (y ∷ es) (x ∷ xs) last h (suc place) d e below =
     served_at at size fs es xs last h.1 place d e (omega (arith, below))
+served_at at size _ _ _ last h place d e below = absurd h
 
 pub last_at : (lasts : List SeatState) (last e : SeatState) → slice_index_or (lasts ++ last ∷ []) (length lasts) e ≡ last
 last_at [] last e = refl
@@ -118,5 +106,5 @@ pub well_configured : {T : Type 0} (result : Result T RunFault) (config same : S
     → IsErrOf result BadConfiguration ↔ IsTrue (not (are_in_range config && doors == config.seats))
 well_configured result config same doors is range many other =
     let fits : (doors == config.seats) ≡ true = eq-eqb doors config.seats many in
-    let good : are_in_range config ≡ true = subst (λ (s : Settings). are_in_range s ≡ true) is range in
+    let good : are_in_range config ≡ true = rw is at range in
     (λ e. absurd (other e), λ h. absurd (never (rw (good, fits) at h)))

@@ -1,4 +1,4 @@
-use Rattle.std.proofs.Common.{◌≡◌, ◌∙◌, List, ap, false, map, true, vec_len, subst, sym, arith, Err}
+use Rattle.std.proofs.Common.{◌≡◌, ◌∙◌, List, ap, false, map, true, vec_len, sym, arith, Err}
 use Rattle.std.specs.List.{All}
 use Rattle.std.specs.Prelude.{reverse}
 use Rattle.bq_job.specs.declared.settings.Settings.{Settings}
@@ -144,7 +144,7 @@ returns-clause-same g c =
     let ended = c.in-Ok-serve_in_scope.ended in
     let f = c.settled_run.ensures in
     same_run (λ r. AreSame g.D.Door.same c.args.doors.items r.doors.items) c.settled_run.result ended f.rest.0 f.rest.1 f.rest.2 f.rest.3
-    (subst (λ (xs : List _). AreSame g.D.Door.same xs ended.ends.doors.items) c.in-Ok-new_posts.ensures.doors v.over.same)
+    (rw c.in-Ok-new_posts.ensures.doors at v.over.same)
 
 pub returns-clause-settings : goal.returns-clause-settings
 returns-clause-settings g c =

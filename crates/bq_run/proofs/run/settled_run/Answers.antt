@@ -1,33 +1,26 @@
-use Rattle.std.proofs.Common.{◌≡◌, ◌∙◌, ◌∷◌, [], ◌++◌, List, length, subst, sym, arith}
+use Rattle.std.proofs.Common.{◌≡◌, ◌∙◌, ◌∷◌, [], length, arith}
 use Rattle.std.proofs.lemmas.List.{length-append, with_items_is}
-use Rattle.bq_link.specs.EndStates.{SeatState}
-use Rattle.bq_run.specs.Linked.{ArePaired, AreSettled, AreStill}
 use Rattle.bq_run.proofs.run.settled_run.Goals as goal
 
 pub settle-requires-clause-pairs : goal.settle-requires-clause-pairs
 settle-requires-clause-pairs g c =
-    subst (λ (xs : List SeatState). ArePaired c.args.ended.core_end xs)
-    (sym (c.as_mut_slice.ensures.value ∙ c.push_reserved.ensures.items)) c.requires.pairs
+    rw (c.as_mut_slice.ensures.value ∙ c.push_reserved.ensures.items) c.requires.pairs
 
 pub returns-clause-ends : goal.returns-clause-ends
 returns-clause-ends g c =
     let ends = c.args.ended.ends in
     let last = ends.control_end in
     let settled = c.settle.new.ends in
-    let kept = subst (λ (xs : List SeatState). AreStill xs settled)
-    (c.as_mut_slice.ensures.value ∙ c.push_reserved.ensures.items) c.settle.ensures.ends in
+    let kept = rw (c.as_mut_slice.ensures.value ∙ c.push_reserved.ensures.items) at c.settle.ensures.ends in
     let many : length settled ≡ c.push_reserved.new.self.len = let a = kept.many in let b = c.push_reserved.ensures.len in
     let d = length-append ends.ends.items (last ∷ []) in omega arith in
-    subst (λ (xs : List SeatState). AreStill (ends.ends.items ++ last ∷ []) xs)
-    (sym (with_items_is c.push_reserved.new.self settled many)) kept
+    rw (with_items_is c.push_reserved.new.self settled many) kept
 
 pub returns-clause-settled : goal.returns-clause-settled
 returns-clause-settled g c =
     let ends = c.args.ended.ends in
     let settled = c.settle.new.ends in
-    let kept = subst (λ (xs : List SeatState). AreStill xs settled)
-    (c.as_mut_slice.ensures.value ∙ c.push_reserved.ensures.items) c.settle.ensures.ends in
+    let kept = rw (c.as_mut_slice.ensures.value ∙ c.push_reserved.ensures.items) at c.settle.ensures.ends in
     let many : length settled ≡ c.push_reserved.new.self.len = let a = kept.many in let b = c.push_reserved.ensures.len in
     let d = length-append ends.ends.items (ends.control_end ∷ []) in omega arith in
-    subst (λ (xs : List SeatState). AreSettled c.settle.new.core xs)
-    (sym (with_items_is c.push_reserved.new.self settled many)) c.settle.ensures.settled
+    rw (with_items_is c.push_reserved.new.self settled many) c.settle.ensures.settled

@@ -1,5 +1,4 @@
-use Rattle.std.proofs.Common.{◌≡◌, ◌<◌, ◌∙◌, ℕ, length, arith, subst}
-use Rattle.bq_run.specs.Linked.{IsSettled}
+use Rattle.std.proofs.Common.{◌<◌, ◌∙◌, length, arith}
 use Rattle.bq_run.proofs.SettleLemmas.{core_still, core_still_on, ends_still, pair_at, settled_more, still_set}
 use Rattle.bq_run.proofs.run.settle.settle.Goals as goal
 
@@ -32,5 +31,5 @@ loop-place-preserved c =
       core = core_still_on c.args.core.now l.core new.core l.invariant.core done.core;
       ends = still_set c.args.ends.now l.ends l.place x new.end below l.invariant.ends done.end;
       settled = settled_more l.core new.core l.ends l.place new.end below done.core l.invariant.settled
-          (subst (λ (n : ℕ). IsSettled new.core n new.end) at.0 done.settled);
+          (rw at.0 at done.settled);
     }
