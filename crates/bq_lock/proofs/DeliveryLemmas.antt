@@ -1,5 +1,5 @@
 -- Answers are put into the outboxes one after another.
-use Rattle.std.proofs.Common.{◌≡◌, ℕ, ◌≤◌, List, [], ◌∷◌, ◌++◌, length, map, sym, ap, ◌∙◌, arith, subst, inl, inr, append_assoc, Ok, Result}
+use Rattle.std.proofs.Common.{◌≡◌, ℕ, ◌≤◌, List, [], ◌∷◌, ◌++◌, length, map, sym, ap, ◌∙◌, arith, inl, inr, append_assoc, Ok, Result}
 use Rattle.std.specs.Prelude.{if◌then◌else◌, is_ok}
 use Rattle.std.proofs.lemmas.Bool.{cases_lt}
 use Rattle.std.proofs.lemmas.List.{get_or_past, map-append}
@@ -31,10 +31,8 @@ outbox_past outboxes seat past = get_or_past outboxes seat [] past
 pub few_delivered : (given : List GivenAnswer) (old new : List (List Answer)) → AreDelivered given old new → AreFew new
 few_delivered given old new d seat =
     elim (cases_lt seat (length old)) [
-      | inl here ↦ subst (λ (xs : List Answer). length xs ≤ 4) (sym (d.each seat here))
-          (last_are_few 4 (outbox_at seat old ++ answers_to seat given))
-      | inr past ↦ subst (λ (xs : List Answer). length xs ≤ 4)
-          (sym (outbox_past new seat (let m = d.many in omega (arith, m, past)))) (omega arith)
+      | inl here ↦ rw (d.each seat here) (last_are_few 4 (outbox_at seat old ++ answers_to seat given))
+      | inr past ↦ rw (outbox_past new seat (let m = d.many in omega (arith, m, past))) (omega arith)
     ]
 
 delivered_then : (done more : List GivenAnswer) (old next new : List (List Answer)) → AreDelivered done old next

@@ -1,9 +1,9 @@
 -- Facts about errors, each by itself: a search among all facts about a run takes too long.
-use Rattle.std.proofs.Common.{◌≡◌, ◌==◌, ◌&&◌, Bool, ℕ, true, false, not, inl, inr, refl}
+use Rattle.std.proofs.Common.{arith, ◌≡◌, ◌==◌, ◌&&◌, ℕ, true, false, not, inl, inr, refl}
 use Rattle.std.specs.Prelude.{◌↔◌, IsErrOf, IsTrue, Result, Ok, Err}
-use Rattle.std.proofs.lemmas.Bool.{cases_Bool, eq-eqb}
+use Rattle.std.proofs.lemmas.{Bool.{cases_Bool, eq-eqb}, Grind.common_steps}
 use Rattle.bq_job.specs.declared.settings.Settings.{Settings}
-use Rattle.bq_core_api.specs.Limits.{are_in_range, is_body_size, is_job_limit, is_seat_count}
+use Rattle.bq_core_api.specs.Limits.{are_in_range, is_body_size}
 use Rattle.bq_host.specs.declared.fault.RunFault.{RunFault}
 use Rattle.bq_host.specs.declared.fault.RunFault.TheVariants.{BadConfiguration}
 
@@ -28,17 +28,12 @@ well_configured result config doors made bad many other =
       ],
     )
 
-size_of_all : (seats size jobs : Bool) → (seats && size && jobs) ≡ true → size ≡ true
-size_of_all true true jobs e = refl
-size_of_all true false jobs e = absurd (false_is_not_true e)
-size_of_all false size jobs e = absurd (false_is_not_true e)
-
 -- If the content of the lock could be created, the limit of body sizes is in its range.
 pub size_fits : {A : Type 0} (config : Settings) (made : A)
     → (IsErrOf {T = A} {E = RunFault} (Ok made) BadConfiguration ↔ IsTrue (not (are_in_range config)))
     → IsTrue (is_body_size config.max_job_size)
 size_fits config made bad =
     elim (cases_Bool (are_in_range config)) [
-      | inl good ↦ size_of_all (is_seat_count config.seats) (is_body_size config.max_job_size) (is_job_limit config.max_jobs) good
+      | inl good ↦ grind (arith, common_steps, cases_Bool, good)
       | inr out ↦ absurd (ok_is_no_fault _ _ _ _ refl refl (bad.1 (rw out refl)))
     ]

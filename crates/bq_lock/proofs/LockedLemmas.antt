@@ -1,8 +1,9 @@
 -- The invariant of the lock's content holds after each operation.
-use Rattle.std.proofs.Common.{◌≡◌, ℕ, ◌<◌, ◌≤◌, ◌⊎◌, Bool, true, false, not, ◌&&◌, List, [], ◌∷◌, ◌++◌}
+use Rattle.std.proofs.Common.{◌≡◌, ℕ, ◌<◌, ◌≤◌, ◌⊎◌, Bool, true, false, not, List, [], ◌++◌}
 use Rattle.std.proofs.Common.{Option, Some, None, drop, length, map, refl, sym, ap, ◌∙◌, arith, subst, inl, inr, replicate}
 use Rattle.std.specs.Prelude.{◌==◌, IfSome, IsNone, IsSome}
-use Rattle.std.proofs.lemmas.Bool.{cases_Bool, cases_lt, eqb-true, eqb-false, false≢true}
+use Rattle.std.proofs.lemmas.Grind.{common_steps}
+use Rattle.std.proofs.lemmas.Bool.{and_parts, cases_Bool, cases_lt, eqb-true, eqb-false, false≢true}
 use Rattle.std.proofs.lemmas.List.{get_or_past, get_or-replicate, get_or-set_other, get_or-set_same}
 use Rattle.std.proofs.lemmas.List.{length-append, length-replicate, length-set, set_past}
 use Rattle.bq_job.specs.declared.answer.Answer.{Answer}
@@ -39,7 +40,7 @@ pub hold_new : (settings : Settings) (room : ℕ) → IsLawful (new_machine sett
 hold_new settings room lawful = record {
   lawful = lawful;
   many = length-replicate settings.seats no_answers;
-  few = λ seat. subst (λ (xs : List Answer). length xs ≤ 4) (sym (outbox_of_new settings.seats seat)) (omega arith);
+  few = λ seat. rw (outbox_of_new settings.seats seat) (omega arith);
   replayed = λ whole. record {
     given = [];
     replay = replay_none settings;
@@ -55,15 +56,10 @@ ends_delivered so_far given old new seat d ends =
     elim (cases_lt seat (length old)) [
       | inl here ↦
           let whole : List Answer = outbox_at seat old ++ answers_to seat given in
-          let joined : EndsWith (answers_to seat (so_far ++ given)) whole =
-          subst (λ (xs : List Answer). EndsWith xs whole) (sym (answers_append seat so_far given))
-          (ends_with_more (answers_to seat so_far) (outbox_at seat old) (answers_to seat given) ends) in
-          subst (λ (xs : List Answer). EndsWith (answers_to seat (so_far ++ given)) xs) (sym (d.each seat here))
-          (ends_with_then (answers_to seat (so_far ++ given)) whole (last_part 4 whole) joined (ends_with_last 4 whole))
-      | inr past ↦
-          subst (λ (xs : List Answer). EndsWith (answers_to seat (so_far ++ given)) xs)
-          (sym (outbox_past new seat (let m = d.many in omega (arith, m, past))))
-          (ends_with_none (answers_to seat (so_far ++ given)))
+          rw (d.each seat here, answers_append seat so_far given)
+          (ends_with_then (answers_to seat so_far ++ answers_to seat given) whole (last_part 4 whole)
+          (ends_with_more (answers_to seat so_far) (outbox_at seat old) (answers_to seat given) ends) (ends_with_last 4 whole))
+      | inr past ↦ rw (outbox_past new seat (let m = d.many in omega (arith, m, past))) (ends_with_none (answers_to seat (so_far ++ given)))
     ]
 
 -- The journal after a step, by whether there was a copy of the step for its entry.
@@ -89,7 +85,8 @@ pub stepped : (copy : Option Step) (m n : Machine) (boxes new_boxes : List (List
     → (IsNone copy → new ≡ without_entry old)
     → IfSome copy (λ step. new ≡ with_entry (record { moment = at; seat = seat; step = step; left_out = left_out }) unshared old)
     → TakesStepUnless (IsNone copy) (locked_of m boxes answered old) at seat what (locked_of n new_boxes new_answered new)
-stepped copy m n boxes new_boxes answered new_answered old new at seat what left_out unshared given step delivered told same room without added =
+stepped copy m n boxes new_boxes answered new_answered old new at seat what left_out unshared given step delivered told same room without
+    added =
     record {
       outcome = record { left_out = left_out; unshared = unshared };
       given = given;
@@ -122,15 +119,6 @@ refused_of {none} {refused} old at seat what new why taken = record {
 
 -- If the journal is complete after a step, it was complete before it, and no reference to a body
 -- was refused in the step.
-both_true : (a b : Bool) → (a && b) ≡ true → (a ≡ true) × (b ≡ true)
-both_true true true h = (refl, refl)
-both_true true false h = absurd cc
-both_true false b h = absurd cc
-
-false_of_not : (b : Bool) → not b ≡ true → b ≡ false
-false_of_not true h = absurd cc
-false_of_not false h = refl
-
 step_replayed : (old : LockedState) (at seat : ℕ) (what : Step) (new : LockedState) (outcome : Outcome) (given : List GivenAnswer)
     → IsStep old.machine at seat what outcome given new.machine → AreDelivered given old.outboxes new.outboxes
     → new.machine.settings ≡ old.machine.settings
@@ -139,20 +127,14 @@ step_replayed : (old : LockedState) (at seat : ℕ) (what : Step) (new : LockedS
     → new.journal.whole ≡ true → IsReplayed new
 step_replayed old at seat what new outcome given step delivered settings replayed added whole =
     let entry : Entry = record { moment = at; seat = seat; step = what; left_out = outcome.left_out } in
-    let both = both_true old.journal.whole (not outcome.unshared) (sym (ap (λ (j : JournalState). j.whole) added.new_is) ∙ whole) in
-    let shared : outcome.unshared ≡ false = false_of_not outcome.unshared both.1 in
+    let both = and_parts old.journal.whole (not outcome.unshared) (rw added.new_is at whole) in
+    let shared : outcome.unshared ≡ false = grind (arith, common_steps, both) in
     let r = replayed both.0 in
     let named : outcome ≡ outcome_of entry = ap (λ (b : Bool). record { left_out = outcome.left_out; unshared = b }) shared in
-    let step' : IsStep old.machine at seat what (outcome_of entry) given new.machine =
-    subst (λ (o : Outcome). IsStep old.machine at seat what o given new.machine) named step in
-    let entries : new.journal.entries ≡ old.journal.entries ++ entry ∷ [] = ap (λ (j : JournalState). j.entries) added.new_is in
-    let goes_on : Replay old.machine.settings (old.journal.entries ++ entry ∷ []) (r.given ++ given) new.machine =
-    replay_more old.machine.settings old.journal.entries entry r.given given old.machine new.machine r.replay step' in
     record {
       given = r.given ++ given;
-      replay =
-          subst (λ (s : Settings). Replay s new.journal.entries (r.given ++ given) new.machine) (sym settings)
-          (subst (λ (es : List Entry). Replay old.machine.settings es (r.given ++ given) new.machine) (sym entries) goes_on);
+      replay = subst (λ (s : Settings). Replay s new.journal.entries (r.given ++ given) new.machine) (sym settings) (rw added.new_is
+          (replay_more old.machine.settings old.journal.entries entry r.given given old.machine new.machine r.replay (rw named at step)));
       last_parts = λ other. ends_delivered r.given given old.outboxes new.outboxes other delivered (r.last_parts other);
     }
 
@@ -181,19 +163,11 @@ ends_fetched : (outboxes : List (List Answer)) (seat other : ℕ)
 ends_fetched outboxes seat other =
     elim (cases_lt seat (length outboxes)) [
       | inl here ↦ elim (cases_Bool (other == seat)) [
-        | inl e ↦
-            subst (λ (t : ℕ). EndsWith (outbox_at t outboxes) (outbox_at t (without_oldest seat outboxes))) (sym (eqb-true other seat e))
-            (subst (λ (xs : List Answer). EndsWith (outbox_at seat outboxes) xs)
-            (sym (get_or-set_same outboxes seat (drop 1 (outbox_at seat outboxes)) [] here))
-            (ends_with_drop 1 (outbox_at seat outboxes)))
-        | inr e ↦
-            subst (λ (xs : List Answer). EndsWith (outbox_at other outboxes) xs)
-            (sym (get_or-set_other outboxes seat other (drop 1 (outbox_at seat outboxes)) [] (eqb-false other seat e)))
-            ([], refl)
+        | inl e ↦ rw (eqb-true other seat e, get_or-set_same outboxes seat (drop 1 (outbox_at seat outboxes)) [] here)
+            (ends_with_drop 1 (outbox_at seat outboxes))
+        | inr e ↦ rw (get_or-set_other outboxes seat other (drop 1 (outbox_at seat outboxes)) [] (eqb-false other seat e)) ([], refl)
       ]
-      | inr past ↦
-          subst (λ (bs : List (List Answer)). EndsWith (outbox_at other outboxes) (outbox_at other bs))
-          (sym (set_past outboxes seat (drop 1 (outbox_at seat outboxes)) past)) ([], refl)
+      | inr past ↦ rw (set_past outboxes seat (drop 1 (outbox_at seat outboxes)) past) ([], refl)
     ]
 
 few_of_part : (xs part : List Answer) → EndsWith xs part → length xs ≤ 4 → length part ≤ 4
@@ -219,18 +193,10 @@ pub hold_first : (settings : Settings) (room : ℕ) (machine : Machine) (outboxe
     → machine ≡ new_machine settings → outboxes ≡ replicate settings.seats [] → answered ≡ [] → journal ≡ (new_locked settings room).journal
     → IsLawfulHold (locked_of machine outboxes answered journal)
 hold_first settings room machine outboxes answered journal m o a j =
-    subst IsLawfulHold
-    (sym (ap (λ (x : Machine). locked_of x outboxes answered journal) m
-    ∙ ap (λ (x : List (List Answer)). locked_of (new_machine settings) x answered journal) o
-    ∙ ap (λ (x : List ℕ). locked_of (new_machine settings) (replicate settings.seats []) x journal) a
-    ∙ ap (λ (x : JournalState). locked_of (new_machine settings) (replicate settings.seats []) [] x) j))
-    (hold_new settings room (new_is_lawful settings))
+    rw (m, o, a, j) (hold_new settings room (new_is_lawful settings))
 
 pub hold_fetched : (machine : Machine) (outboxes fetched : List (List Answer)) (answered still : List ℕ) (journal : JournalState) (seat : ℕ)
     → fetched ≡ without_oldest seat outboxes → still ≡ answered
     → IsLawfulHold (locked_of machine outboxes answered journal) → IsLawfulHold (locked_of machine fetched still journal)
 hold_fetched machine outboxes fetched answered still journal seat f s h =
-    subst IsLawfulHold
-    (sym (ap (λ (x : List (List Answer)). locked_of machine x still journal) f
-    ∙ ap (λ (x : List ℕ). locked_of machine (without_oldest seat outboxes) x journal) s))
-    (hold_fetch (locked_of machine outboxes answered journal) seat h)
+    rw (f, s) (hold_fetch (locked_of machine outboxes answered journal) seat h)

@@ -1,5 +1,4 @@
-use Rattle.std.proofs.Common.{◌≡◌, ◌-◌, ◌∙◌, List, subst, sym, arith, vec_len}
-use Rattle.std.specs.List.{All}
+use Rattle.std.proofs.Common.{◌≡◌, ◌-◌, ◌∙◌, arith, vec_len}
 use Rattle.std.proofs.lemmas.List.Elements.{All-take}
 use Rattle.bq_line.specs.Tending.{IsNewDoor, door_seen}
 use Rattle.bq_host.proofs.ListLemmas.{all_pushed, put_behind}
@@ -16,6 +15,6 @@ loop-door-preserved g c =
           c.in-Some.ensures.items c.push_reserved.ensures.items c.in-Ok-new.ensures.door ∙ c.loop-door.invariant.doors;
       limits = all_pushed c.loop-door.posts.items _ c.in-Ok-new.post
           (λ p. p.max_job_size ≡ c.args.max_job_size) c.push_reserved.ensures.items c.loop-door.invariant.limits c.in-Ok-new.ensures.limit;
-      new = subst (λ (xs : List g.row.D.Denot). All (λ d. IsNewDoor (at d)) xs) (sym c.pop.ensures.rest)
+      new = rw c.pop.ensures.rest
           (All-take (λ d. IsNewDoor (at d)) (vec_len c.loop-door.doors - 1) c.loop-door.doors.items c.loop-door.invariant.new);
     }

@@ -23,4 +23,5 @@ serve_at_desk-served-requires-clause-size g c κs within =
     size_fits c.args.config c.in_ok-locked.locked c.in_ok-locked.ensures.bad_configuration
 
 pub serve_at_desk-served-requires-send-K : goal.serve_at_desk-served-requires-send-K
-serve_at_desk-served-requires-send-K g c κs within = param_send 3 _ (arg_send _ no _ (desk_sends _ _ g.K.QueueCore c.type_bounds.send-C c.type_bounds.send-K))
+serve_at_desk-served-requires-send-K g c κs within =
+    param_send 3 _ (arg_send _ no _ (desk_sends _ _ g.K.QueueCore c.type_bounds.send-C c.type_bounds.send-K))

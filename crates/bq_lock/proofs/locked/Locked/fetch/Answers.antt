@@ -1,5 +1,4 @@
-use Rattle.std.proofs.Common.{◌<◌, ap, subst, sym}
-use Rattle.std.specs.Vec.{vec_capacity}
+use Rattle.std.proofs.Common.{ap}
 use Rattle.bq_lock.proofs.LockedLemmas.{hold_fetched}
 use Rattle.bq_lock.proofs.locked.Locked.fetch.Goals as goal
 
@@ -9,8 +8,7 @@ invariant_of-self g c = (
       c.self.inside.outboxes.answered.items c.fetch.new.self.answered.items c.self.inside.journal c.args.seat
       c.fetch.ensures.rest (ap (λ v. v.items) c.fetch.ensures.answered) c.self.invariant.0,
   c.self.invariant.1,
-  subst (λ v. (g.K.QueueCore.machine c.self.inside.core).settings.seats < vec_capacity v)
-      (sym c.fetch.ensures.answered) c.self.invariant.2,
+  rw c.fetch.ensures.answered c.self.invariant.2,
 )
 
 pub returns-clause-holds : goal.returns-clause-holds

@@ -7,7 +7,8 @@ pub invariant_of-result : goal.invariant_of-result
 invariant_of-result g c =
     let made = c.in_ok-core.ensures in
     let machine : g.K.QueueCore.machine c.in_ok-core.core ≡ new_machine c.args.config = made.core in
-    let seats : (g.K.QueueCore.machine c.in_ok-core.core).settings.seats ≡ c.args.config.seats = ap (λ (m : Machine). m.settings.seats) machine in
+    let seats : (g.K.QueueCore.machine c.in_ok-core.core).settings.seats ≡ c.args.config.seats =
+    ap (λ (m : Machine). m.settings.seats) machine in
     let most : c.in_ok-core.outs.most ≡ c.args.config.seats + 1 = made.room in
     let room = c.in-Ok.ensures.room in (
       hold_first c.args.config c.args.capacity (g.K.QueueCore.machine c.in_ok-core.core) c.in-Ok.outboxes.mails.items

@@ -4,7 +4,6 @@ use Rattle.bq_core_api.specs.Outbox.{Outbox}
 use Rattle.bq_job.specs.declared.settings.Settings.{Settings}
 use Rattle.bq_job.proofs.LawfulLemmas.{few_answers}
 use Rattle.bq_lock.specs.LockedState.{LockedState, locked_of}
-use Rattle.bq_lock.specs.LockedSteps.{TakesStepUnless}
 use Rattle.bq_lock.proofs.LockedLemmas.{hold_step, stepped}
 use Rattle.bq_lock.proofs.locked.Locked.take.Goals as goal
 
@@ -40,14 +39,11 @@ invariant_of-self g c =
 pub returns-clause-taken : goal.returns-clause-taken
 returns-clause-taken g c =
     let machine = g.K.QueueCore.machine in
-    subst (λ (l : LockedState). TakesStepUnless (IsNone c.args.copy) l c.args.at c.args.seat c.args.what
-    (locked_of (machine c.step_in_place.new.self) c.deliver.new.self.mails.items c.deliver.new.self.answered.items c.note.new.self))
-    c.self.view_is
-    (stepped c.args.copy (machine c.self.inside.core) (machine c.step_in_place.new.self)
-    c.self.inside.outboxes.mails.items c.deliver.new.self.mails.items
-    c.self.inside.outboxes.answered.items c.deliver.new.self.answered.items c.self.inside.journal c.note.new.self
-    c.args.at c.args.seat c.args.what c.step_in_place.new.outs.left_out c.step_in_place.new.outs.unshared c.step_in_place.new.outs.given
-    c.step_in_place.ensures.step c.deliver.ensures.delivered c.deliver.ensures.answered c.requires.same
+    rw c.self.view_is
+    at (stepped c.args.copy (machine c.self.inside.core) (machine c.step_in_place.new.self) c.self.inside.outboxes.mails.items
+    c.deliver.new.self.mails.items c.self.inside.outboxes.answered.items c.deliver.new.self.answered.items c.self.inside.journal
+    c.note.new.self c.args.at c.args.seat c.args.what c.step_in_place.new.outs.left_out c.step_in_place.new.outs.unshared
+    c.step_in_place.new.outs.given c.step_in_place.ensures.step c.deliver.ensures.delivered c.deliver.ensures.answered c.requires.same
     (λ some. subst (λ (l : LockedState). length l.journal.entries < l.journal.capacity) (sym c.self.view_is) (c.requires.room some))
     c.note.ensures.without c.note.ensures.added)
 

@@ -1,6 +1,6 @@
-use Rattle.std.proofs.Common.{◌≡◌, ◌∷◌, [], ℕ, List, ◌++◌, sym, ap, ◌∙◌, arith, subst}
+use Rattle.std.proofs.Common.{◌≡◌, ◌∷◌, [], ◌++◌, ap, ◌∙◌, arith}
 use Rattle.bq_core_api.specs.Outbox.{Outbox}
-use Rattle.bq_lock.proofs.DeliveryLemmas.{IsDelivering, delivering_one, items_of_ok}
+use Rattle.bq_lock.proofs.DeliveryLemmas.{delivering_one, items_of_ok}
 use Rattle.bq_lock.proofs.locked.outboxes.Outboxes.deliver.Goals as goal
 
 pub loop-seat-preserved : goal.loop-seat-preserved
@@ -10,11 +10,9 @@ loop-seat-preserved c =
     c.push.ensures.items c.unwrap.ensures in
     record {
       delivering =
-          subst (λ (xs : List ℕ). IsDelivering c.args.outs.now.given c.args.self.now.mails.items c.take_first.new.self.given xs
-          c.post.new.mails.items) (sym answered)
-          (delivering_one c.args.outs.now.given c.args.self.now.mails.items
-          (c.in-Some.seat, c.in-Some.answer) c.loop-seat.outs.given c.take_first.new.self.given c.loop-seat.self.answered.items
-          c.loop-seat.self.mails.items c.post.new.mails.items
+          rw answered
+          (delivering_one c.args.outs.now.given c.args.self.now.mails.items (c.in-Some.seat, c.in-Some.answer) c.loop-seat.outs.given
+          c.take_first.new.self.given c.loop-seat.self.answered.items c.loop-seat.self.mails.items c.post.new.mails.items
           c.loop-seat.invariant.delivering c.in-Some.ensures.oldest c.post.ensures);
       room = let r = c.loop-seat.invariant.room in let m = c.push.ensures.capacity in omega (arith, r, m);
       outs = c.take_first.ensures.rest ∙ ap (λ (o : Outbox). record o { given = c.take_first.new.self.given }) c.loop-seat.invariant.outs;
