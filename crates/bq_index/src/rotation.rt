@@ -1,8 +1,9 @@
 // Rebalancing of a tree. Code that few calls need is in separate functions, so that the others have
 // small stack frames.
-ghost use Rattle.std.specs.Prelude.{◌≡◌, ◌+◌, ◌<◌, max, None, Some, IsFalse};
+ghost use Rattle.std.specs.Prelude.{◌≡◌, ◌+◌, ◌<◌, max, None, Some, IsFalse, IsSome};
 ghost use Rattle.bq_index.specs.Tree.{entry_in, height, height_in, height_of, held, left_in, right_in};
-ghost use Rattle.bq_index.specs.Tree.{AreBalanced, IsBalancedFrom, IsNearlyLevel, DifferByAtMost, HasItsHeight, IsMended, IsRebalanced, differ};
+ghost use Rattle.bq_index.specs.Tree.{AreBalanced, IsBalancedFrom, IsNearlyLevel, DifferByAtMost, HasItsHeight, IsMended};
+ghost use Rattle.bq_index.specs.Tree.{IsRebalanced, differ};
 
 use super::tree::{Node, Tree, fill, open, put};
 use std::mem;
@@ -35,7 +36,7 @@ where
 {
     let (left, right) = (node.left_height(), node.right_height());
     if left > right + 1 {
-        return turn_right(node);
+        return turn_apart(node);
     }
     if right > left + 1 {
         return turn_left(node);
@@ -92,172 +93,23 @@ where
     }
 }
 
-// Rotates a box to the right, in place. Its left side is two levels higher than the right one. If
-// the inner box below is higher than the outer one, two rotations are needed, and the boxes are
-// taken apart for it. Returns whether the height of the box has changed.
+// Rotates a box to the right, in place, after it lost its right side, with which it was three levels
+// high. Returns whether its height has changed.
 #[inline(never)]
-fn turn_right<K, V>(node: &mut Node<K, V>) -> bool
-where
-    K: Drop,
-    V: Drop,
-    requires nearly { IsNearlyLevel node.old }
-    requires higher { height_of (left_in node.old) ≡ height_of (right_in node.old) + 2 }
-    ensures { IsMended node.old node.new result }
-{
-    match node {
-        Node::Both {
-            height,
-            key,
-            left,
-            right,
-            value,
-        } => match &mut **left {
-            Node::Both {
-                height: low_height,
-                key: low_key,
-                right: inner,
-                left: outer,
-                value: low_value,
-            } => {
-                let low = inner.height();
-                if outer.height() < low {
-                    return turn_apart(node);
-                }
-                mem::swap(key, low_key);
-                mem::swap(value, low_value);
-                mem::swap(inner, outer);
-                mem::swap(right, inner);
-                *low_height = low + 1;
-                mem::swap(left, right);
-                let changed = *height != low + 2;
-                *height = low + 2;
-                changed
-            }
-            _ => turn_apart(node),
-        },
-        Node::OnLeft { .. } => lift_left(node),
-        _ => turn_apart(node),
-    }
-}
-
-// Rotates a box to the right, in place. It has nothing on its right and two levels on its left.
-// Returns whether its height has changed.
-#[inline(never)]
-fn lift_left<K, V>(node: &mut Node<K, V>) -> bool
-where
-    K: Drop,
-    V: Drop,
-    requires none { right_in node.old ≡ None }
-    requires balanced { IsBalancedFrom (left_in node.old) }
-    requires high { height_of (left_in node.old) ≡ 2 }
-    ensures { IsMended node.old node.new result }
-{
-    let Node::OnLeft {
-        key,
-        left: low,
-        value,
-    } = mem::replace(node, Node::Spare)
-    else {
-        unreachable!()
-    };
-    let mut low = low;
-    match mem::replace(&mut *low, Node::Spare) {
-        Node::OnLeft {
-            key: top,
-            left: outer,
-            value: top_value,
-        } => {
-            fill(&mut *low, Node::Alone { key, value });
-            fill(
-                node,
-                Node::Both {
-                    height: 2,
-                    key: top,
-                    right: low,
-                    left: outer,
-                    value: top_value,
-                },
-            );
-            false
-        }
-        Node::OnRight {
-            key: low_key,
-            right: mut inner,
-            value: low_value,
-        } => {
-            let Node::Alone {
-                key: top,
-                value: top_value,
-            } = mem::replace(&mut *inner, Node::Spare)
-            else {
-                unreachable!()
-            };
-            fill(&mut *inner, Node::Alone { key, value });
-            fill(
-                &mut *low,
-                Node::Alone {
-                    key: low_key,
-                    value: low_value,
-                },
-            );
-            fill(
-                node,
-                Node::Both {
-                    height: 2,
-                    key: top,
-                    right: inner,
-                    left: low,
-                    value: top_value,
-                },
-            );
-            false
-        }
-        Node::Both {
-            key: top,
-            right: inner,
-            left: outer,
-            value: top_value,
-            ..
-        } => {
-            fill(
-                &mut *low,
-                Node::OnLeft {
-                    key,
-                    left: inner,
-                    value,
-                },
-            );
-            fill(
-                node,
-                Node::Both {
-                    height: 3,
-                    key: top,
-                    right: low,
-                    left: outer,
-                    value: top_value,
-                },
-            );
-            true
-        }
-        Node::Alone { .. } | Node::Spare | Node::SpareBefore(_) => unreachable!(),
-    }
-}
-
-// Rotates such a box after it lost its right side, with which it was three levels high. Returns
-// whether its height has changed.
-#[inline(always)]
-#[tactic(auto, using(crate::proofs::Heights::falls_left))]
 pub(crate) fn sink_left<K, V>(node: &mut Node<K, V>) -> bool
 where
     K: Drop,
     V: Drop,
+    requires filled { IsSome (entry_in node.old) }
     requires none { right_in node.old ≡ None }
     requires balanced { IsBalancedFrom (left_in node.old) }
     requires high { height_of (left_in node.old) ≡ 2 }
     ensures rebalanced { IsRebalanced (left_in node.old) (entry_in node.old) (right_in node.old) (Some node.new) }
     ensures changed { result ≡ differ 3 (height_in node.new) }
 {
-    !lift_left(node)
+    let (left, entry, right) = node.take_parts();
+    lean_left(node, left, entry, right);
+    node.height() != 3
 }
 
 // Rotates a box to the left, in place. It has nothing on its left and two levels on its right.
