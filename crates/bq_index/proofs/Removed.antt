@@ -5,7 +5,7 @@ use Rattle.std.specs.declared.cmp.Ordering.{Ordering}
 use Rattle.std.specs.Map.{lookup, remove_entry}
 use Rattle.std.specs.BTreeMap.{is_at}
 use Rattle.std.specs.Option.{option_to_list}
-use Rattle.bq_index.specs.Lent.{value_of}
+use Rattle.bq_index.specs.Edited.{value_of}
 use Rattle.bq_index.specs.Removed.{lookup_if, passing, removed_if}
 use Rattle.bq_index.specs.Tree.{entries_in, entries_of, height_in, height_of, IsBalancedFrom, IsLevel}
 use Rattle.bq_index.specs.declared.tree.Node.{Node}
@@ -109,10 +109,3 @@ module _ {K V : Type 0} (test : K → Bool) (q : V → Bool) where
       let there = passed_some q (lookup test (entries_in n)) f in
       removed_if_found test n b h there
       ∙ ap (λ c. cond c (remove_entry test (entries_in n)) (entries_in n)) (there ∙ ap is_some (value_if_found n b h there))
-
-  -- its value is the one that was looked up
-  pub value_if_passed : (n : Node K V) → IsLevel n → height_in n ≡ 1 → true ≡ is_some (lookup_if test q (entries_in n))
-      → value_of n ≡ lookup_if test q (entries_in n)
-  value_if_passed n b h f =
-      let there = passed_some q (lookup test (entries_in n)) f in
-      sym (value_if_found n b h there) ∙ passed_value q (lookup test (entries_in n)) f

@@ -7,10 +7,11 @@ ghost use Rattle.std.specs.Prelude.{◌≡◌, ◌+◌, ◌<◌, ◌≤◌, ◌+
 ghost use Rattle.std.specs.Option.{option_map, option_to_list};
 ghost use Rattle.std.specs.Map.{lookup, remove_entry};
 ghost use Rattle.std.specs.BTreeMap.{is_at};
-ghost use Rattle.bq_index.specs.Lent.{value_of};
+ghost use Rattle.bq_index.specs.Edited.{value_of};
 ghost use Rattle.bq_index.specs.Order.{InOrder, LacksKeyOf, with_entry};
 ghost use Rattle.bq_index.specs.Removed.{lookup_if, passing, removed_if, value_of_top};
-ghost use Rattle.bq_index.specs.Tree.{entries, entries_in, entries_of, entry_in, entry_of_top, height, height_in, height_of, left_in, right_in};
+ghost use Rattle.bq_index.specs.Tree.{entries, entries_in, entries_of, entry_in, entry_of_top, height, height_in, height_of};
+ghost use Rattle.bq_index.specs.Tree.{left_in, right_in};
 ghost use Rattle.bq_index.specs.declared.tree.Node.TheVariants.{Spare};
 ghost use Rattle.bq_index.specs.declared.tree.Tree.TheVariants.{Leaf};
 ghost use Rattle.bq_index.specs.Tree.{HasParts, IsBalanced, IsBalancedFrom, IsLevel, IsLevelWithSide, IsLowered, IsWithoutFirst};

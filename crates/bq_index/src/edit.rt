@@ -3,8 +3,7 @@ ghost use Rattle.std.specs.Prelude.{◌≡◌, None, Some};
 ghost use Rattle.std.specs.Option.{option_map};
 ghost use Rattle.std.specs.Map.{lookup};
 ghost use Rattle.std.specs.BTreeMap.{is_at};
-ghost use Rattle.bq_index.specs.Edited.{edited_at, edited_here, edited_in};
-ghost use Rattle.bq_index.specs.Lent.{value_in, value_of};
+ghost use Rattle.bq_index.specs.Edited.{edited_at, edited_here, edited_in, value_in, value_of};
 ghost use Rattle.bq_index.specs.Order.{InOrder};
 ghost use Rattle.bq_index.specs.Tree.{entries, height, height_in, IsBalanced, IsLevel, RaisedByAtMost};
 

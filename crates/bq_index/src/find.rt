@@ -8,8 +8,7 @@ ghost use Rattle.std.specs.BTreeMap.{is_at};
 ghost use Rattle.bq_index.specs.Order.{InOrder, entry_from};
 ghost use Rattle.bq_index.specs.Tree.{entries_of, entry_in, height, height_in, height_of, left_in, lent, right_in};
 ghost use Rattle.bq_index.specs.Tree.{IsBalanced, IsBalancedFrom, IsLevel, RaisedByAtMost, Comparison};
-ghost use Rattle.bq_index.specs.Lent.{put_left, put_right, put_value, put_value_in, with_value};
-ghost use Rattle.bq_index.specs.Lent.{value_at, value_in, value_left, value_of, value_right};
+ghost use Rattle.bq_index.specs.Edited.{edited_here, edited_in, put_value, value_at, value_in, value_of};
 ghost use Rattle.bq_index.specs.contracts.tree.Tree.{the_row as tree_row};
 ghost use Rattle.bq_index.specs.contracts.tree.Node.{the_row as node_row};
 
@@ -124,8 +123,9 @@ trait Descent {
     ) -> Option<&'a mut V>
         requires balanced { IsLevel node.old }
         requires reached { height_in node.old ≤ depth }
-        ensures* writes_back { sem 𝓛 (LendsIf (node_row K.row V.row) V.row node.entry result (put_value_in (K.cmp key.now) node.old)
-            node.old) }
+        ensures* writes_back { sem 𝓛
+            (LendsIf (node_row K.row V.row) V.row node.entry result
+            (λ w. edited_in (K.cmp key.now) (λ v. w) node.old) node.old) }
         ensures value { option_copied_mut result ≡ value_in (K.cmp key.now) node.old }
         ensures counted { RaisedByAtMost (height_in node.old) count.old count.new };
 }
@@ -142,8 +142,9 @@ impl Descent for Bottom {
         count: &mut u64,
     ) -> Option<&'a mut V> {
         match compare_to(key, node, count) {
+            Ordering::Less => None,
+            Ordering::Greater => None,
             Ordering::Equal => here(node),
-            _ => None,
         }
     }
 }
@@ -159,56 +160,26 @@ impl<D: Descent> Descent for Deeper<D> {
         count: &mut u64,
     ) -> Option<&'a mut V> {
         match compare_to(key, node, count) {
-            Ordering::Less => left_of::<D, K, V>(node, key, count),
-            Ordering::Greater => right_of::<D, K, V>(node, key, count),
+            Ordering::Less => match node {
+                Node::OnLeft { left, .. } => D::value_in(left, key, count),
+                Node::Both { left, .. } => D::value_in(left, key, count),
+                _ => None,
+            },
+            Ordering::Greater => match node {
+                Node::OnRight { right, .. } => D::value_in(right, key, count),
+                Node::Both { right, .. } => D::value_in(right, key, count),
+                _ => None,
+            },
             Ordering::Equal => here(node),
         }
     }
 }
 
-fn left_of<'a, D: Descent, K: Ord, V>(
-    node: &'a mut Node<K, V>,
-    key: &K,
-    count: &mut u64,
-) -> Option<&'a mut V>
-    requires balanced { IsBalancedFrom (left_in node.old) }
-    requires reached { height_of (left_in node.old) ≤ D.depth }
-    ensures* writes_back { sem 𝓛
-        (LendsIf (node_row K.row V.row) V.row node.entry result
-        (put_left (K.cmp key.now) node.old) node.old) }
-    ensures value { option_copied_mut result ≡ value_left (K.cmp key.now) node.old }
-    ensures counted { RaisedByAtMost (height_of (left_in node.old)) count.old count.new }
-{
-    match node {
-        Node::OnLeft { left, .. } => D::value_in(left, key, count),
-        Node::Both { left, .. } => D::value_in(left, key, count),
-        _ => None,
-    }
-}
-
-fn right_of<'a, D: Descent, K: Ord, V>(
-    node: &'a mut Node<K, V>,
-    key: &K,
-    count: &mut u64,
-) -> Option<&'a mut V>
-    requires balanced { IsBalancedFrom (right_in node.old) }
-    requires reached { height_of (right_in node.old) ≤ D.depth }
-    ensures* writes_back { sem 𝓛
-        (LendsIf (node_row K.row V.row) V.row node.entry result
-        (put_right (K.cmp key.now) node.old) node.old) }
-    ensures value { option_copied_mut result ≡ value_right (K.cmp key.now) node.old }
-    ensures counted { RaisedByAtMost (height_of (right_in node.old)) count.old count.new }
-{
-    match node {
-        Node::OnRight { right, .. } => D::value_in(right, key, count),
-        Node::Both { right, .. } => D::value_in(right, key, count),
-        _ => None,
-    }
-}
-
+// Lends the value of a box.
 fn here<'a, K, V>(node: &'a mut Node<K, V>) -> Option<&'a mut V>
     ensures* writes_back { sem 𝓛
-        (LendsIf (node_row K.row V.row) V.row node.entry result (with_value node.old) node.old) }
+        (LendsIf (node_row K.row V.row) V.row node.entry result
+        (λ w. edited_here (λ v. w) node.old) node.old) }
     ensures value { option_copied_mut result ≡ value_of node.old }
 {
     match node {

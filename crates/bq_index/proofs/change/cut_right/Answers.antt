@@ -1,10 +1,10 @@
-use Rattle.std.proofs.Common.{rules, ◌≡◌, true, [], ◌++◌, ◌∙◌, ap, subst, sym}
+use Rattle.std.proofs.Common.{◌≡◌, true, [], ◌++◌, ◌∙◌, ap, subst, sym}
 use Rattle.std.specs.Prelude.{is_some}
 use Rattle.std.specs.BTreeMap.{is_at}
 use Rattle.std.specs.Option.{option_to_list}
 use Rattle.bq_index.proofs.Parts.{come_apart}
 use Rattle.bq_index.proofs.Removed.{gone_if_passed, side_is_box}
-use Rattle.bq_index.specs.Lent.{value_of}
+use Rattle.bq_index.specs.Edited.{value_of}
 use Rattle.bq_index.specs.Removed.{lookup_if, removed_if, value_of_top}
 use Rattle.bq_index.specs.Tree.{entries_of, entry_in, height_of, left_in, right_in, IsBalancedFrom}
 use Rattle.bq_index.proofs.change.cut_right.Goals as goal

@@ -1,34 +1,28 @@
-use Rattle.std.proofs.Common.{rules, ◌≡◌, ap, sym, ◌∙◌, subst}
-use Rattle.std.specs.Option.{option_map}
-use Rattle.bq_index.specs.Edited.{edited_in}
-use Rattle.bq_index.specs.Lent.{value_in}
+use Rattle.std.proofs.Common.{rules, ◌≡◌, ap, ◌∙◌}
+use Rattle.std.specs.BTreeMap.{is_at}
+use Rattle.bq_index.specs.Edited.{edited_at}
 use Rattle.bq_index.specs.Order.{InOrder}
-use Rattle.bq_index.specs.Tree.{entries, entries_in, IsBalanced, IsLevel}
-use Rattle.bq_index.proofs.Written.{edited_entries, edited_level, value_in_order}
+use Rattle.bq_index.specs.Tree.{entries, entries_in, IsLevel}
+use Rattle.bq_index.proofs.Edited.{edited_entries, edited_level, value_looked_up}
 use Rattle.bq_index.proofs.edit.edit_tree.Goals as goal
 
 pub returns-in-Fork-clause-is : goal.returns-in-Fork-clause-is
 returns-in-Fork-clause-is g c =
-    let e : c.deref_mut.result.now ≡ c.in-Fork.top.value = search rules in
-    let b : IsLevel c.in-Fork.top.value = subst IsBalanced c.in-Fork.is c.requires.balanced in
-    let d : InOrder g.K.Ord.cmp (entries_in c.in-Fork.top.value) =
-    subst (λ t. InOrder g.K.Ord.cmp (entries t)) c.in-Fork.is c.requires.in_order in
-    rw c.in-Fork.is (ap entries_in (c.edit_below.ensures.is
-    ∙ ap (edited_in (g.K.Ord.cmp c.args.key.now) (g.E.Edit.edited c.args.edit.now)) e)
-    ∙ edited_entries g.met.K.Ord.total c.args.key.now (g.E.Edit.edited c.args.edit.now) c.in-Fork.top.value b d)
+    let b : IsLevel c.deref_mut.result.now = search rules in
+    let d : InOrder g.K.Ord.cmp (entries_in c.deref_mut.result.now) = search rules in
+    let same : entries_in c.deref_mut.result.now ≡ entries c.args.tree.now = search rules in
+    let test = is_at (g.K.Ord.cmp c.args.key.now) in
+    let f = g.E.Edit.edited c.args.edit.now in
+    rw c.edit_below.ensures.is (edited_entries g.met.K.Ord.total c.args.key.now f c.deref_mut.result.now b d ∙ ap (edited_at test f) same)
 
 pub returns-in-Fork-clause-balanced : goal.returns-in-Fork-clause-balanced
 returns-in-Fork-clause-balanced g c =
-    let e : c.deref_mut.result.now ≡ c.in-Fork.top.value = search rules in
-    let b : IsLevel c.in-Fork.top.value = subst IsBalanced c.in-Fork.is c.requires.balanced in
-    subst IsLevel (sym (c.edit_below.ensures.is ∙ ap (edited_in (g.K.Ord.cmp c.args.key.now) (g.E.Edit.edited c.args.edit.now)) e))
-    (edited_level (g.K.Ord.cmp c.args.key.now) (g.E.Edit.edited c.args.edit.now) c.in-Fork.top.value b)
+    let b : IsLevel c.deref_mut.result.now = search rules in
+    rw c.edit_below.ensures.is (edited_level (g.K.Ord.cmp c.args.key.now) (g.E.Edit.edited c.args.edit.now) c.deref_mut.result.now b).0
 
 pub returns-in-Fork-clause-told : goal.returns-in-Fork-clause-told
 returns-in-Fork-clause-told g c =
-    let e : c.deref_mut.result.now ≡ c.in-Fork.top.value = search rules in
-    let b : IsLevel c.in-Fork.top.value = subst IsBalanced c.in-Fork.is c.requires.balanced in
-    let d : InOrder g.K.Ord.cmp (entries_in c.in-Fork.top.value) =
-    subst (λ t. InOrder g.K.Ord.cmp (entries t)) c.in-Fork.is c.requires.in_order in
-    rw c.in-Fork.is (c.edit_below.ensures.told ∙ ap (option_map (g.E.Edit.told c.args.edit.now))
-    (ap (value_in (g.K.Ord.cmp c.args.key.now)) e ∙ value_in_order g.met.K.Ord.total c.args.key.now c.in-Fork.top.value b d))
+    let b : IsLevel c.deref_mut.result.now = search rules in
+    let d : InOrder g.K.Ord.cmp (entries_in c.deref_mut.result.now) = search rules in
+    let i = value_looked_up g.met.K.Ord.total c.args.key.now c.deref_mut.result.now b d in
+    search rules
