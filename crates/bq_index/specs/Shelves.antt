@@ -37,7 +37,8 @@ module _ {K V : Type 0} where
   seen_over trees rest = record { entries = entries_over trees ++ rest.entries; spare = rest.spare; comparisons = rest.comparisons }
 
 -- The trees have the entries of the parts below their number, and the shelf has all others.
-pub record IsWholeOver {K V : Type 0} (R : K → K → Ordering) (part : K → ℕ) (trees : List (Tree K V)) (count : ℕ) (rest : Seen K V) : Type 0 where
+pub record IsWholeOver {K V : Type 0} (R : K → K → Ordering) (part : K → ℕ) (trees : List (Tree K V)) (count : ℕ)
+    (rest : Seen K V) : Type 0 where
   pub spread : AreSpread R part 0 trees
   pub counted : count ≡ length (entries_over trees)
   pub high : AllByRecursion (λ k. length trees ≤ part k) (keys_of rest.entries)

@@ -85,7 +85,8 @@ pub returns-in-Equal-clause-is : goal.returns-in-Equal-clause-is
 returns-in-Equal-clause-is g t c =
     let w = is_at_entry g.met.K.Ord.total c.args.key.now
     (come_apart c.args.here.now c.requires.here_level.0) c.requires.in_order c.compare_to.ensures.answer c.in-Equal.is in
-    c.take_out_if.ensures.is ∙ ap (λ es. cond (is_some (value_of_top c.take_out_if.new.found)) es (entries_in c.args.here.now)) (sym w.removed)
+    c.take_out_if.ensures.is
+    ∙ ap (λ es. cond (is_some (value_of_top c.take_out_if.new.found)) es (entries_in c.args.here.now)) (sym w.removed)
 
 pub returns-in-Equal-clause-found : goal.returns-in-Equal-clause-found
 returns-in-Equal-clause-found g t c =

@@ -1,79 +1,41 @@
-use Rattle.std.proofs.Common.{rules, arith, ◌≡◌, ◌+◌, length, sym, ap, subst, ◌∙◌, List}
-use Rattle.std.proofs.lemmas.List.{set-set}
-use Rattle.std.specs.BTreeMap.{insert_entry, is_at}
-use Rattle.std.specs.List.{AllByRecursion}
-use Rattle.std.specs.Map.{keys_of, lookup}
-use Rattle.std.specs.Prelude.{get_or, set}
-use Rattle.bq_index.proofs.Bound.{digits_grow}
-use Rattle.bq_index.proofs.Order.{all_insert, order_insert}
-use Rattle.bq_index.proofs.Spread.{fewer_at, insert_over, lookup_over, spread_set, tree_at}
-use Rattle.bq_index.specs.Order.{InOrder}
-use Rattle.bq_index.specs.Shelves.{AreSpread, entries_over}
-use Rattle.bq_index.specs.Tree.{entries, IsBalanced}
-use Rattle.bq_index.specs.declared.tree.Tree.{Tree}
-use Rattle.bq_index.specs.declared.tree.Tree.TheVariants.{Leaf}
+use Rattle.std.proofs.Common.{arith, ◌∙◌}
+use Rattle.bq_index.proofs.Spread.{spread_inserted, tree_balanced, tree_few, tree_fewer, tree_in_order, tree_inserted, tree_lookup}
 use Rattle.bq_index.proofs.shelves.insert_at.Goals as goal
 
--- `here` has what holds for the tree of the key's part.
 pub insert_into-tree-requires-clause-balanced : goal.insert_into-tree-requires-clause-balanced
 insert_into-tree-requires-clause-balanced g c =
-    let here = tree_at g.met.K.Ord.total g.K.Parted.part g.met.K.Parted.apart 0 c.args.at c.args.trees.now.items c.requires.spread c.requires.at in
-    subst (λ (t : Tree g.row.K.Denot g.row.V.Denot). IsBalanced t) (sym c.exchange-tree.ensures.value) here.0
+    tree_balanced g.met.K.Ord.total g.K.Parted.part g.met.K.Parted.apart c.args.trees.now.items c.requires.spread c.requires.at
+    c.exchange-tree.ensures.value
 
 pub insert_into-tree-requires-clause-in_order : goal.insert_into-tree-requires-clause-in_order
 insert_into-tree-requires-clause-in_order g c =
-    let here = tree_at g.met.K.Ord.total g.K.Parted.part g.met.K.Parted.apart 0 c.args.at c.args.trees.now.items c.requires.spread c.requires.at in
-    subst (λ (t : Tree g.row.K.Denot g.row.V.Denot). InOrder g.K.Ord.cmp (entries t)) (sym c.exchange-tree.ensures.value) here.1
+    tree_in_order g.met.K.Ord.total g.K.Parted.part g.met.K.Parted.apart c.args.trees.now.items c.requires.spread c.requires.at
+    c.exchange-tree.ensures.value
 
 pub insert_into-tree-requires-clause-fits : goal.insert_into-tree-requires-clause-fits
 insert_into-tree-requires-clause-fits g c =
-    omega (
-      arith,
-      fewer_at g.met.K.Ord.total g.K.Parted.part g.met.K.Parted.apart c.args.at c.args.trees.now.items,
-      ap (λ (t : Tree g.row.K.Denot g.row.V.Denot). length (entries t)) c.exchange-tree.ensures.value,
-      c.requires.fits,
-    )
+    let fewer = tree_fewer g.met.K.Ord.total g.K.Parted.part g.met.K.Parted.apart c.args.trees.now.items c.requires.spread c.requires.at
+    c.exchange-tree.ensures.value in
+    omega (arith, fewer, c.requires.fits)
 
 pub insert_into-tree-requires-clause-absent : goal.insert_into-tree-requires-clause-absent
 insert_into-tree-requires-clause-absent g c =
-    ap (λ (t : Tree g.row.K.Denot g.row.V.Denot). lookup (is_at (g.K.Ord.cmp c.args.key)) (entries t)) c.exchange-tree.ensures.value
-    ∙ sym (lookup_over g.met.K.Ord.total g.K.Parted.part g.met.K.Parted.apart c.args.key 0 c.args.at c.args.trees.now.items c.requires.spread
-    c.requires.at (omega (arith, c.requires.part))) ∙ c.requires.absent
+    tree_lookup g.met.K.Ord.total g.K.Parted.part g.met.K.Parted.apart c.args.trees.now.items c.requires.spread c.requires.at
+    c.exchange-tree.ensures.value c.args.key (omega (arith, c.requires.part)) ∙ c.requires.absent
 
 pub returns-clause-is : goal.returns-clause-is
 returns-clause-is g c =
-    let trees = c.args.trees.now.items in
-    let after = c.insert_into-tree.result in
-    ap (λ (ts : List (Tree g.row.K.Denot g.row.V.Denot)). entries_over ts) (c.exchange-leaf.ensures.after
-    ∙ ap (λ (ts : List (Tree g.row.K.Denot g.row.V.Denot)). set ts c.args.at after) c.exchange-tree.ensures.after
-    ∙ set-set trees c.args.at Leaf after)
-    ∙ insert_over g.met.K.Ord.total g.K.Parted.part g.met.K.Parted.apart c.args.key c.args.value after 0 c.args.at trees c.requires.spread
-    c.requires.at (omega (arith, c.requires.part)) (c.insert_into-tree.ensures.is
-    ∙ ap (λ (t : Tree g.row.K.Denot g.row.V.Denot). insert_entry g.K.Ord.cmp (entries t) c.args.key c.args.value) c.exchange-tree.ensures.value)
+    tree_inserted g.met.K.Ord.total g.K.Parted.part g.met.K.Parted.apart c.args.trees.now.items c.requires.spread c.requires.at
+    c.exchange-tree.ensures.value c.args.key (omega (arith, c.requires.part)) c.insert_into-tree.result c.exchange-tree.ensures.after
+    c.exchange-leaf.ensures.after c.args.value c.insert_into-tree.ensures.is
 
 pub returns-clause-spread : goal.returns-clause-spread
 returns-clause-spread g c =
-    let trees = c.args.trees.now.items in
-    let after = c.insert_into-tree.result in
-    let old = get_or trees c.args.at Leaf in
-    let here = tree_at g.met.K.Ord.total g.K.Parted.part g.met.K.Parted.apart 0 c.args.at trees c.requires.spread c.requires.at in
-    let is : entries after ≡ insert_entry g.K.Ord.cmp (entries old) c.args.key c.args.value =
-    c.insert_into-tree.ensures.is
-    ∙ ap (λ (t : Tree g.row.K.Denot g.row.V.Denot). insert_entry g.K.Ord.cmp (entries t) c.args.key c.args.value) c.exchange-tree.ensures.value in
-    subst (λ (ts : List (Tree g.row.K.Denot g.row.V.Denot)). AreSpread g.K.Ord.cmp g.K.Parted.part 0 ts) (sym (c.exchange-leaf.ensures.after
-    ∙ ap (λ (ts : List (Tree g.row.K.Denot g.row.V.Denot)). set ts c.args.at after) c.exchange-tree.ensures.after
-    ∙ set-set trees c.args.at Leaf after))
-    (spread_set g.met.K.Ord.total g.K.Parted.part g.met.K.Parted.apart after 0 c.args.at trees c.requires.spread c.insert_into-tree.ensures.balanced
-    (subst (InOrder g.K.Ord.cmp) (sym is) (order_insert g.met.K.Ord.total c.args.key c.args.value (entries old) here.1))
-    (subst (λ es. AllByRecursion (λ j. g.K.Parted.part j ≡ 0 + c.args.at) (keys_of es)) (sym is)
-    (all_insert g.met.K.Ord.total (λ j. g.K.Parted.part j ≡ 0 + c.args.at) c.args.key c.args.value (entries old)
-    (omega (arith, c.requires.part)) here.2)))
+    spread_inserted g.met.K.Ord.total g.K.Parted.part g.met.K.Parted.apart c.args.trees.now.items c.requires.spread c.requires.at
+    c.exchange-tree.ensures.value c.args.key (omega (arith, c.requires.part)) c.insert_into-tree.result c.exchange-tree.ensures.after
+    c.exchange-leaf.ensures.after c.args.value c.insert_into-tree.ensures.balanced c.insert_into-tree.ensures.is
 
 pub returns-clause-comparisons : goal.returns-clause-comparisons
 returns-clause-comparisons g c =
-    let trees = c.args.trees.now.items in
-    let few = fewer_at g.met.K.Ord.total g.K.Parted.part g.met.K.Parted.apart c.args.at trees in
-    let long = ap (λ (t : Tree g.row.K.Denot g.row.V.Denot). length (entries t)) c.exchange-tree.ensures.value in
-    let more = digits_grow (length (entries c.exchange-tree.result) + 1) (length (entries_over trees) + 1) (omega (arith, few, long)) in
-    let bound = c.insert_into-tree.ensures.comparisons in
-    (bound.0, omega (arith, more, bound.1))
+    tree_few g.met.K.Ord.total g.K.Parted.part g.met.K.Parted.apart c.args.trees.now.items c.requires.spread c.requires.at
+    c.exchange-tree.ensures.value c.insert_into-tree.ensures.comparisons

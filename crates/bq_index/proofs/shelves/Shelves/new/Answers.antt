@@ -1,4 +1,4 @@
-use Rattle.std.proofs.Common.{arith, ◌≡◌, ◌≤◌, ◌+◌, ◌∙◌, ◌++◌, [], length, sym, ap, subst, List}
+use Rattle.std.proofs.Common.{arith, ◌≤◌, ◌∙◌, ◌++◌, length, sym, ap, subst, List}
 use Rattle.std.specs.List.{AllByRecursion}
 use Rattle.std.specs.Map.{keys_of}
 use Rattle.bq_index.proofs.Spread.{none_over, none_spread}
@@ -14,8 +14,8 @@ invariant_of-result g c =
     let rest = ap (λ (m : Seen g.row.K.Denot g.row.V.Denot). m.entries) c.new.ensures in
     let spare = ap (λ (m : Seen g.row.K.Denot g.row.V.Denot). m.spare) c.new.ensures in
     record {
-      spread = subst (λ (ts : List (Tree g.row.K.Denot g.row.V.Denot)). AreSpread g.K.Ord.cmp g.K.Parted.part 0 ts) (sym c.in_ok-low.ensures)
-          (none_spread g.row.V.Denot g.K.Ord.cmp g.K.Parted.part 0 c.args.parts);
+      spread = subst (λ (ts : List (Tree g.row.K.Denot g.row.V.Denot)). AreSpread g.K.Ord.cmp g.K.Parted.part 0 ts)
+          (sym c.in_ok-low.ensures) (none_spread g.row.V.Denot g.K.Ord.cmp g.K.Parted.part 0 c.args.parts);
       counted = sym (ap length none);
       high = subst (λ es. AllByRecursion (λ k. length trees ≤ g.K.Parted.part k) (keys_of es)) (sym rest) tt;
       fits = omega (arith, ap length rest, spare);
