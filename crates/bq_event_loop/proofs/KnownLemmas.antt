@@ -18,17 +18,17 @@ use Rattle.bq_line.specs.declared.attendant.LinePlace.TheVariants as places
 use Rattle.bq_seat.specs.declared.machine.Action.{Action}
 use Rattle.bq_seat.specs.declared.machine.Action.TheVariants as actions
 use Rattle.bq_seat.specs.declared.machine.SeatMachine.{SeatMachine}
-use Rattle.bq_event_loop.proofs.MarkLemmas.{one_if, same_one, times_push}
+use Rattle.bq_host.proofs.MarkLemmas.{one_if, same_one, times_push}
 use Rattle.bq_event_loop.specs.Known.{AreApart, AreIdle, AreKnown, AreKnownTo, AreSameLists, AreStill, ChangesOnly, ChangesOnlyIn, IsKnown}
 use Rattle.bq_event_loop.specs.Known.{IsListedIn, IsNextOf, IsTaken, KeepsAll, KnowsAll, is_listed, is_looking, is_on, is_visited}
 use Rattle.bq_event_loop.specs.Listings.{Listing, all_free, enqueued, falling, freed, is_nowhere}
-use Rattle.bq_event_loop.specs.Marks.{times}
+use Rattle.bq_host.specs.Marks.{times}
 use Rattle.bq_event_loop.specs.Still.{IsStill, IsStillAt, IsStillOn}
 use Rattle.bq_event_loop.specs.Visits.{turn_of}
 use Rattle.bq_event_loop.specs.declared.order.visits.Visit.{Visit}
 use Rattle.bq_event_loop.specs.declared.turns.Turn.{Turn}
 use Rattle.bq_event_loop.specs.declared.turns.Turn.TheVariants as turns
-use Rattle.bq_event_loop.specs.WakeLists.{WakeList, Wakes, none_waits}
+use Rattle.bq_host.specs.WakeLists.{WakeList, Wakes, none_waits}
 
 -- One element of a list was changed.
 pub changed_one : {L : Type 0} (seats : List (Attendant L)) (i : ℕ) (new : Attendant L) → ChangesOnly i seats (slice_set seats i new)

@@ -1,14 +1,9 @@
 mod ControlLemmas
-mod DueLemmas
 mod KnownLemmas
 mod ListingLemmas
-mod LoopCoreLemmas
-mod LoopSeatLemmas
-mod MarkLemmas
 mod RowLemmas
 mod ServingLemmas
 mod SessionsLemmas
 mod SleepingLemmas
 mod SoFarLemmas
 mod WaitingLemmas
-mod WakeLemmas

@@ -8,9 +8,9 @@ use Rattle.std.proofs.lemmas.List.Folds.{sum_by-replicate}
 use Rattle.std.proofs.lemmas.List.Sums.{sum_by-cons}
 use Rattle.std.proofs.lemmas.Bool.{cases_lt}
 use Rattle.std.proofs.lemmas.Bool.Decides.{eqb_tells}
-use Rattle.bq_event_loop.proofs.MarkLemmas.{has_mark, left, marked, none_marked, one_if, stayed, within}
+use Rattle.bq_host.proofs.MarkLemmas.{has_mark, left, marked, none_marked, one_if, stayed, within}
 use Rattle.bq_event_loop.specs.Listings.{AreMarked, IsDisjoint, falling, is_free, is_queued}
-use Rattle.bq_event_loop.specs.Marks.{HasMarks, times}
+use Rattle.bq_host.specs.Marks.{HasMarks, times}
 use Rattle.bq_event_loop.specs.declared.seat_queue.Listed.{Listed}
 use Rattle.bq_event_loop.specs.declared.seat_queue.Listed.TheVariants as lists
 

@@ -13,7 +13,7 @@ use Rattle.bq_job.specs.promise.LineSteps.{LineSeen}
 use Rattle.bq_job.specs.promise.Runs.{Entry, answers_to}
 use Rattle.bq_job.proofs.ClosedLemmas.{run_closes}
 use Rattle.bq_job.proofs.CutLemmas.{closes_append}
-use Rattle.bq_event_loop.specs.LoopCores.{WentAt, state_of}
+use Rattle.bq_host.specs.Hubs.{WentAt, state_of}
 use Rattle.bq_host.specs.MailStates.{MailState, waiting}
 use Rattle.bq_host.specs.Went.{CoreWent, SeatWent, SeatWentBy}
 use Rattle.bq_line.specs.Links.{Calls}
@@ -25,18 +25,18 @@ use Rattle.bq_event_loop.proofs.RowLemmas.{rested_none, same_set, set_each}
 use Rattle.bq_line.proofs.CountedLemmas.{counted_on}
 use Rattle.bq_line.specs.declared.attendant.Attendant.{Attendant}
 use Rattle.bq_line.specs.declared.attendant.LinePlace.TheVariants.{Done}
-use Rattle.bq_event_loop.specs.declared.loop_core.LoopCore.{LoopCore}
+use Rattle.bq_host.specs.declared.hub.Hub.{Hub}
 use Rattle.bq_line.specs.GivenReadings.{GaveReadings}
 use Rattle.bq_host.proofs.WentLemmas.{core_on, gave_none, gave_then, seat_none, steps_append}
-use Rattle.bq_event_loop.proofs.LoopCoreLemmas.{went_none}
+use Rattle.bq_host.proofs.HubLemmas.{went_none}
 
 -- the result of a seat's calls at the loop's core
 went_by : {C K : Type 0} (machine : K → Machine) (compared : K → ℕ) (given : C → List (Option ℕ) → C → Type 0) (seat : ℕ)
-    (old new : LoopCore C K) (submitted : List Step) (taken : List Answer)
+    (old new : Hub C K) (submitted : List Step) (taken : List Answer)
     → Calls (WentAt machine compared given seat) old submitted taken new → WentAt machine compared given seat old submitted taken new
 went_by machine compared given seat old new submitted taken (inl w) = w
 went_by {C} {K} machine compared given seat old new submitted taken (inr same) =
-    subst (λ (d : LoopCore C K). WentAt machine compared given seat old submitted taken d) (sym same.0)
+    subst (λ (d : Hub C K). WentAt machine compared given seat old submitted taken d) (sym same.0)
     (subst (λ (s : List Step). WentAt machine compared given seat old s taken old) (sym same.1)
     (subst (λ (t : List Answer). WentAt machine compared given seat old [] t old) (sym same.2) (went_none machine compared given seat old)))
 
@@ -272,7 +272,7 @@ module _ {L D : Type 0} (seen : L → LineSeen) (at : D → DoorSeen) where
   module _ {C K : Type 0} (machine : K → Machine) (compared : K → ℕ) (given : C → List (Option ℕ) → C → Type 0)
       (same : D → D → Type 0) where
     -- Nothing was served yet.
-    pub serves_none : (core : LoopCore C K) (row : Row L D) → ServesOn machine compared given seen at same core row [] core row
+    pub serves_none : (core : Hub C K) (row : Row L D) → ServesOn machine compared given seen at same core row [] core row
     serves_none core row = record {
       reads = [];
       gave = gave_none given core.timed.time.clock;
@@ -288,7 +288,7 @@ module _ {L D : Type 0} (seen : L → LineSeen) (at : D → DoorSeen) where
     }
 
     -- One thing after another.
-    pub serves_then : (old core new : LoopCore C K) (row mid later : Row L D) (control more : List Step)
+    pub serves_then : (old core new : Hub C K) (row mid later : Row L D) (control more : List Step)
         → ServesOn machine compared given seen at same old row control core mid
         → ServesOn machine compared given seen at same core mid more new later
         → ServesOn machine compared given seen at same old row (control ++ more) new later
@@ -309,7 +309,7 @@ module _ {L D : Type 0} (seen : L → LineSeen) (at : D → DoorSeen) where
     }
 
     -- The same if the second submitted no step of the control line.
-    pub serves_on : (old core new : LoopCore C K) (row mid later : Row L D) (control : List Step)
+    pub serves_on : (old core new : Hub C K) (row mid later : Row L D) (control : List Step)
         → ServesOn machine compared given seen at same old row control core mid
         → ServesOn machine compared given seen at same core mid [] new later
         → ServesOn machine compared given seen at same old row control new later
@@ -318,7 +318,7 @@ module _ {L D : Type 0} (seen : L → LineSeen) (at : D → DoorSeen) where
         (serves_then old core new row mid later control [] a b)
 
     -- After a turn the core and its seats are ready for another one of the same seat.
-    pub still_ready : (seat : ℕ) (old new : LoopCore C K) (row later : Row L D)
+    pub still_ready : (seat : ℕ) (old new : Hub C K) (row later : Row L D)
         → TurnServes machine compared given seen at same old row [] new later → AreReadyFor machine compared seen at seat old row
         → AreReadyFor machine compared seen at seat new later
     still_ready seat old new row later s r = (
@@ -327,7 +327,7 @@ module _ {L D : Type 0} (seen : L → LineSeen) (at : D → DoorSeen) where
     )
 
     -- One seat acted.
-    pub serves_turn : (old new : LoopCore C K) (row later : Row L D) (i seat : ℕ) (a next : Attendant L) (d door : D)
+    pub serves_turn : (old new : Hub C K) (row later : Row L D) (i seat : ℕ) (a next : Attendant L) (d door : D)
         → seat ≡ i → i < length row.seats.items → GoesOn (WentAt machine compared given seat) old new seen
         (slice_index_or row.seats.items i a) (at (slice_index_or row.doors.items i d)) next (at door)
         → ((first : D) → same first (slice_index_or row.doors.items i d) → same first door)
@@ -359,7 +359,7 @@ module _ {L D : Type 0} (seen : L → LineSeen) (at : D → DoorSeen) where
         }
 
     -- The same for a seat and a door that were looked up.
-    pub serves_acted : (old new : LoopCore C K) (row later : Row L D) (i seat : ℕ) (a next : Attendant L) (d door : D)
+    pub serves_acted : (old new : Hub C K) (row later : Row L D) (i seat : ℕ) (a next : Attendant L) (d door : D)
         → seat ≡ i → i < length row.seats.items → a ≡ slice_index_or row.seats.items i a → d ≡ slice_index_or row.doors.items i d
         → GoesOn (WentAt machine compared given seat) old new seen a (at d) next (at door) → ((first : D) → same first d → same first door)
         → later.seats.items ≡ slice_set row.seats.items i next → later.doors.items ≡ slice_set row.doors.items i door
@@ -372,7 +372,7 @@ module _ {L D : Type 0} (seen : L → LineSeen) (at : D → DoorSeen) where
         (subst (λ (y : D). (first : D) → same first y → same first door) d_is on) seats_are doors_are
 
     -- A tick was taken, or answers moved to another place.
-    serves_passed : (old new : LoopCore C K) (row : Row L D) (i : ℕ)
+    serves_passed : (old new : Hub C K) (row : Row L D) (i : ℕ)
         → SeatWentBy given i old.timed.time.clock (state_of machine compared old) [] [] new.timed.time.clock (state_of machine compared new)
         → ServesOn machine compared given seen at same old row [] new row
     serves_passed old new row i w = record {
@@ -388,12 +388,12 @@ module _ {L D : Type 0} (seen : L → LineSeen) (at : D → DoorSeen) where
       same_doors = λ handed_in h. h;
     }
 
-    pub serves_time : (old new : LoopCore C K) (row : Row L D) (i : ℕ) → WentAt machine compared given i old [] [] new
+    pub serves_time : (old new : Hub C K) (row : Row L D) (i : ℕ) → WentAt machine compared given i old [] [] new
         → ServesOn machine compared given seen at same old row [] new row
     serves_time old new row i w = serves_passed old new row i w.0
 
     -- The control line submitted steps.
-    pub serves_control : (old new : LoopCore C K) (row : Row L D) (seat : ℕ) (more : List Step) → seat ≡ length row.seats.items
+    pub serves_control : (old new : Hub C K) (row : Row L D) (seat : ℕ) (more : List Step) → seat ≡ length row.seats.items
         → WentAt machine compared given seat old more [] new
         → ServesOn machine compared given seen at same old row more new row
     serves_control old new row seat more is went =
@@ -411,7 +411,7 @@ module _ {L D : Type 0} (seen : L → LineSeen) (at : D → DoorSeen) where
         }
 
     -- The seats rested.
-    pub serves_rested : (core : LoopCore C K) (row later : Row L D)
+    pub serves_rested : (core : Hub C K) (row later : Row L D)
         → AllRested seen at same row.seats.items row.doors.items later.seats.items later.doors.items
         → ServesOn machine compared given seen at same core row [] core later
     serves_rested core row later r = record {
@@ -430,7 +430,7 @@ module _ {L D : Type 0} (seen : L → LineSeen) (at : D → DoorSeen) where
     }
 
     -- The same if the loop's core and its clock have not changed.
-    pub serves_same : (old new : LoopCore C K) (row : Row L D) → state_of machine compared new ≡ state_of machine compared old
+    pub serves_same : (old new : Hub C K) (row : Row L D) → state_of machine compared new ≡ state_of machine compared old
         → new.timed.time.clock ≡ old.timed.time.clock → ServesOn machine compared given seen at same old row [] new row
     serves_same old new row state clock = serves_passed old new row 0 (
       [],
@@ -440,7 +440,7 @@ module _ {L D : Type 0} (seen : L → LineSeen) (at : D → DoorSeen) where
     )
 
     -- Some seats were woken.
-    pub serves_woken : (old new : LoopCore C K) (row : Row L D) → new ≡ record old { woken = new.woken }
+    pub serves_woken : (old new : Hub C K) (row : Row L D) → new ≡ record old { woken = new.woken }
         → ServesOn machine compared given seen at same old row [] new row
     serves_woken old new row same = serves_same old new row (ap (state_of machine compared) same)
-        (ap (λ (h : LoopCore C K). h.timed.time.clock) same)
+        (ap (λ (h : Hub C K). h.timed.time.clock) same)

@@ -2,8 +2,8 @@
 use Rattle.std.proofs.Common.{ℕ, ◌≡◌, inl, inr, Option, Some, Bool, true, false, refl}
 use Rattle.bq_job.specs.machine.Machine.{Machine}
 use Rattle.bq_event_loop.specs.Sleeping.{IsControlStill, IsWaitFor, is_awaited}
-use Rattle.bq_event_loop.specs.WakeLists.{WakeList}
-use Rattle.bq_event_loop.specs.declared.loop_core.LoopCore.{LoopCore}
+use Rattle.bq_host.specs.WakeLists.{WakeList}
+use Rattle.bq_host.specs.declared.hub.Hub.{Hub}
 use Rattle.bq_event_loop.specs.declared.control_watch.ControlKnown.TheVariants as knowns
 use Rattle.bq_event_loop.specs.declared.control_watch.ControlWatch.{ControlWatch}
 use Rattle.bq_event_loop.specs.declared.control_watch.ControlWatch.TheVariants as watches
@@ -11,7 +11,7 @@ use Rattle.bq_event_loop.specs.declared.turns.ControlStands.{ControlStands}
 use Rattle.bq_event_loop.specs.declared.turns.ControlStands.TheVariants as stands
 
 -- It does not matter which seats are to be woken.
-pub wait_woken : {C K : Type 0} (machine : K → Machine) (compared : K → ℕ) (most : Option ℕ) (core : LoopCore C K) (woken : WakeList)
+pub wait_woken : {C K : Type 0} (machine : K → Machine) (compared : K → ℕ) (most : Option ℕ) (core : Hub C K) (woken : WakeList)
     → IsWaitFor machine compared most core → IsWaitFor machine compared most (record core { woken = woken })
 wait_woken machine compared most core woken (inl now) = inl now
 wait_woken machine compared most core woken (inr may) = inr (record { sorted = may.sorted; in_time = may.in_time })

@@ -35,9 +35,9 @@ use Rattle.bq_line.specs.declared.attendant.LinePlace.{LinePlace}
 use Rattle.bq_line.specs.declared.attendant.LinePlace.TheVariants as places
 use Rattle.bq_seat.specs.declared.machine.SeatMachine.{SeatMachine}
 use Rattle.bq_event_loop.specs.ControlTold.{HasTold, IsAtStage, TellsOn}
-use Rattle.bq_event_loop.specs.LoopCores.{state_of}
+use Rattle.bq_host.specs.Hubs.{state_of}
 use Rattle.bq_event_loop.specs.Serving.{AreServed, IsServing, ServesOn}
-use Rattle.bq_event_loop.specs.declared.loop_core.LoopCore.{LoopCore}
+use Rattle.bq_host.specs.declared.hub.Hub.{Hub}
 use Rattle.bq_event_loop.specs.declared.row.Row.{Row}
 use Rattle.bq_event_loop.specs.SoFar.{Beginning, beginning, IsLoopSoFar, doors_so_far, line_out}
 use Rattle.bq_event_loop.specs.declared.control_turns.ControlTurns.{ControlTurns}
@@ -252,11 +252,11 @@ module _ {L D : Type 0} (seen : L → LineSeen) (at : D → DoorSeen) (settings 
 module _ {L D C I K : Type 0} (given : Gives C) (line_seen : L → LineSeen) (is_out is_at_end : D → Bool) (lines_over : D → List LineOver)
     (same : D → D → Type 0) (control_seen : I → ControlSeen) (left : I → Option (List ℕ)) (may_fail : I → Bool)
     (machine : K → Machine) (compared : K → ℕ) (begun : Beginning D C) where
-  abbrev Serving : LoopCore C K → Row L D → ControlTurns I → Type 0
+  abbrev Serving : Hub C K → Row L D → ControlTurns I → Type 0
   Serving = IsServing given line_seen (door_seen is_out is_at_end lines_over) same control_seen left may_fail machine compared begun
 
   -- Nothing was served yet.
-  pub serving_first : (core : LoopCore C K) (row : Row L D) (control : ControlTurns I) → begun.clock ≡ core.timed.time.clock
+  pub serving_first : (core : Hub C K) (row : Row L D) (control : ControlTurns I) → begun.clock ≡ core.timed.time.clock
       → given core.timed.time.clock [] core.timed.time.clock → IsNewMailState begun.settings (state_of machine compared core)
       → HasTold control_seen left may_fail begun.left begun.may_fail control []
       → length row.seats.items ≡ begun.settings.seats → length row.doors.items ≡ begun.settings.seats
@@ -277,7 +277,7 @@ module _ {L D C I K : Type 0} (given : Gives C) (line_seen : L → LineSeen) (is
   }
 
   -- The service went on.
-  pub serving_on : (old new : LoopCore C K) (row later : Row L D) (control next : ControlTurns I) (told : List Step)
+  pub serving_on : (old new : Hub C K) (row later : Row L D) (control next : ControlTurns I) (told : List Step)
       → Serving old row control → TellsOn control_seen left may_fail control told next
       → ServesOn machine compared given line_seen (door_seen is_out is_at_end lines_over) same old row told new later
       → Serving new later next
@@ -294,7 +294,7 @@ module _ {L D C I K : Type 0} (given : Gives C) (line_seen : L → LineSeen) (is
   }
 
   -- The promise so far.
-  pub serving_so_far : (core : LoopCore C K) (row : Row L D) (control : ControlTurns I) → Serving core row control
+  pub serving_so_far : (core : Hub C K) (row : Row L D) (control : ControlTurns I) → Serving core row control
       → IsLoopSoFar given line_seen lines_over is_out same machine compared begun
       row.seats.items row.doors.items core.timed.time.clock (control_seen control.input) (left control.input) core.timed.core
   serving_so_far core row control s =

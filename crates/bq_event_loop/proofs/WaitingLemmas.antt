@@ -17,7 +17,7 @@ use Rattle.bq_event_loop.specs.SoFar.{Beginning, IsLoopSoFar}
 use Rattle.bq_event_loop.specs.Known.{AreApart, AreKnown, AreStill, ChangesOnly, IsFreeSeat, IsKnown, IsListedIn, IsStillSeat, KeepsAll}
 use Rattle.bq_event_loop.specs.Known.{is_listed, is_looking, is_on}
 use Rattle.bq_event_loop.specs.Listings.{Listing}
-use Rattle.bq_event_loop.specs.Marks.{times}
+use Rattle.bq_host.specs.Marks.{times}
 use Rattle.bq_event_loop.specs.Still.{IsStill}
 use Rattle.bq_event_loop.specs.declared.turns.Turn.{Turn}
 use Rattle.bq_event_loop.specs.declared.turns.Turn.TheVariants as turns

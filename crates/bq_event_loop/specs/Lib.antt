@@ -1,12 +1,9 @@
 pub mod Accepting
 pub mod ControlTold
 pub mod ControlWatching
-pub mod DueTimes
 pub mod EventLoopRuns
 pub mod Known
 pub mod Listings
-pub mod LoopCores
-pub mod Marks
 pub mod NewLoops
 pub mod Refused
 pub mod Reports
@@ -16,5 +13,4 @@ pub mod Sleeping
 pub mod SoFar
 pub mod Still
 pub mod Visits
-pub mod WakeLists
 pub mod Waits

@@ -1,7 +1,7 @@
 -- The seats of an event loop that can act, in the order of their visits, and those that check for a
 -- connection.
 use Rattle.std.specs.Prelude.{ℕ, zero, suc, ◌≡◌, ◌+◌, ◌≤◌, ◌==◌, ◌&&◌, Bool, true, false, nat_lt, List, [], ◌∷◌, ◌++◌, if◌then◌else◌}
-use Rattle.bq_event_loop.specs.Marks.{HasMarks, times}
+use Rattle.bq_host.specs.Marks.{HasMarks, times}
 use Rattle.bq_event_loop.specs.declared.seat_queue.Listed.{Listed}
 use Rattle.bq_event_loop.specs.declared.seat_queue.Listed.TheVariants as lists
 

@@ -4,8 +4,8 @@ use Rattle.std.specs.List.{All}
 use Rattle.bq_job.specs.machine.Machine.{Machine}
 use Rattle.bq_host.specs.MailStates.{IsInOrder, IsNewMailState}
 use Rattle.bq_line.specs.Tending.{IsNewSeat}
-use Rattle.bq_event_loop.specs.LoopCores.{state_of}
-use Rattle.bq_event_loop.specs.WakeLists.{none_waits}
+use Rattle.bq_host.specs.Hubs.{state_of}
+use Rattle.bq_host.specs.WakeLists.{none_waits}
 use Rattle.bq_event_loop.specs.declared.run.EventLoop.{EventLoop}
 
 -- Its core is new, no seat is to be woken, and there is a new seat for each door.

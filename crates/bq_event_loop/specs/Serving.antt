@@ -10,7 +10,7 @@ use Rattle.bq_job.specs.promise.Runs.{Entry}
 use Rattle.bq_line.specs.GivenReadings.{GaveReadings}
 use Rattle.bq_line.specs.Tending.{AreSame, DoorSeen, IsTended, ended_lines}
 use Rattle.bq_line.specs.declared.attendant.Attendant.{Attendant}
-use Rattle.bq_event_loop.specs.LoopCores.{state_of}
+use Rattle.bq_host.specs.Hubs.{state_of}
 use Rattle.bq_host.specs.Clocks.{Gives}
 use Rattle.bq_host.specs.MailStates.{IsInOrder, IsNewMailState, MailState, waiting}
 use Rattle.bq_line.specs.ControlSeen.{ControlSeen}
@@ -19,7 +19,7 @@ use Rattle.bq_event_loop.specs.declared.control_turns.ControlTurns.{ControlTurns
 use Rattle.bq_host.specs.Went.{CoreWent}
 use Rattle.bq_event_loop.specs.Rows.{AreTended}
 use Rattle.bq_event_loop.specs.SoFar.{Beginning}
-use Rattle.bq_event_loop.specs.declared.loop_core.LoopCore.{LoopCore}
+use Rattle.bq_host.specs.declared.hub.Hub.{Hub}
 use Rattle.bq_event_loop.specs.declared.row.Row.{Row}
 
 -- What was served from the first state on. The core took the steps of one history. Each seat did what
@@ -51,7 +51,7 @@ AreServedFrom earlier seen at max_job_size control first readings core seats doo
 -- of the control line. Whatever the history was before, the later one begins with it.
 pub record ServesOn {C K L D : Type 0} (machine : K → Machine) (compared : K → ℕ) (given : C → List (Option ℕ) → C → Type 0)
     (seen : L → LineSeen) (at : D → DoorSeen) (same : D → D → Type 0)
-    (old : LoopCore C K) (row : Row L D) (control : List Step) (new : LoopCore C K) (later : Row L D) : Type 0 where
+    (old : Hub C K) (row : Row L D) (control : List Step) (new : Hub C K) (later : Row L D) : Type 0 where
   pub reads : List (Option ℕ)
   pub gave : GaveReadings given old.timed.time.clock reads new.timed.time.clock
   pub mailed : length new.mails.items ≡ length old.mails.items
@@ -65,19 +65,19 @@ pub record ServesOn {C K L D : Type 0} (machine : K → Machine) (compared : K �
 -- The core of a loop and its seats are ready for a turn. The core is in order. Each seat has done
 -- something for its door's connections, by the rules, and has its mail. The numbers of the seats
 -- and of the control line fit in 16 bits.
-abbrev pub AreReady : {C K L D : Type 0} → (K → Machine) → (K → ℕ) → (L → LineSeen) → (D → DoorSeen) → LoopCore C K → Row L D → Type 0
+abbrev pub AreReady : {C K L D : Type 0} → (K → Machine) → (K → ℕ) → (L → LineSeen) → (D → DoorSeen) → Hub C K → Row L D → Type 0
 AreReady machine compared seen at core row =
     IsInOrder (state_of machine compared core) × AreTended seen at row × (length core.mails.items ≡ length row.seats.items)
     × (length row.seats.items ≤ 65535)
 
 -- The same, and this is one of the seats.
-abbrev pub AreReadyFor : {C K L D : Type 0} → (K → Machine) → (K → ℕ) → (L → LineSeen) → (D → DoorSeen) → ℕ → LoopCore C K → Row L D
+abbrev pub AreReadyFor : {C K L D : Type 0} → (K → Machine) → (K → ℕ) → (L → LineSeen) → (D → DoorSeen) → ℕ → Hub C K → Row L D
     → Type 0
 AreReadyFor machine compared seen at seat core row = AreReady machine compared seen at core row × (seat < length row.seats.items)
 
 -- A turn left the core and its seats in order, and the service went on.
 abbrev pub TurnServes : {C K L D : Type 0} → (K → Machine) → (K → ℕ) → (C → List (Option ℕ) → C → Type 0)
-    → (L → LineSeen) → (D → DoorSeen) → (D → D → Type 0) → LoopCore C K → Row L D → List Step → LoopCore C K → Row L D → Type 0
+    → (L → LineSeen) → (D → DoorSeen) → (D → D → Type 0) → Hub C K → Row L D → List Step → Hub C K → Row L D → Type 0
 TurnServes machine compared given seen at same old row control new later =
     IsInOrder (state_of machine compared new) × AreTended seen at later
     × ServesOn machine compared given seen at same old row control new later
@@ -86,7 +86,7 @@ TurnServes machine compared given seen at same old row control new later =
 pub record IsServing {L D C I K : Type 0} (given : Gives C) (line_seen : L → LineSeen) (at : D → DoorSeen) (same : D → D → Type 0)
     (control_seen : I → ControlSeen) (left : I → Option (List ℕ)) (may_fail : I → Bool)
     (machine : K → Machine) (compared : K → ℕ) (begun : Beginning D C)
-    (core : LoopCore C K) (row : Row L D) (control : ControlTurns I) : Type 0 where
+    (core : Hub C K) (row : Row L D) (control : ControlTurns I) : Type 0 where
   pub first : MailState
   pub told : List Step
   pub readings : List (Option ℕ)

@@ -4,13 +4,13 @@ use Rattle.bq_job.specs.beside.NextDue.{next_due}
 use Rattle.bq_job.specs.declared.answer.Answer.{Answer}
 use Rattle.bq_job.specs.machine.Machine.{Machine}
 use Rattle.bq_line.specs.declared.attendant.Attendant.{Attendant}
-use Rattle.bq_event_loop.specs.DueTimes.{IsWithinDue}
+use Rattle.bq_host.specs.DueTimes.{IsWithinDue}
 use Rattle.bq_event_loop.specs.Known.{AreIdle, AreKnown}
-use Rattle.bq_event_loop.specs.LoopCores.{state_of}
+use Rattle.bq_host.specs.Hubs.{state_of}
 use Rattle.bq_event_loop.specs.declared.control_turns.ControlTurns.{ControlTurns}
 use Rattle.bq_event_loop.specs.declared.control_turns.Stage.{Stage}
 use Rattle.bq_event_loop.specs.declared.control_turns.Stage.TheVariants as stages
-use Rattle.bq_event_loop.specs.declared.loop_core.LoopCore.{LoopCore}
+use Rattle.bq_host.specs.declared.hub.Hub.{Hub}
 use Rattle.bq_event_loop.specs.declared.order.Stage.{Stage as Part}
 use Rattle.bq_event_loop.specs.declared.order.Stage.TheVariants as parts
 use Rattle.bq_event_loop.specs.declared.control_watch.ControlKnown.TheVariants as knowns
@@ -52,12 +52,12 @@ is_awaited watch = false
 
 -- The core has sorted all answers into the mail of their seats, and a wait of at most this many
 -- milliseconds ends no later than what is due.
-pub record MayWait {C K : Type 0} (machine : K → Machine) (compared : K → ℕ) (most : Option ℕ) (core : LoopCore C K) : Type 0 where
+pub record MayWait {C K : Type 0} (machine : K → Machine) (compared : K → ℕ) (most : Option ℕ) (core : Hub C K) : Type 0 where
   pub sorted : (state_of machine compared core).pending ≡ []
   pub in_time : IsWithinDue most (next_due (machine core.timed.core)) core.timed.time.moment
 
 -- The same, or there is to be no wait at all.
-abbrev pub IsWaitFor : {C K : Type 0} → (K → Machine) → (K → ℕ) → Option ℕ → LoopCore C K → Type 0
+abbrev pub IsWaitFor : {C K : Type 0} → (K → Machine) → (K → ℕ) → Option ℕ → Hub C K → Type 0
 IsWaitFor machine compared most core = (most ≡ Some 0) ⊎ MayWait machine compared most core
 
 -- Something is left to do before a wait: a seat acts, or checks for a client that may have come,
@@ -70,7 +70,7 @@ HasWork may_come listed looks are_more_away due standing reads =
 -- A wait of `due` milliseconds ends in time. The control line stands so.
 pub record IsAtTurn {L C I K : Type 0} (gives takes : L → Bool) (machine : K → Machine) (compared : K → ℕ) (many : ℕ)
     (listed looks : ℕ → Bool) (seats : List (Attendant L)) (mails : List (List Answer)) (due : Option ℕ) (standing : ControlStands)
-    (core : LoopCore C K) (control : ControlTurns I) : Type 0 where
+    (core : Hub C K) (control : ControlTurns I) : Type 0 where
   pub known : AreKnown gives takes many listed looks [] seats mails
   pub mails_are : mails ≡ core.mails.items
   pub woken : core.woken.waiting ≡ []

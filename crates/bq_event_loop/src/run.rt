@@ -6,20 +6,19 @@ ghost use Rattle.bq_job.specs.laws.TheHeadline.{AreJobsServedIn};
 ghost use Rattle.bq_line.specs.Tending.{AreSame, IsNewDoor, IsNewSeat, door_seen};
 ghost use Rattle.bq_event_loop.specs.EventLoopRuns.{IsEventLoopRun, IsEventLoopSoFar};
 ghost use Rattle.bq_event_loop.specs.Known.{KnowsAll};
-ghost use Rattle.bq_event_loop.specs.LoopCores.{state_of};
+ghost use Rattle.bq_host.specs.Hubs.{state_of};
 ghost use Rattle.bq_event_loop.specs.Refused.{IsRefusedBy};
 ghost use Rattle.bq_event_loop.specs.SoFar.{beginning};
-ghost use Rattle.bq_event_loop.specs.WakeLists.{none_waits};
+ghost use Rattle.bq_host.specs.WakeLists.{none_waits};
 ghost use Rattle.bq_host.specs.MailStates.{IsInOrder, IsNewMailState};
 
 use crate::control_turns::ControlTurns;
-use crate::loop_core::LoopCore;
 use crate::row::{Row, new_seats};
 use crate::serve::serve;
 use crate::sleeper::Sleeper;
 use crate::turns::{Began, Turns, TurnsFault};
 use bq_core_api::{Config, QueueCore};
-use bq_host::RunFault;
+use bq_host::{Hub, RunFault, Woken};
 use bq_job::{steps_keep_settings, the_headline};
 use bq_line::Door;
 use bq_line::attendant::Attendant;
@@ -56,7 +55,7 @@ pub struct RunRefused<D> {
 #[derive(Drop)]
 pub struct EventLoop<T: Turns + Drop, L: Line + Drop, C: Clock + Drop, K: QueueCore + Drop> {
     config: Config,
-    core: LoopCore<C, K>,
+    core: Hub<C, K>,
     seats: Vec<Attendant<L>, Global>,
     buffer: ReadBuffer,
     turns: T,
@@ -83,7 +82,7 @@ impl<T: Turns + Drop, L: Line + Drop, C: Clock + Drop, K: QueueCore + Drop> Even
         ensures bad_configuration { IsErrOf result RunFault.BadConfiguration ↔ IsTrue
             (not (are_in_range config)) }
     {
-        let core: LoopCore<C, K> = LoopCore::new(alloc, config, clock)?;
+        let core: Hub<C, K> = new_hub(alloc, config, clock)?;
         let Ok(seats) = new_seats(alloc, config.seats, config.max_job_size) else {
             return Err(RunFault::NoMemory);
         };
@@ -260,6 +259,27 @@ fn made_of<W>(made: Result<W, TurnsFault>) -> Result<W, RunFault>
     }
 }
 
+// Returns a new hub, which notes each seat that has to be woken.
+fn new_hub<C: Clock + Drop, K: QueueCore + Drop>(
+    alloc: Global,
+    config: Config,
+    clock: C,
+) -> Result<Hub<C, K>, RunFault>
+    ensures made { IfOk result (λ hub. IsNewMailState config (state_of K.machine K.comparisons hub)) }
+    ensures order { IfOk result (λ hub. IsInOrder (state_of K.machine K.comparisons hub)) }
+    ensures clock { IfOk result (λ hub. hub.timed.time.clock ≡ clock) }
+    ensures woken { IfOk result (λ hub. hub.woken ≡ none_waits (length hub.mails.items)) }
+    ensures bad_configuration { IsErrOf result RunFault.BadConfiguration ↔ IsTrue
+        (not (are_in_range config)) }
+{
+    let mut hub: Hub<C, K> = Hub::new(alloc, config, clock)?;
+    let Ok(woken) = Woken::new(alloc, config.seats) else {
+        return Err(RunFault::NoMemory);
+    };
+    hub.woken = woken;
+    Ok(hub)
+}
+
 // The run, from a new core and new seats on.
 fn run_at<
     T: Turns,
@@ -271,7 +291,7 @@ fn run_at<
     K: QueueCore + Drop,
 >(
     config: Config,
-    core: LoopCore<C, K>,
+    core: Hub<C, K>,
     seats: Vec<Attendant<L>, Global>,
     doors: Vec<D, Global>,
     control: I,

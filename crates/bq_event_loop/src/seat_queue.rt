@@ -89,7 +89,7 @@ fn unmark(listed: &mut Vec<Listed, Global>, seat: usize)
 }
 
 impl SeatQueue {
-    ghost use Rattle.bq_event_loop.specs.Marks.{times};
+    ghost use Rattle.bq_host.specs.Marks.{times};
     ghost use Rattle.bq_event_loop.specs.Listings.{IsDisjoint, all_free, enqueued, freed};
 
     /// Returns a queue of this many seats, all of which check for a connection.

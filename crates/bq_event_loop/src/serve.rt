@@ -5,25 +5,26 @@ ghost use Rattle.bq_line.specs.Tending.{door_seen};
 ghost use Rattle.bq_event_loop.specs.ControlTold.{TellsOn};
 ghost use Rattle.bq_host.specs.MailStates.{IsInOrder};
 ghost use Rattle.bq_event_loop.specs.Known.{AreKnown, ChangesOnly, ChangesOnlyIn, KeepsAll};
-ghost use Rattle.bq_event_loop.specs.LoopCores.{WentAt, WentInOrder, state_of};
+ghost use Rattle.bq_host.specs.Hubs.{WentAt, WentInOrder, state_of};
 ghost use Rattle.bq_event_loop.specs.Rows.{AreDone, AreTended, KeepsRow};
 ghost use Rattle.bq_event_loop.specs.Serving.{AreReady, AreReadyFor, IsServing, ServesOn, TurnServes};
 ghost use Rattle.bq_event_loop.specs.SoFar.{beginning};
 ghost use Rattle.bq_event_loop.specs.Sleeping.{IsWaitFor, stands_of};
-ghost use Rattle.bq_event_loop.specs.WakeLists.{Wakes, none_waits};
+ghost use Rattle.bq_host.specs.WakeLists.{Wakes, none_waits};
 ghost use Rattle.bq_event_loop.specs.declared.control_turns.Stage.TheVariants as stages;
 ghost use Rattle.bq_line.specs.declared.attendant.Attendant.{Attendant};
 ghost use Rattle.bq_line.specs.declared.attendant.LinePlace.TheVariants as places;
 
 use crate::control_turns::ControlTurns;
 use crate::doors::Doors;
-use crate::loop_core::{LoopCore, attend};
 use crate::row::Row;
 use crate::sleeper::Sleeper;
 use crate::still::stands_of;
 use crate::turns::{Began, ControlReads, Extent, News, SoFar, Stands, Turn, Turns};
 use crate::waiting::end_turn;
 use bq_core_api::QueueCore;
+use bq_host::Hub;
+use bq_host::hub_seat::attend;
 use bq_job::Seat;
 use bq_line::Door;
 use bq_line::attendant::{LinePlace, Progress};
@@ -57,7 +58,7 @@ pub fn serve<
     sleeper: &mut W,
     row: &mut Row<L, D>,
     control: &mut ControlTurns<I>,
-    core: &mut LoopCore<C, K>,
+    core: &mut Hub<C, K>,
     buffers: &mut Buffers,
     buffer: &mut ReadBuffer,
 ) -> bool
@@ -117,7 +118,7 @@ pub fn serve<
 fn so_far<L: Line + Drop, D: Door<Line = L>, C, I, K>(
     row: &Row<L, D>,
     control: &ControlTurns<I>,
-    core: &LoopCore<C, K>,
+    core: &Hub<C, K>,
 ) -> SoFar<L, D, C, I, K>
     ensures seats { result.seats.value ≡ row.now.seats }
     ensures doors { result.doors.value ≡ row.now.doors }
@@ -151,7 +152,7 @@ fn take_turn<
     turn: Turn,
     row: &mut Row<L, D>,
     control: &mut ControlTurns<I>,
-    core: &mut LoopCore<C, K>,
+    core: &mut Hub<C, K>,
     buffers: &mut Buffers,
     buffer: &mut ReadBuffer,
     news: &mut News,
@@ -194,7 +195,7 @@ fn take_turn<
 
 // Passes time. Returns how long the loop may wait, in milliseconds: not at all if an answer is left
 // to be sorted.
-fn pass_time<C: Clock + Drop, K: QueueCore + Drop>(core: &mut LoopCore<C, K>) -> Option<u64>
+fn pass_time<C: Clock + Drop, K: QueueCore + Drop>(core: &mut Hub<C, K>) -> Option<u64>
     requires order { IsInOrder (state_of K.machine K.comparisons core.old) }
     ensures went { WentInOrder K.machine K.comparisons C.given 0 core.old [] [] core.new }
     ensures due { IsWaitFor K.machine K.comparisons result core.new }
@@ -218,7 +219,7 @@ fn is_over<L: Line + Drop, D: Door<Line = L>, I: ControlInput>(
 fn wake_all<T: Turns, L: Line + Drop, D: Door<Line = L>, C: Clock + Drop, K: QueueCore + Drop>(
     turns: &mut T,
     row: &Row<L, D>,
-    core: &mut LoopCore<C, K>,
+    core: &mut Hub<C, K>,
 )
     requires known { AreKnown L.may_give L.may_take (T.seats turns.old) (T.listed turns.old) (T.looks turns.old)
         core.old.woken.waiting row.now.seats.items core.old.mails.items }
@@ -238,7 +239,7 @@ fn wake_all<T: Turns, L: Line + Drop, D: Door<Line = L>, C: Clock + Drop, K: Que
 // connections does nothing: it never waits at its door.
 fn serve_seat<L: Line + Drop, D: Door<Line = L>, C: Clock + Drop, K: QueueCore + Drop>(
     row: &mut Row<L, D>,
-    core: &mut LoopCore<C, K>,
+    core: &mut Hub<C, K>,
     seat: usize,
     buffers: &mut Buffers,
     buffer: &mut ReadBuffer,
@@ -293,7 +294,7 @@ fn goes_with(extent: Extent, stands: Stands) -> bool
 // its door gives it back.
 fn act_with_buffer<L: Line + Drop, D: Door<Line = L>, C: Clock + Drop, K: QueueCore + Drop>(
     row: &mut Row<L, D>,
-    core: &mut LoopCore<C, K>,
+    core: &mut Hub<C, K>,
     seat: usize,
     buffers: &mut Buffers,
     buffer: &mut ReadBuffer,
@@ -344,7 +345,7 @@ fn exchange_if<L: Line + Drop, D: Door<Line = L>>(
 // small action.
 fn act_to_extent<L: Line + Drop, D: Door<Line = L>, C: Clock + Drop, K: QueueCore + Drop>(
     row: &mut Row<L, D>,
-    core: &mut LoopCore<C, K>,
+    core: &mut Hub<C, K>,
     seat: usize,
     buffers: &mut Buffers,
     extent: Extent,
@@ -389,7 +390,7 @@ fn goes_on<L: Line + Drop, D: Door<Line = L>>(
 
 fn act<L: Line + Drop, D: Door<Line = L>, C: Clock + Drop, K: QueueCore + Drop>(
     row: &mut Row<L, D>,
-    core: &mut LoopCore<C, K>,
+    core: &mut Hub<C, K>,
     seat: usize,
     buffers: &mut Buffers,
 ) -> Progress
@@ -412,7 +413,7 @@ fn act<L: Line + Drop, D: Door<Line = L>, C: Clock + Drop, K: QueueCore + Drop>(
 // is rejected.
 fn serve_control<C: Clock + Drop, I: ControlInput, K: QueueCore + Drop>(
     control: &mut ControlTurns<I>,
-    core: &mut LoopCore<C, K>,
+    core: &mut Hub<C, K>,
     reads: ControlReads,
 )
     requires order { IsInOrder (state_of K.machine K.comparisons core.old) }
@@ -443,7 +444,7 @@ fn stops<I: ControlInput>(control: &ControlTurns<I>, may_wait: bool) -> bool {
 // was rejected.
 fn submit_owed<C: Clock + Drop, I: ControlInput, K: QueueCore + Drop>(
     control: &mut ControlTurns<I>,
-    core: &mut LoopCore<C, K>,
+    core: &mut Hub<C, K>,
 ) -> bool
     requires order { IsInOrder (state_of K.machine K.comparisons core.old) }
     requires few { length core.old.mails.items ≤ 65535 }
@@ -461,7 +462,7 @@ fn submit_owed<C: Clock + Drop, I: ControlInput, K: QueueCore + Drop>(
 // Submits the next step of the control line, if there is one. Returns false if it was rejected.
 fn submit_one<C: Clock + Drop, I: ControlInput, K: QueueCore + Drop>(
     control: &mut ControlTurns<I>,
-    core: &mut LoopCore<C, K>,
+    core: &mut Hub<C, K>,
 ) -> bool
     requires order { IsInOrder (state_of K.machine K.comparisons core.old) }
     requires few { length core.old.mails.items ≤ 65535 }

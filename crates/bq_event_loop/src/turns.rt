@@ -5,9 +5,8 @@ ghost use Rattle.bq_event_loop.specs.Sleeping.{IsAtTurn};
 ghost use Rattle.bq_event_loop.specs.SoFar.{IsLoopSoFar, beginning};
 
 use crate::control_turns::ControlTurns;
-use crate::loop_core::LoopCore;
 use bq_core_api::{Config, QueueCore};
-use bq_host::{Mail, RunFault};
+use bq_host::{Hub, Mail, RunFault};
 use bq_line::Door;
 use bq_line::attendant::{Attendant, Progress};
 use bq_line::clock::Clock;
@@ -148,7 +147,7 @@ pub struct SoFar<L, D, C, I, K> {
     pub core: Snapshot<K>,
     /// The core with the answers that no seat has taken, and the control line with the steps that
     /// it owes.
-    pub whole_core: Snapshot<LoopCore<C, K>>,
+    pub whole_core: Snapshot<Hub<C, K>>,
     pub whole_control: Snapshot<ControlTurns<I>>,
 }
 

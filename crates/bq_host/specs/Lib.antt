@@ -1,9 +1,13 @@
 pub mod Clocks
 pub mod Compared
+pub mod DueTimes
 pub mod FaultCodes
+pub mod Hubs
 pub mod Journals
 pub mod LastParts
 pub mod MailStates
+pub mod Marks
 pub mod Timed
 pub mod Told
+pub mod WakeLists
 pub mod Went

@@ -4,7 +4,7 @@ use Rattle.bq_line.specs.ControlSeen.{ControlSeen}
 use Rattle.bq_line.specs.Tending.{door_seen}
 use Rattle.bq_line.specs.declared.control_line.ControlLine.{ControlLine}
 use Rattle.bq_host.proofs.WentLemmas.{new_mails_are}
-use Rattle.bq_event_loop.specs.LoopCores.{state_of}
+use Rattle.bq_host.specs.Hubs.{state_of}
 use Rattle.bq_event_loop.specs.Serving.{AreServed}
 use Rattle.bq_event_loop.specs.ControlTold.{HasTold}
 use Rattle.bq_event_loop.specs.Serving.{IsServing}

@@ -1,7 +1,7 @@
 use Rattle.std.proofs.Common.{◌<◌, refl, subst, sym}
 use Rattle.bq_line.specs.Tending.{door_seen}
 use Rattle.bq_event_loop.proofs.KnownLemmas.{changed_one}
-use Rattle.bq_event_loop.proofs.LoopCoreLemmas.{wakes_called}
+use Rattle.bq_host.proofs.HubLemmas.{wakes_called}
 use Rattle.bq_event_loop.proofs.RowLemmas.{placed_there, tended_acted}
 use Rattle.bq_event_loop.proofs.ServingLemmas.{serves_acted}
 use Rattle.bq_event_loop.proofs.serve.act.Goals as goal
@@ -30,11 +30,11 @@ returns g c =
             c.index_mut-2.result.now c.attend.new.door goes.0 goes.1 c.requires.ready.1 c.requires.ready.0.1 c.index_mut.ensures.value
             c.index_mut-2.ensures.value goes.3,
         serves_acted g.L.Line.seen at g.K.QueueCore.machine g.K.QueueCore.comparisons g.C.Clock.given g.D.Door.same c.args.core.now
-            c.attend.new.core row _ c.args.seat c.args.seat c.index_mut.result.now c.attend.new.attendant
+            c.attend.new.hub row _ c.args.seat c.args.seat c.index_mut.result.now c.attend.new.attendant
             c.index_mut-2.result.now c.attend.new.door refl c.requires.ready.1 c.index_mut.ensures.value c.index_mut-2.ensures.value
             c.attend.ensures.went c.attend.ensures.same refl refl,
       );
       only = changed_one row.seats.items c.args.seat c.attend.new.attendant;
-      wakes = wakes_called g.K.QueueCore.machine g.K.QueueCore.comparisons g.C.Clock.given c.args.seat c.args.core.now c.attend.new.core
+      wakes = wakes_called g.K.QueueCore.machine g.K.QueueCore.comparisons g.C.Clock.given c.args.seat c.args.core.now c.attend.new.hub
           goes.0 goes.1 goes.2;
     }

@@ -2,7 +2,7 @@ use Rattle.std.proofs.Common.{[]}
 use Rattle.bq_line.specs.Tending.{door_seen}
 use Rattle.bq_event_loop.proofs.KnownLemmas.{changed_none, changed_then}
 use Rattle.bq_event_loop.proofs.ServingLemmas.{serves_none, serves_on, still_ready}
-use Rattle.bq_event_loop.proofs.WakeLemmas.{wakes_none, wakes_then}
+use Rattle.bq_host.proofs.WakeLemmas.{wakes_none, wakes_then}
 use Rattle.bq_event_loop.proofs.serve.act_to_extent.Goals as goal
 
 pub loop-done-init : goal.loop-done-init

@@ -2,7 +2,7 @@ use Rattle.std.proofs.Common.{[]}
 use Rattle.bq_line.specs.Tending.{door_seen}
 use Rattle.bq_event_loop.specs.Known.{ChangesOnly}
 use Rattle.bq_event_loop.specs.Serving.{TurnServes}
-use Rattle.bq_event_loop.specs.WakeLists.{Wakes}
+use Rattle.bq_host.specs.WakeLists.{Wakes}
 use Rattle.bq_event_loop.proofs.serve.act_to_extent.Given as goal
 
 abbrev pub invariant-loop-done : goal.invariant-loop-done

@@ -3,11 +3,11 @@ use Rattle.bq_line.specs.Tending.{door_seen}
 use Rattle.bq_event_loop.specs.Known.{IsFreeSeat}
 use Rattle.bq_event_loop.specs.Sleeping.{IsWaitFor, stands_of}
 use Rattle.bq_event_loop.specs.SoFar.{beginning}
-use Rattle.bq_event_loop.specs.WakeLists.{none_waits}
+use Rattle.bq_host.specs.WakeLists.{none_waits}
 use Rattle.bq_event_loop.proofs.KnownLemmas.{known_after}
 use Rattle.bq_event_loop.proofs.SleepingLemmas.{wait_woken}
 use Rattle.bq_event_loop.proofs.ControlLemmas.{tells_none, tells_then}
-use Rattle.bq_event_loop.proofs.LoopCoreLemmas.{order_woken}
+use Rattle.bq_host.proofs.HubLemmas.{order_woken}
 use Rattle.bq_event_loop.proofs.RowLemmas.{rested_none}
 use Rattle.bq_event_loop.proofs.SoFarLemmas.{serving_on, serving_so_far, so_far_as}
 use Rattle.bq_event_loop.proofs.ServingLemmas.{serves_none, serves_on, serves_rested, serves_then, serves_woken}

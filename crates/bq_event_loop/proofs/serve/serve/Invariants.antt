@@ -5,7 +5,7 @@ use Rattle.bq_event_loop.specs.ControlTold.{TellsOn}
 use Rattle.bq_event_loop.specs.Serving.{AreReady, ServesOn}
 use Rattle.bq_event_loop.specs.Known.{AreKnown, IsFreeSeat, IsStillSeat}
 use Rattle.bq_event_loop.specs.Sleeping.{IsWaitFor, stands_of}
-use Rattle.bq_event_loop.specs.WakeLists.{none_waits}
+use Rattle.bq_host.specs.WakeLists.{none_waits}
 use Rattle.bq_event_loop.proofs.serve.serve.Given as goal
 
 abbrev pub invariant-loop : goal.invariant-loop

@@ -1,6 +1,6 @@
 use Rattle.std.proofs.Common.{[], ◌++◌, ◌∙◌, length, refl}
 use Rattle.bq_event_loop.proofs.ControlLemmas.{tells_none, tells_on, tells_then}
-use Rattle.bq_event_loop.proofs.LoopCoreLemmas.{went_none, went_then}
+use Rattle.bq_host.proofs.HubLemmas.{went_none, went_then}
 use Rattle.bq_event_loop.proofs.serve.serve_control.Goals as goal
 
 pub loop-init : goal.loop-init

@@ -1,7 +1,7 @@
 use Rattle.std.proofs.Common.{◌≡◌, [], List, length}
 use Rattle.bq_job.specs.declared.step.Step.{Step}
 use Rattle.bq_event_loop.specs.ControlTold.{TellsOn}
-use Rattle.bq_event_loop.specs.LoopCores.{WentAt, state_of}
+use Rattle.bq_host.specs.Hubs.{WentAt, state_of}
 use Rattle.bq_host.specs.MailStates.{IsInOrder}
 use Rattle.bq_event_loop.proofs.serve.serve_control.Given as goal
 

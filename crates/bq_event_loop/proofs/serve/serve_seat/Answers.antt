@@ -2,7 +2,7 @@ use Rattle.std.proofs.Common.{[], refl}
 use Rattle.bq_line.specs.Tending.{door_seen}
 use Rattle.bq_event_loop.proofs.KnownLemmas.{changed_none}
 use Rattle.bq_event_loop.proofs.ServingLemmas.{serves_none, serves_on, serves_time}
-use Rattle.bq_event_loop.proofs.WakeLemmas.{wakes_none, wakes_then}
+use Rattle.bq_host.proofs.WakeLemmas.{wakes_none, wakes_then}
 use Rattle.bq_event_loop.proofs.serve.serve_seat.Goals as goal
 
 pub returns-then-not-may_act : goal.returns-then-not-may_act

@@ -1,6 +1,6 @@
 use Rattle.std.proofs.Common.{[], refl, arith, subst, sym}
 use Rattle.bq_event_loop.proofs.ControlLemmas.{tells_none}
-use Rattle.bq_event_loop.proofs.LoopCoreLemmas.{went_none}
+use Rattle.bq_host.proofs.HubLemmas.{went_none}
 use Rattle.bq_event_loop.proofs.serve.submit_one.Goals as goal
 
 pub returns-in_default-clause-served : goal.returns-in_default-clause-served

@@ -1,6 +1,6 @@
 use Rattle.std.proofs.Common.{[], ◌++◌, ◌∙◌, refl}
 use Rattle.bq_event_loop.proofs.ControlLemmas.{tells_then}
-use Rattle.bq_event_loop.proofs.LoopCoreLemmas.{went_then}
+use Rattle.bq_host.proofs.HubLemmas.{went_then}
 use Rattle.bq_event_loop.proofs.serve.submit_owed.Goals as goal
 
 pub returns-clause-served : goal.returns-clause-served

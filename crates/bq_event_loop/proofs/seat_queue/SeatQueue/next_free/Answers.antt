@@ -1,8 +1,9 @@
 use Rattle.std.proofs.Common.{arith, refl, subst, ◌∷◌, ◌++◌, []}
 use Rattle.std.proofs.lemmas.Grind.{common_steps}
 use Rattle.std.proofs.lemmas.List.{length-set}
-use Rattle.bq_event_loop.proofs.{ListingLemmas.{gone, left_free}, MarkLemmas.{within}}
-use Rattle.bq_event_loop.specs.Marks.{HasMarks}
+use Rattle.bq_event_loop.proofs.ListingLemmas.{gone, left_free}
+use Rattle.bq_host.proofs.MarkLemmas.{within}
+use Rattle.bq_host.specs.Marks.{HasMarks}
 use Rattle.bq_event_loop.specs.declared.seat_queue.Listed.TheVariants as lists
 use Rattle.bq_event_loop.specs.Listings.{AreMarked, is_free}
 use Rattle.bq_event_loop.proofs.seat_queue.SeatQueue.next_free.Goals as goal

@@ -1,6 +1,6 @@
 use Rattle.std.proofs.Common.{arith, ap, refl}
 use Rattle.std.proofs.lemmas.Grind.{common_steps}
-use Rattle.bq_event_loop.proofs.MarkLemmas.{room}
+use Rattle.bq_host.proofs.MarkLemmas.{room}
 use Rattle.bq_event_loop.specs.Listings.{is_free}
 use Rattle.bq_event_loop.specs.declared.seat_queue.Listed.TheVariants as lists
 use Rattle.bq_event_loop.proofs.seat_queue.SeatQueue.set_free.Goals as goal

@@ -1,8 +1,9 @@
 use Rattle.std.proofs.Common.{arith, refl, subst, ◌∷◌, []}
 use Rattle.std.proofs.lemmas.Grind.{common_steps}
 use Rattle.std.proofs.lemmas.List.{length-set}
-use Rattle.bq_event_loop.proofs.{ListingLemmas.{left_queue}, MarkLemmas.{within}}
-use Rattle.bq_event_loop.specs.Marks.{HasMarks}
+use Rattle.bq_event_loop.proofs.ListingLemmas.{left_queue}
+use Rattle.bq_host.proofs.MarkLemmas.{within}
+use Rattle.bq_host.specs.Marks.{HasMarks}
 use Rattle.bq_event_loop.specs.declared.seat_queue.Listed.TheVariants as lists
 use Rattle.bq_event_loop.specs.Listings.{AreMarked, is_queued}
 use Rattle.bq_event_loop.proofs.seat_queue.SeatQueue.take_next.Goals as goal

@@ -1,9 +1,0 @@
-use Rattle.std.proofs.Common.{[], refl}
-use Rattle.bq_line.specs.Links.{as_submitted}
-use Rattle.bq_event_loop.proofs.LoopCoreLemmas.{went_then}
-use Rattle.bq_event_loop.proofs.loop_core.LoopCore.submit.Goals as goal
-
-pub returns-clause-taken : goal.returns-clause-taken
-returns-clause-taken g c = λ e.
-    went_then g.K.QueueCore.machine g.K.QueueCore.comparisons g.C.Clock.given c.args.seat c.args.seat c.args.self.now c.sort.new.self
-    c.take_step.new.self [] (as_submitted c.args.step.now) [] [] refl c.sort.ensures.went.1 c.take_step.ensures.went.1

@@ -1,7 +1,0 @@
-use Rattle.bq_event_loop.proofs.LoopSeatLemmas.{still_at}
-use Rattle.bq_event_loop.proofs.loop_core.attend.Goals as goal
-
-pub returns-clause-still : goal.returns-clause-still
-returns-clause-still g c h =
-    still_at g.K.QueueCore.machine g.K.QueueCore.comparisons g.C.Clock.given _
-    c.go_on.new.link _ c.core-1.given.1 (c.go_on.ensures.still h)

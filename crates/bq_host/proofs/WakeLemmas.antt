@@ -1,0 +1,159 @@
+-- Seats that are to be woken since they have mail.
+use Rattle.std.proofs.Common.{ℕ, ◌≡◌, ◌≢◌, ◌⊎◌, inl, inr, ◌+◌, ◌≤◌, ◌<◌, ◌==◌, ◌&&◌, nat_lt, Bool, true, false, List, [], ◌∷◌, ◌++◌}
+use Rattle.std.proofs.Common.{length, slice_set, if◌then◌else◌, refl, sym, ap, ◌∙◌, subst, arith, append_assoc}
+use Rattle.std.specs.Prelude.{slice_index_or}
+use Rattle.std.proofs.lemmas.Bool.{cases_lt, lt-ltb}
+use Rattle.std.proofs.lemmas.Bool.Decides.{eqb_tells}
+use Rattle.std.proofs.lemmas.List.{get_or-set_other, get_or-set_same, get_or_default, get_or_past}
+use Rattle.bq_job.specs.declared.answer.Answer.{Answer}
+use Rattle.bq_job.specs.promise.Runs.{answers_to}
+use Rattle.bq_job.proofs.OneClientLemmas.{answers_append}
+use Rattle.bq_host.specs.MailStates.{IsSorted, MailState}
+use Rattle.bq_host.proofs.MarkLemmas.{same_one, times_push}
+use Rattle.bq_host.specs.Marks.{times}
+use Rattle.bq_host.specs.WakeLists.{WakeList, Wakes, to_wake}
+
+pub wakes_none : (mails : List (List Answer)) (w : WakeList) → Wakes mails mails w w
+wakes_none mails w = record { seats = refl; kept = λ seat. omega arith; mail = λ seat below empty. inl empty }
+
+pub wakes_same : (first last : List (List Answer)) (old new : WakeList) → last ≡ first → new ≡ old → Wakes first last old new
+wakes_same first last old new mails woken =
+    subst (λ ms. Wakes first ms old new) (sym mails) (subst (λ w. Wakes first first old w) (sym woken) (wakes_none first old))
+
+pub wakes_then : (first next last : List (List Answer)) (old mid new : WakeList) → Wakes first next old mid → Wakes next last mid new
+    → Wakes first last old new
+wakes_then first next last old mid new a b = record {
+  seats = b.seats ∙ a.seats;
+  kept = λ seat. omega (arith, a.kept seat, b.kept seat);
+  mail = λ seat below empty. by seat below (a.mail seat below empty);
+}
+  where
+    by : (seat : ℕ) → seat < old.seats → (slice_index_or next seat [] ≡ []) ⊎ (0 < times seat mid.waiting)
+        → (slice_index_or last seat [] ≡ []) ⊎ (0 < times seat new.waiting)
+    by seat below (inl none) = b.mail seat (omega (arith, a.seats, below)) none
+    by seat below (inr waits) = inr (omega (arith, waits, b.kept seat))
+
+-- The seat is added to the list.
+abbrev add_if : Bool → ℕ → WakeList → WakeList
+add_if b seat w = if b then record w { waiting = w.waiting ++ seat ∷ [] } else w
+
+added_kept : (b : Bool) (seat t : ℕ) (w : WakeList) → times t w.waiting ≤ times t (add_if b seat w).waiting
+added_kept true seat t w = omega (arith, times_push t w.waiting seat)
+added_kept false seat t w = omega arith
+
+added_seats : (b : Bool) (seat : ℕ) (w : WakeList) → (add_if b seat w).seats ≡ w.seats
+added_seats true seat w = refl
+added_seats false seat w = refl
+
+added_waits : (b : Bool) (seat : ℕ) (w : WakeList) → (b ≡ false → 0 < times seat w.waiting) → 0 < times seat (add_if b seat w).waiting
+added_waits true seat w there = omega (arith, times_push seat w.waiting seat, same_one seat)
+added_waits false seat w there = there refl
+
+waits_already : (below : Bool) (n : ℕ) → below ≡ true → (below && (n == 0)) ≡ false → 0 < n
+waits_already true n is gone = by (eqb_tells n 0) where
+  by : ((n == 0) ≡ true) × (n ≡ 0) ⊎ ((n == 0) ≡ false) × (n ≢ 0) → 0 < n
+  by (inl (test, _)) = absurd (let e : true ≡ false = sym test ∙ gone in cc)
+  by (inr (_, differs)) = omega (arith, differs)
+waits_already false n is gone = absurd cc
+
+-- A seat of the list's numbers is on it once it was added.
+pub waits_now : (seat : ℕ) (w : WakeList) → seat < w.seats → 0 < times seat (to_wake seat w).waiting
+waits_now seat w below =
+    added_waits (nat_lt seat w.seats && (times seat w.waiting == 0)) seat w
+    (waits_already (nat_lt seat w.seats) (times seat w.waiting) (lt-ltb seat w.seats below))
+
+pub wakes_added : (mails : List (List Answer)) (seat : ℕ) (w : WakeList) → Wakes mails mails w (to_wake seat w)
+wakes_added mails seat w =
+    let b = nat_lt seat w.seats && (times seat w.waiting == 0) in
+    record { seats = added_seats b seat w; kept = λ t. added_kept b seat t w; mail = λ t below empty. inl empty }
+
+-- An answer was put into the mail of a seat that is now to be woken.
+pub wakes_posted : (old new : List (List Answer)) (seat : ℕ) (answer : Answer) (w : WakeList) → length new ≡ length old
+    → ((t : ℕ) → t < length old → slice_index_or new t [] ≡ slice_index_or old t [] ++ answers_to t ((seat, answer) ∷ []))
+    → Wakes old new w (to_wake seat w)
+wakes_posted old new seat answer w many put = record {
+  seats = added_seats b seat w;
+  kept = λ t. added_kept b seat t w;
+  mail = λ t below empty. at t below empty (eqb_tells seat t) (cases_lt t (length old));
+}
+  where
+    b : Bool
+    b = nat_lt seat w.seats && (times seat w.waiting == 0)
+
+    other : (t : ℕ) → (seat == t) ≡ false → answers_to t ((seat, answer) ∷ []) ≡ []
+    other t e = rw e refl
+
+    at : (t : ℕ) → t < w.seats → slice_index_or old t [] ≡ [] → ((seat == t) ≡ true) × (seat ≡ t) ⊎ ((seat == t) ≡ false) × (seat ≢ t)
+        → (t < length old) ⊎ (length old ≤ t) → (slice_index_or new t [] ≡ []) ⊎ (0 < times t (to_wake seat w).waiting)
+    at t below empty (inl (_, same)) there =
+        inr (subst (λ n. 0 < times n (to_wake seat w).waiting) same (waits_now seat w (omega (arith, same, below))))
+    at t below empty (inr (test, _)) (inl here) =
+        inl (put t here ∙ ap (λ xs. xs ++ answers_to t ((seat, answer) ∷ [])) empty ∙ other t test)
+    at t below empty (inr (test, _)) (inr past) = inl (get_or_past new t [] (omega (arith, many, past)))
+
+-- A seat took the first answer of its mail, or there was none.
+pub wakes_taken : (mails : List (List Answer)) (i : ℕ) (old rest taken : List Answer) (w : WakeList) → i < length mails
+    → old ≡ slice_index_or mails i old → old ≡ taken ++ rest → Wakes mails (slice_set mails i rest) w w
+wakes_taken mails i old rest taken w below at is = record {
+  seats = refl;
+  kept = λ t. omega arith;
+  mail = λ t there empty. inl (by t empty (eqb_tells i t));
+}
+  where
+    none : old ≡ [] → rest ≡ []
+    none empty = nothing_left taken rest (sym is ∙ empty) where
+      nothing_left : (xs ys : List Answer) → xs ++ ys ≡ [] → ys ≡ []
+      nothing_left [] ys e = e
+      nothing_left (x ∷ xs) ys e = absurd cc
+
+    by : (t : ℕ) → slice_index_or mails t [] ≡ [] → ((i == t) ≡ true) × (i ≡ t) ⊎ ((i == t) ≡ false) × (i ≢ t)
+        → slice_index_or (slice_set mails i rest) t [] ≡ []
+    by t empty (inl (_, same)) =
+        let before : slice_index_or mails i [] ≡ old = get_or_default mails i [] old below ∙ sym at in
+        let was : old ≡ [] = sym before ∙ ap (λ n. slice_index_or mails n []) same ∙ empty in
+        ap (λ n. slice_index_or (slice_set mails i rest) n []) (sym same) ∙ get_or-set_same mails i rest [] below ∙ none was
+    by t empty (inr (_, differs)) = get_or-set_other mails i t rest [] (λ e. differs (sym e)) ∙ empty
+
+-- The same after an answer was taken out to be put into a mail: `next` and `mid` are what was before.
+pub wakes_put : (first mails next last : List (List Answer)) (old w mid new : WakeList) (seat : ℕ) (answer : Answer)
+    → Wakes first mails old w → next ≡ mails → mid ≡ w → length last ≡ length next
+    → ((t : ℕ) → t < length next → slice_index_or last t [] ≡ slice_index_or next t [] ++ answers_to t ((seat, answer) ∷ []))
+    → new ≡ to_wake seat mid → Wakes first last old new
+wakes_put first mails next last old w mid new seat answer so_far same still many put woken =
+    wakes_then first next last old mid new
+    (wakes_then first mails next old w mid so_far (wakes_same mails next w mid same still))
+    (subst (λ z. Wakes next last mid z) (sym woken) (wakes_posted next last seat answer mid many put))
+
+pub wakes_full : (first mails next last : List (List Answer)) (old w mid new : WakeList) (seat : ℕ)
+    → Wakes first mails old w → next ≡ mails → mid ≡ w → last ≡ next → new ≡ to_wake seat mid → Wakes first last old new
+wakes_full first mails next last old w mid new seat so_far same still kept woken =
+    wakes_then first next last old mid new
+    (wakes_then first mails next old w mid so_far (wakes_same mails next w mid same still))
+    (subst (λ z. Wakes next z mid new) (sym kept) (subst (λ z. Wakes next next mid z) (sym woken) (wakes_added next seat mid)))
+
+-- An answer went from those that are pending into the mail of its seat.
+pub sorted_put : (first mid next : MailState) (mails : List (List Answer)) (seat : ℕ) (answer : Answer) → IsSorted first mid
+    → next.core ≡ mid.core → next.heard ≡ mid.heard → next.most ≡ mid.most → next.known ≡ mid.known → next.due ≡ mid.due
+    → next.compared ≡ mid.compared → next.mails ≡ mid.mails → mid.pending ≡ (seat, answer) ∷ next.pending
+    → length mails ≡ length next.mails
+    → ((t : ℕ) → t < length next.mails → slice_index_or mails t [] ≡ slice_index_or next.mails t [] ++ answers_to t ((seat, answer) ∷ []))
+    → IsSorted first (record next { mails = mails })
+sorted_put first mid next mails seat answer s core heard most known due compared same pending many put = record {
+  core = core ∙ s.core;
+  heard = heard ∙ s.heard;
+  most = most ∙ s.most;
+  known = known ∙ s.known;
+  due = due ∙ s.due;
+  compared = compared ∙ s.compared;
+  many = many ∙ ap length same ∙ s.many;
+  waiting_is = λ t below. at t (subst (λ n. t < n) (sym (ap length same ∙ s.many)) below) ∙ s.waiting_is t below;
+}
+  where
+    at : (t : ℕ) → t < length next.mails
+        → slice_index_or mails t [] ++ answers_to t next.pending ≡ slice_index_or mid.mails t [] ++ answers_to t mid.pending
+    at t here =
+        ap (λ xs. xs ++ answers_to t next.pending) (put t here)
+        ∙ append_assoc (slice_index_or next.mails t []) (answers_to t ((seat, answer) ∷ [])) (answers_to t next.pending)
+        ∙ ap (λ xs. slice_index_or next.mails t [] ++ xs) (sym (answers_append t ((seat, answer) ∷ []) next.pending))
+        ∙ ap (λ xs. slice_index_or next.mails t [] ++ answers_to t xs) (sym pending)
+        ∙ ap (λ ms. slice_index_or ms t [] ++ answers_to t mid.pending) same

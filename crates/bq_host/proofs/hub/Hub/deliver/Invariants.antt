@@ -1,0 +1,16 @@
+use Rattle.std.proofs.Common.{◌≡◌, length}
+use Rattle.bq_host.specs.Hubs.{state_of}
+use Rattle.bq_host.specs.MailStates.{IsSorted}
+use Rattle.bq_host.specs.WakeLists.{Wakes}
+use Rattle.bq_host.proofs.hub.Hub.deliver.Given as goal
+
+abbrev pub invariant-loop-seat : goal.invariant-loop-seat
+invariant-loop-seat g l = record {
+  sorted : IsSorted (state_of g.K.QueueCore.machine g.K.QueueCore.comparisons l.fn.self)
+      (state_of g.K.QueueCore.machine g.K.QueueCore.comparisons l.self);
+  clock : l.self.timed.time.clock ≡ l.fn.self.timed.time.clock;
+  wakes : Wakes l.fn.self.mails.items l.self.mails.items l.fn.self.woken l.self.woken;
+}
+
+abbrev pub decreases-loop-seat : goal.decreases-loop-seat
+decreases-loop-seat g l = length (state_of g.K.QueueCore.machine g.K.QueueCore.comparisons l.self).pending

@@ -1,0 +1,67 @@
+//! A seat's link to its hub, and one action of a seat that attends to a door.
+ghost use Rattle.std.specs.Prelude.{◌≡◌, [], ℕ, List};
+ghost use Rattle.bq_job.specs.declared.answer.Answer.{Answer};
+ghost use Rattle.bq_job.specs.declared.step.Step.{Step};
+ghost use Rattle.bq_line.specs.Links.{Calls};
+ghost use Rattle.bq_line.specs.Tending.{GoesOn, IsPlaced, MayEndAt, door_seen};
+ghost use Rattle.bq_host.specs.MailStates.{IsInOrder};
+ghost use Rattle.bq_host.specs.Hubs.{IsInOrderFor, WentAt, state_of};
+
+use crate::hub::Hub;
+use bq_core_api::QueueCore;
+use bq_job::{Seat, Step};
+use bq_line::Door;
+use bq_line::attendant::{Attendant, Link, Progress};
+use bq_line::buffers::Buffers;
+use bq_line::clock::Clock;
+use bq_line::line::Line;
+use bq_seat::Action;
+
+/// A seat's link to the hub at which it is served.
+#[derive(Drop)]
+pub struct HubSeat<'a, C, K> {
+    hub: &'a mut Hub<C, K>,
+    seat: Seat,
+}
+
+impl<'a, C: Clock + Drop, K: QueueCore + Drop> Link for HubSeat<'a, C, K> {
+    ghost is_ready = { λ l. IsInOrderFor K.machine K.comparisons l.seat l.hub.now };
+
+    // After the link is dropped, the hub is known by its ghost name.
+    ghost went = { λ first submitted taken last. (last.hub.ghost_name ≡ first.hub.ghost_name) × (last.seat ≡ first.seat) ×
+        WentAt K.machine K.comparisons C.given first.seat first.hub.now submitted taken last.hub.now };
+
+    fn submit(&mut self, step: &mut Step) -> bool {
+        self.hub.submit(self.seat, step)
+    }
+
+    fn mail(&mut self, place: &mut Action) -> bool {
+        self.hub.take_to(self.seat, place)
+    }
+}
+
+/// Does one action of a seat that attends to a door, at the hub. Returns what moved or what was
+/// missing.
+pub fn attend<L: Line + Drop, D: Door<Line = L>, C: Clock + Drop, K: QueueCore + Drop>(
+    attendant: &mut Attendant<L>,
+    door: &mut D,
+    hub: &mut Hub<C, K>,
+    seat: Seat,
+    buffers: &mut Buffers,
+) -> Progress
+    requires placed { IsPlaced attendant.old.place
+        (door_seen D.is_out D.is_at_end D.lines_over door.old) }
+    requires ready { IsInOrderFor K.machine K.comparisons seat hub.old }
+    ensures order { IsInOrder (state_of K.machine K.comparisons hub.new) }
+    // The result is one that this place can have. Unless something moved, the seat submitted
+    // nothing and took nothing.
+    ensures progress { MayEndAt result attendant.old.place }
+    ensures still { (result ≡ Progress.Moved → ⊥) → Calls (WentAt K.machine K.comparisons C.given seat) hub.old [] [] hub.new }
+    ensures went { let at = door_seen D.is_out D.is_at_end D.lines_over in
+        GoesOn (WentAt K.machine K.comparisons C.given seat) hub.old hub.new L.seen attendant.old (at door.old) attendant.new (at door.new) }
+    ensures same { (first : D) → D.same first door.old → D.same first door.new }
+{
+    let alloc = hub.timed.alloc;
+    let mut link = HubSeat { hub, seat };
+    attendant.go_on(alloc, door, &mut link, buffers)
+}
