@@ -1,8 +1,10 @@
-//! A seat's link to its hub, and one action of a seat that attends to a door.
-ghost use Rattle.std.specs.Prelude.{◌≡◌, [], ℕ, List};
+//! A seat's link to its hub, and one action of a seat at it.
+ghost use Rattle.std.specs.Prelude.{◌≡◌, [], List};
 ghost use Rattle.bq_job.specs.declared.answer.Answer.{Answer};
 ghost use Rattle.bq_job.specs.declared.step.Step.{Step};
+ghost use Rattle.bq_line.specs.Carried.{CarriedPart};
 ghost use Rattle.bq_line.specs.Links.{Calls};
+ghost use Rattle.bq_line.specs.Streams.{StaysOver};
 ghost use Rattle.bq_line.specs.Tending.{GoesOn, IsPlaced, MayEndAt, door_seen};
 ghost use Rattle.bq_host.specs.MailStates.{IsInOrder};
 ghost use Rattle.bq_host.specs.Hubs.{IsInOrderFor, WentAt, state_of};
@@ -11,11 +13,11 @@ use crate::hub::Hub;
 use bq_core_api::QueueCore;
 use bq_job::{Seat, Step};
 use bq_line::Door;
-use bq_line::attendant::{Attendant, Link, Progress};
+use bq_line::attendant::{Attendant, Link, Progress, carry_out};
 use bq_line::buffers::Buffers;
 use bq_line::clock::Clock;
 use bq_line::line::Line;
-use bq_seat::Action;
+use bq_seat::{Action, SeatMachine};
 
 /// A seat's link to the hub at which it is served.
 #[derive(Drop)]
@@ -64,4 +66,26 @@ pub fn attend<L: Line + Drop, D: Door<Line = L>, C: Clock + Drop, K: QueueCore +
     let alloc = hub.timed.alloc;
     let mut link = HubSeat { hub, seat };
     attendant.go_on(alloc, door, &mut link, buffers)
+}
+
+/// Carries out one action of a seat machine at the hub, and replaces it by the next one. Returns
+/// what moved or what was missing.
+pub fn act<L: Line, C: Clock + Drop, K: QueueCore + Drop>(
+    machine: &mut SeatMachine,
+    action: &mut Action,
+    sent: &mut usize,
+    line: &mut L,
+    hub: &mut Hub<C, K>,
+    seat: Seat,
+    buffers: &mut Buffers,
+) -> Progress
+    requires ready { IsInOrderFor K.machine K.comparisons seat hub.old }
+    ensures order { IsInOrder (state_of K.machine K.comparisons hub.new) }
+    ensures carried { (submitted : List Step) × (taken : List Answer) × WentAt K.machine K.comparisons C.given seat hub.old submitted taken hub.new ×
+        CarriedPart result machine.old (L.seen line.old) action.old sent.old machine.new (L.seen line.new) action.new sent.new submitted taken }
+    ensures stays { StaysOver L.lies_over line.old line.new }
+{
+    let alloc = hub.timed.alloc;
+    let mut link = HubSeat { hub, seat };
+    carry_out(alloc, machine, action, sent, line, &mut link, buffers)
 }

@@ -1,4 +1,4 @@
--- A lone connection is served at a desk.
+-- A lone connection is served at a hub.
 use Rattle.std.proofs.Common.{◌≡◌, ◌≢◌, ℕ, ◌<◌, true, false, List, [], ◌∷◌, ◌++◌}
 use Rattle.std.proofs.Common.{Option, length, refl, sym, ap, ◌∙◌, arith, subst, inl, inr, append-nil, map}
 use Rattle.std.specs.Prelude.{◌==◌}
@@ -24,46 +24,46 @@ use Rattle.bq_host.proofs.WentLemmas.{none_waits, seat_none, seat_on}
 use Rattle.bq_line.proofs.CarriedLemmas.{none_begun}
 use Rattle.bq_line.proofs.SeatLemmas.{carried_on, line_served}
 
--- Starting from a new desk, only this seat did anything, and it served its connection.
-pub record IsServingAlone (settings : Settings) (seat : ℕ) (readings : List (Option ℕ)) (desk : MailState) (machine : SeatMachine)
+-- Starting from a new hub, only this seat did anything, and it served its connection.
+pub record IsServingAlone (settings : Settings) (seat : ℕ) (readings : List (Option ℕ)) (state : MailState) (machine : SeatMachine)
     (seen : LineSeen) (action : Action) (sent : ℕ) : Type 0 where
   pub first : MailState
   pub submitted : List Step
   pub taken : List Answer
   pub new : IsNewMailState settings first
-  pub went : SeatWent seat first readings submitted taken desk
+  pub went : SeatWent seat first readings submitted taken state
   pub before : LineSeen
   pub part : seen ≡ with_part action sent before
   pub on_line : IsOnLine settings.max_job_size machine before action submitted taken
 
-pub begins_alone : (settings : Settings) (seat : ℕ) (desk : MailState) (machine : SeatMachine) (seen : LineSeen) (action : Action)
-    → IsNewMailState settings desk → IsOnLine settings.max_job_size machine seen action [] []
-    → IsServingAlone settings seat [] desk machine seen action 0
-begins_alone settings seat desk machine seen action new on =
+pub begins_alone : (settings : Settings) (seat : ℕ) (state : MailState) (machine : SeatMachine) (seen : LineSeen) (action : Action)
+    → IsNewMailState settings state → IsOnLine settings.max_job_size machine seen action [] []
+    → IsServingAlone settings seat [] state machine seen action 0
+begins_alone settings seat state machine seen action new on =
     record {
-      first = desk;
+      first = state;
       submitted = [];
       taken = [];
       new = new;
-      went = seat_none desk seat;
+      went = seat_none state seat;
       before = seen;
       part = none_begun action seen;
       on_line = on;
     }
 
-pub goes_on_alone : (result : Progress) (settings : Settings) (seat : ℕ) (readings reads : List (Option ℕ)) (desk next : MailState)
+pub goes_on_alone : (result : Progress) (settings : Settings) (seat : ℕ) (readings reads : List (Option ℕ)) (state next : MailState)
     (old new : SeatMachine) (seen later : LineSeen) (action then_action : Action) (sent now : ℕ)
     (submitted : List Step) (taken : List Answer)
-    → IsServingAlone settings seat readings desk old seen action sent → SeatWent seat desk reads submitted taken next
+    → IsServingAlone settings seat readings state old seen action sent → SeatWent seat state reads submitted taken next
     → CarriesOn result old seen action sent new later then_action now submitted taken
     → IsServingAlone settings seat (readings ++ reads) next new later then_action now
-goes_on_alone result settings seat readings reads desk next old new seen later action then_action sent now submitted taken s w carries =
+goes_on_alone result settings seat readings reads state next old new seen later action then_action sent now submitted taken s w carries =
     let c = carries s.before s.part in record {
       first = s.first;
       submitted = s.submitted ++ submitted;
       taken = s.taken ++ taken;
       new = s.new;
-      went = seat_on s.first desk next seat readings reads s.submitted submitted s.taken taken s.went w;
+      went = seat_on s.first state next seat readings reads s.submitted submitted s.taken taken s.went w;
       before = c.0;
       part = c.1;
       on_line = carried_on result settings.max_job_size old new s.before c.0 action then_action s.submitted submitted s.taken taken
@@ -100,11 +100,11 @@ alone_there seat (e ∷ history) h =
         let no : e.what ∷ steps_at e.seat history ≡ [] = rw (x, same) at g in cc
 
 -- A connection that has ended: what its seat and the core did, and how it fits together.
-pub over_alone : (settings : Settings) (seat : ℕ) (readings : List (Option ℕ)) (desk : MailState) (machine : SeatMachine) (seen : LineSeen)
-    (end : LineEnd) (sent : ℕ) (s : IsServingAlone settings seat readings desk machine seen (actions.LineOver end) sent)
+pub over_alone : (settings : Settings) (seat : ℕ) (readings : List (Option ℕ)) (state : MailState) (machine : SeatMachine) (seen : LineSeen)
+    (end : LineEnd) (sent : ℕ) (s : IsServingAlone settings seat readings state machine seen (actions.LineOver end) sent)
     → seat < settings.seats → length s.first.mails ≡ settings.seats
-    → IsLineJoined settings seat (record { seen = seen; over = end }) readings s.went.history s.went.went.given desk.core
-over_alone settings seat readings desk machine seen end sent s within many =
+    → IsLineJoined settings seat (record { seen = seen; over = end }) readings s.went.history s.went.went.given state.core
+over_alone settings seat readings state machine seen end sent s within many =
     let w = s.went in
     let d = w.went in
     let on : IsOnLine settings.max_job_size machine seen (actions.LineOver end) s.submitted s.taken =
@@ -113,16 +113,16 @@ over_alone settings seat readings desk machine seen end sent s within many =
     let none = none_waits settings s.first seat s.new in
     record {
       taken = s.taken;
-      waiting = waiting seat desk;
+      waiting = waiting seat state;
       within = within;
       run = record {
-        runs = subst (λ (m : Machine). Run m w.history d.given desk.core) s.new.core d.runs;
+        runs = subst (λ (m : Machine). Run m w.history d.given state.core) s.new.core d.runs;
         timed = subst (λ (n : ℕ). ArePickedFrom (map (λ (e : Entry). e.moment) w.history) (moments_heard n readings))
             s.new.heard d.timed.picked;
       };
       served = (s.submitted, [], s.taken, [], line, w.submitted_is ∙ sym (append-nil s.submitted), sym (append-nil s.taken), (refl, refl));
       answers_are =
           ap (λ (xs : List Answer). xs ++ answers_to seat d.given) (sym none) ∙ d.tied seat (omega arith)
-          ∙ ap (λ (xs : List Answer). xs ++ waiting seat desk) w.taken_is;
+          ∙ ap (λ (xs : List Answer). xs ++ waiting seat state) w.taken_is;
       of_nobody_else = alone_there seat w.history w.others_still;
     }

@@ -1,3 +1,1 @@
 pub mod AloneLemmas
-pub mod DeskLemmas
-pub mod DeskSeatLemmas

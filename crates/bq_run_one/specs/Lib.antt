@@ -1,2 +1,1 @@
-pub mod DeskOf
 pub mod RunSettings

@@ -1,9 +1,6 @@
-//! A desk: a core with its clock and the mail of each seat, all owned by one thread; and the run of
-//! one connection at it.
+//! A run of one connection by one thread, which owns the core: a hub with one seat.
 #![tactic(auto)]
 
 pub use one::{One, run_one};
 
-pub mod desk;
-pub mod desk_seat;
 mod one;

@@ -1,4 +1,4 @@
-ghost use Rattle.std.specs.Prelude.{◌↔◌, ◌≡◌, List, Option, ℕ, IfOk, IsErrOf, IsTrue, not};
+ghost use Rattle.std.specs.Prelude.{◌↔◌, ◌≡◌, [], List, Option, ℕ, IfOk, IsErrOf, IsTrue, not};
 ghost use Rattle.bq_job.specs.laws.TheHeadline.{AreJobsServedIn};
 ghost use Rattle.bq_job.specs.promise.Headline.{IsHistoryOfLine};
 ghost use Rattle.bq_seat.specs.Past.{Awaited};
@@ -6,13 +6,13 @@ ghost use Rattle.bq_seat.specs.SeatStands.{awaited};
 ghost use Rattle.bq_line.specs.LineCalls.{new_line};
 ghost use Rattle.bq_line.specs.Streams.{StaysOver};
 ghost use Rattle.bq_host.specs.MailStates.{IsNewMailState};
-ghost use Rattle.bq_run_one.specs.DeskOf.{state_of};
+ghost use Rattle.bq_host.specs.Hubs.{IsInOrderFor, WentAt, state_of};
 ghost use Rattle.bq_run_one.specs.RunSettings.{is_lone};
 
-use crate::desk::Desk;
-use crate::desk_seat::act;
-use bq_core::Config;
-use bq_host::RunFault;
+use bq_core::{Config, Core};
+use bq_core_api::QueueCore;
+use bq_host::hub_seat::act;
+use bq_host::{Hub, RunFault};
 use bq_job::{LineEnd, Seat, the_headline};
 use bq_line::attendant::Progress;
 use bq_line::buffers::Buffers;
@@ -72,57 +72,77 @@ pub fn run_one<R: Wait, L: Line + Drop, C: Clock + Drop>(
     if config.seats != 1 {
         return Err(RunFault::BadConfiguration);
     }
-    let desk = Desk::new(alloc, config, clock)?;
+    let hub: Hub<C, Core> = Hub::new(alloc, config, clock)?;
     let Ok(machine) = SeatMachine::new(alloc, config.max_job_size) else {
         return Err(RunFault::NoMemory);
     };
     the_headline();
-    Ok(serve_line(rt, line, desk, machine))
+    Ok(serve_line(rt, line, hub, machine))
 }
 
-// Serves a connection until it ends, at a new desk, with its only seat.
-fn serve_line<R: Wait, L: Line + Drop, C: Clock + Drop>(
+// Serves a connection until it ends, at a new hub, with its only seat.
+fn serve_line<R: Wait, L: Line + Drop, C: Clock + Drop, K: QueueCore + Drop>(
     rt: &R,
     line: L,
-    desk: Desk<C>,
+    hub: Hub<C, K>,
     machine: SeatMachine,
 ) -> One<L, C>
     requires new { L.seen line ≡ new_line }
-    requires desk { IsNewMailState desk.timed.core.machine.settings (state_of desk) }
-    requires lone { desk.timed.core.machine.settings.seats ≡ 1 }
+    requires hub { IsNewMailState (K.machine hub.timed.core).settings (state_of K.machine K.comparisons hub) }
+    requires lone { (K.machine hub.timed.core).settings.seats ≡ 1 }
     requires awaits { awaited machine ≡ Awaited.ALine }
-    requires limit { machine.reader.max_job_size ≡ desk.timed.core.machine.settings.max_job_size }
-    ensures served { (readings : List (Option ℕ)) × C.given desk.timed.time.clock readings result.clock ×
-        IsHistoryOfLine desk.timed.core.machine.settings 0 (record { seen = L.seen result.line; over = result.end }) readings }
+    requires limit { machine.reader.max_job_size ≡ (K.machine hub.timed.core).settings.max_job_size }
+    ensures served { (readings : List (Option ℕ)) × C.given hub.timed.time.clock readings result.clock ×
+        IsHistoryOfLine (K.machine hub.timed.core).settings 0 (record { seen = L.seen result.line; over = result.end }) readings }
     ensures stays { StaysOver L.lies_over line result.line }
 {
     let mut line = line;
-    let mut desk = desk;
+    let mut hub = hub;
     let mut machine = machine;
     let mut buffers = Buffers::new();
     let bell = Parker::new();
-    let mut action = machine.on(desk.timed.alloc, Event::Opened);
+    let mut action = machine.on(hub.timed.alloc, Event::Opened);
     let mut sent = 0;
     for _ in rt.forever() {
         if let Action::LineOver(end) = action {
             return One {
                 line,
                 end,
-                clock: desk.into_clock(),
+                clock: into_clock(hub),
             };
         }
+        pass_time_before(&action, &mut hub);
         let progress = act(
             &mut machine,
             &mut action,
             &mut sent,
             &mut line,
-            &mut desk,
+            &mut hub,
             ONLY_SEAT,
             &mut buffers,
         );
         rest_after(rt, &bell, progress, &action);
     }
     unreachable!()
+}
+
+// Returns the clock of a hub.
+fn into_clock<C: Clock + Drop, K: QueueCore + Drop>(hub: Hub<C, K>) -> C
+    ensures { result ≡ hub.timed.time.clock }
+{
+    let timed = hub.timed;
+    timed.time.clock
+}
+
+// Lets time pass if the next action checks the mail.
+fn pass_time_before<C: Clock + Drop, K: QueueCore + Drop>(next: &Action, hub: &mut Hub<C, K>)
+    requires ready { IsInOrderFor K.machine K.comparisons 0 hub.old }
+    ensures ready { IsInOrderFor K.machine K.comparisons 0 hub.new }
+    ensures went { WentAt K.machine K.comparisons C.given 0 hub.old [] [] hub.new }
+{
+    if matches!(next, Action::PollMail) {
+        let _due = hub.pass_time();
+    }
 }
 
 // Sleeps for a moment if no answer has come and the next action checks the mail again: nothing can

@@ -2,32 +2,34 @@ use Rattle.std.proofs.Common.{◌≡◌, ◌∙◌, ap, subst, sym}
 use Rattle.bq_job.specs.declared.settings.Settings.{Settings}
 use Rattle.bq_job.specs.machine.Machine.{Machine}
 use Rattle.bq_job.specs.promise.Headline.{IsHistoryOfLine}
-use Rattle.bq_run_one.specs.DeskOf.{state_of}
+use Rattle.bq_core.specs.CoreState.{CoreState}
+use Rattle.bq_host.specs.Hubs.{state_of}
 use Rattle.bq_host.specs.MailStates.{IsNewMailState}
 use Rattle.bq_run_one.proofs.one.run_one.Goals as goal
 
-pub serve_line-requires-clause-desk : goal.serve_line-requires-clause-desk
-serve_line-requires-clause-desk g c =
-    let made = c.in_ok-desk.ensures.made in
-    subst (λ (s : Settings). IsNewMailState s (state_of c.in_ok-desk.desk)) (sym (ap (λ (m : Machine). m.settings) made.core)) made
+pub serve_line-requires-clause-hub : goal.serve_line-requires-clause-hub
+serve_line-requires-clause-hub g c =
+    let made = c.in_ok-hub.ensures.made in
+    let state = state_of (λ (k : CoreState). k.machine) (λ (k : CoreState). k.comparisons) c.in_ok-hub.hub in
+    subst (λ (s : Settings). IsNewMailState s state) (sym (ap (λ (m : Machine). m.settings) made.core)) made
 
 pub serve_line-requires-clause-lone : goal.serve_line-requires-clause-lone
 serve_line-requires-clause-lone g c =
     let seats : c.args.config.seats ≡ 1 = c.if-config-ne1.false in
-    ap (λ (m : Machine). m.settings.seats) c.in_ok-desk.ensures.made.core ∙ seats
+    ap (λ (m : Machine). m.settings.seats) c.in_ok-hub.ensures.made.core ∙ seats
 
 pub serve_line-requires-clause-limit : goal.serve_line-requires-clause-limit
 serve_line-requires-clause-limit g c = c.in-Ok.ensures.limit
-    ∙ sym (ap (λ (m : Machine). m.settings.max_job_size) c.in_ok-desk.ensures.made.core)
+    ∙ sym (ap (λ (m : Machine). m.settings.max_job_size) c.in_ok-hub.ensures.made.core)
 
 pub returns-clause-served : goal.returns-clause-served
 returns-clause-served g c =
     let s = c.serve_line.ensures.served in
     let one = c.serve_line.result in (
       s.0,
-      subst (λ clock. g.C.Clock.given clock s.0 one.clock) c.in_ok-desk.ensures.clock s.1,
+      subst (λ clock. g.C.Clock.given clock s.0 one.clock) c.in_ok-hub.ensures.clock s.1,
       subst (λ (n : Settings). IsHistoryOfLine n 0 (record { seen = g.L.Line.seen one.line; over = one.end }) s.0)
-          (ap (λ (m : Machine). m.settings) c.in_ok-desk.ensures.made.core) s.2,
+          (ap (λ (m : Machine). m.settings) c.in_ok-hub.ensures.made.core) s.2,
     )
 
 pub returns-clause-headline : goal.returns-clause-headline
