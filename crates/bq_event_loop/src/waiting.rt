@@ -102,10 +102,7 @@ fn note_seat<L: Line + Drop, D: Door<Line = L>>(
     ensures keeps { KeepsRow L.seen (door_seen D.is_out D.is_at_end D.lines_over) D.same row.old row.new }
     ensures only { ChangesOnly seat row.old.seats.items row.new.seats.items }
     ensures still { IsStillSeat L.may_give L.may_take news.new.still row.new.seats.items mails.now.items }
-    ensures free { news.new.free ≡ news.old.free }
-    ensures due { news.new.due ≡ news.old.due }
-    ensures control { news.new.control ≡ news.old.control }
-    ensures may_come { news.new.may_come ≡ news.old.may_come }
+    ensures rest { news.new ≡ record news.old { stands = news.new.stands; tries_again = news.new.tries_again; still = news.new.still } }
 {
     news.stands = row.stands(seat);
     news.tries_again = row.tries_again(seat);
@@ -153,10 +150,8 @@ fn look<W: Sleeper, L: Line + Drop, D: Door<Line = L>>(
     ensures keeps { KeepsRow L.seen (door_seen D.is_out D.is_at_end D.lines_over) D.same row.old row.new }
     ensures only { ChangesOnly seat row.old.seats.items row.new.seats.items }
     ensures free { IsFreeSeat news.new.free row.new.seats.items }
-    ensures still { news.new.still ≡ news.old.still }
-    ensures due { news.new.due ≡ news.old.due }
-    ensures control { news.new.control ≡ news.old.control }
     ensures may_come { news.new.may_come ≡ may_come doors.new.accepts }
+    ensures rest { news.new ≡ record news.old { free = news.new.free; may_come = news.new.may_come; progress = news.new.progress } }
     // Only a check that found no client changes what is known of the doors.
     ensures found { news.new.free ≡ None → doors.new ≡ doors.old }
 {
@@ -212,11 +207,8 @@ fn wait<
     ensures keeps { KeepsRow L.seen (door_seen D.is_out D.is_at_end D.lines_over) D.same row.old row.new }
     ensures known { AreKnown L.may_give L.may_take (T.seats turns.new) (T.listed turns.new) (T.looks turns.new) []
         row.new.seats.items mails.now.items }
-    ensures free { news.new.free ≡ news.old.free }
-    ensures still { news.new.still ≡ news.old.still }
-    ensures due { news.new.due ≡ news.old.due }
-    ensures control { news.new.control ≡ news.old.control }
     ensures may_come { news.new.may_come ≡ may_come doors.new.accepts }
+    ensures rest { news.new ≡ record news.old { may_come = news.new.may_come; reads = news.new.reads } }
     ensures come { doors.old.accepts.may_have_come ≡ true → doors.new.accepts.may_have_come ≡ true }
 {
     sleep_or_ask(turns, sleeper, doors, row, mails, news, so_far);

@@ -8,7 +8,8 @@ use Rattle.std.proofs.lemmas.List.{get_or-set_other, get_or-set_same, get_or_def
 use Rattle.bq_job.specs.declared.answer.Answer.{Answer}
 use Rattle.bq_job.specs.promise.Runs.{answers_to}
 use Rattle.bq_job.proofs.OneClientLemmas.{answers_append}
-use Rattle.bq_host.specs.MailStates.{IsSorted, MailState}
+use Rattle.bq_job.specs.machine.Dispatch.{GivenAnswer}
+use Rattle.bq_host.specs.MailStates.{IsSorted, MailState, waiting}
 use Rattle.bq_host.proofs.MarkLemmas.{same_one, times_push}
 use Rattle.bq_host.specs.Marks.{times}
 use Rattle.bq_host.specs.WakeLists.{WakeList, Wakes, to_wake}
@@ -131,29 +132,45 @@ wakes_full first mails next last old w mid new seat so_far same still kept woken
     (wakes_then first mails next old w mid so_far (wakes_same mails next w mid same still))
     (subst (λ z. Wakes next z mid new) (sym kept) (subst (λ z. Wakes next next mid z) (sym woken) (wakes_added next seat mid)))
 
+-- Of answers that wait for seats, none was put into a mail.
+pub sorted_moved : (first mid next : MailState) (pending : List GivenAnswer) (sorted : Bool) → IsSorted first mid
+    → next ≡ record mid { pending = pending; sorted = sorted } → pending ≡ mid.pending → IsSorted first next
+sorted_moved first mid next pending sorted s moved same = record {
+  core = ap (λ d. d.core) moved ∙ s.core;
+  heard = ap (λ d. d.heard) moved ∙ s.heard;
+  most = ap (λ d. d.most) moved ∙ s.most;
+  known = ap (λ d. d.known) moved ∙ s.known;
+  due = ap (λ d. d.due) moved ∙ s.due;
+  compared = ap (λ d. d.compared) moved ∙ s.compared;
+  many = ap (λ d. length d.mails) moved ∙ s.many;
+  waiting_is = λ t below.
+      ap (λ d. waiting t d) moved ∙ ap (λ xs. slice_index_or mid.mails t [] ++ answers_to t xs) same ∙ s.waiting_is t below;
+}
+
 -- An answer went from those that are pending into the mail of its seat.
-pub sorted_put : (first mid next : MailState) (mails : List (List Answer)) (seat : ℕ) (answer : Answer) → IsSorted first mid
-    → next.core ≡ mid.core → next.heard ≡ mid.heard → next.most ≡ mid.most → next.known ≡ mid.known → next.due ≡ mid.due
-    → next.compared ≡ mid.compared → next.mails ≡ mid.mails → mid.pending ≡ (seat, answer) ∷ next.pending
-    → length mails ≡ length next.mails
+pub sorted_put : (first mid next : MailState) (pending : List GivenAnswer) (sorted : Bool) (mails : List (List Answer)) (seat : ℕ)
+    (answer : Answer) → IsSorted first mid → next ≡ record mid { pending = pending; sorted = sorted }
+    → mid.pending ≡ (seat, answer) ∷ next.pending → length mails ≡ length next.mails
     → ((t : ℕ) → t < length next.mails → slice_index_or mails t [] ≡ slice_index_or next.mails t [] ++ answers_to t ((seat, answer) ∷ []))
     → IsSorted first (record next { mails = mails })
-sorted_put first mid next mails seat answer s core heard most known due compared same pending many put = record {
-  core = core ∙ s.core;
-  heard = heard ∙ s.heard;
-  most = most ∙ s.most;
-  known = known ∙ s.known;
-  due = due ∙ s.due;
-  compared = compared ∙ s.compared;
-  many = many ∙ ap length same ∙ s.many;
-  waiting_is = λ t below. at t (subst (λ n. t < n) (sym (ap length same ∙ s.many)) below) ∙ s.waiting_is t below;
+sorted_put first mid next pending sorted mails seat answer s moved oldest many put = record {
+  core = ap (λ d. d.core) moved ∙ s.core;
+  heard = ap (λ d. d.heard) moved ∙ s.heard;
+  most = ap (λ d. d.most) moved ∙ s.most;
+  known = ap (λ d. d.known) moved ∙ s.known;
+  due = ap (λ d. d.due) moved ∙ s.due;
+  compared = ap (λ d. d.compared) moved ∙ s.compared;
+  many = many ∙ as_many;
+  waiting_is = λ t below. at t (subst (λ n. t < n) (sym as_many) below) ∙ s.waiting_is t below;
 }
   where
-    at : (t : ℕ) → t < length next.mails
-        → slice_index_or mails t [] ++ answers_to t next.pending ≡ slice_index_or mid.mails t [] ++ answers_to t mid.pending
+    as_many : length next.mails ≡ length first.mails
+    as_many = ap (λ d. length d.mails) moved ∙ s.many
+
+    at : (t : ℕ) → t < length next.mails → slice_index_or mails t [] ++ answers_to t next.pending ≡ waiting t mid
     at t here =
         ap (λ xs. xs ++ answers_to t next.pending) (put t here)
         ∙ append_assoc (slice_index_or next.mails t []) (answers_to t ((seat, answer) ∷ [])) (answers_to t next.pending)
         ∙ ap (λ xs. slice_index_or next.mails t [] ++ xs) (sym (answers_append t ((seat, answer) ∷ []) next.pending))
-        ∙ ap (λ xs. slice_index_or next.mails t [] ++ answers_to t xs) (sym pending)
-        ∙ ap (λ ms. slice_index_or ms t [] ++ answers_to t mid.pending) same
+        ∙ ap (λ xs. slice_index_or next.mails t [] ++ answers_to t xs) (sym oldest)
+        ∙ ap (λ d. slice_index_or d.mails t [] ++ answers_to t mid.pending) moved

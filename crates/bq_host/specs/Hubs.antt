@@ -1,7 +1,8 @@
 -- The state of a hub, and what happens at it.
-use Rattle.std.specs.Prelude.{ℕ, ◌<◌, List, length, Option}
+use Rattle.std.specs.Prelude.{ℕ, ◌<◌, Bool, List, length, Option}
 use Rattle.bq_job.specs.declared.answer.Answer.{Answer}
 use Rattle.bq_job.specs.declared.step.Step.{Step}
+use Rattle.bq_job.specs.machine.Dispatch.{GivenAnswer}
 use Rattle.bq_job.specs.machine.Machine.{Machine}
 use Rattle.bq_host.specs.{Clocks.Gives, MailStates.{IsInOrder, MailState, mail_state}, Went.SeatWentBy}
 use Rattle.bq_host.specs.WakeLists.{Wakes}
@@ -28,3 +29,8 @@ abbrev pub WentInOrder : {C K : Type 0} → (K → Machine) → (K → ℕ) → 
     → List Step → List Answer → Hub C K → Type 0
 WentInOrder machine compared given seat old submitted taken new =
     IsInOrder (state_of machine compared new) × WentAt machine compared given seat old submitted taken new
+
+-- a hub with other answers that are not in the mail: the one that is held, the core's, and the mark about them
+abbrev pub with_pending : {C K : Type 0} → Option GivenAnswer → List GivenAnswer → Bool → Hub C K → Hub C K
+with_pending held given sorted h =
+    record h { held = held; timed = record h.timed { outs = record h.timed.outs { given = given } }; is_sorted = sorted }

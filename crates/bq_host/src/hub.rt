@@ -1,12 +1,12 @@
 //! A hub, at which one thread serves seats: the core with its clock, and the answers that no seat has
 //! taken yet.
-ghost use Rattle.std.specs.Prelude.{◌≡◌, ◌<◌, ◌≤◌, ◌+◌, ◌++◌, ◌∷◌, [], ℕ, List, None, Option, Some, true, false};
-ghost use Rattle.std.specs.Prelude.{◌↔◌, ◌&&◌, not, IfErr, IfOk, IfSome, IsErrOf, IsTrue, IsNone, MatchResult, length, slice_index_or, if◌then◌else◌};
+ghost use Rattle.std.specs.Prelude.{◌≡◌, ◌<◌, ◌≤◌, ◌+◌, ◌++◌, ◌∷◌, [], ℕ, None, Option, Some, true, false};
+ghost use Rattle.std.specs.Prelude.{◌↔◌, ◌&&◌, not, IfErr, IfOk, IsErrOf, IsTrue, IsNone, MatchResult, length, slice_index_or, if◌then◌else◌};
 ghost use Rattle.std.specs.Option.{option_to_list};
 ghost use Rattle.bq_job.specs.declared.answer.Answer.{Answer};
 ghost use Rattle.bq_job.specs.promise.Runs.{answers_to};
 ghost use Rattle.bq_host.specs.MailStates.{IsInOrder};
-ghost use Rattle.bq_host.specs.Hubs.{IsInOrderFor, WentAt, WentInOrder, state_of};
+ghost use Rattle.bq_host.specs.Hubs.{IsInOrderFor, WentAt, WentInOrder, state_of, with_pending};
 ghost use Rattle.bq_host.specs.WakeLists.{Wakes, none_waits, to_wake};
 
 use crate::fault::RunFault;
@@ -128,7 +128,8 @@ impl<C: Clock + Drop, K: QueueCore + Drop> Hub<C, K> {
         ensures order { IsInOrder (state_of K.machine K.comparisons self.new) }
         ensures went { TakesInPlace (WentAt K.machine K.comparisons C.given seat) self.old place.old result place.new self.new }
     {
-        match self.take(seat) {
+        let _all = self.sort(seat);
+        match self.take_mail(seat) {
             Some(answer) => {
                 *place = Action::Write(answer);
                 true
@@ -163,59 +164,14 @@ impl<C: Clock + Drop, K: QueueCore + Drop> Hub<C, K> {
         ensures pending { (state_of K.machine K.comparisons self.old).pending
             ≡ option_to_list result ++ (state_of K.machine K.comparisons self.new).pending }
         ensures none { IsNone result → (state_of K.machine K.comparisons self.new).pending ≡ [] }
-        ensures held { option_to_list self.new.held ≡ [] }
-        ensures most { self.new.timed.outs.most ≡ self.old.timed.outs.most }
-        ensures core { self.new.timed.core ≡ self.old.timed.core }
-        ensures mails { self.new.mails ≡ self.old.mails }
-        ensures clock { self.new.timed.time.clock ≡ self.old.timed.time.clock }
-        ensures heard { self.new.timed.time.moment ≡ self.old.timed.time.moment }
-        ensures due { (self.new.timed.is_due_known ≡ self.old.timed.is_due_known) × (self.new.timed.due ≡ self.old.timed.due) }
-        ensures marked { self.new.is_sorted ≡ self.old.is_sorted }
-        ensures woken { self.new.woken ≡ self.old.woken }
+        ensures rest { self.new ≡ with_pending None self.new.timed.outs.given self.old.is_sorted self.old }
     {
         self.timed.outs.take_first()
     }
 
-    // Takes the oldest answer to the seat, if there is one.
-    fn take(&mut self, seat: Seat) -> Option<Answer>
-        requires ready { IsInOrderFor K.machine K.comparisons seat self.old }
-        ensures went { WentInOrder K.machine K.comparisons C.given seat self.old [] (option_to_list result) self.new }
-    {
-        match self.take_mail(seat) {
-            Some(answer) => Some(answer),
-            None => self.take_pending(seat),
-        }
-    }
-
-    // The same if the seat has no mail. Mostly the core's only answer is for this seat and was not
-    // put into the mail.
-    fn take_pending(&mut self, seat: Seat) -> Option<Answer>
-        requires ready { IsInOrderFor K.machine K.comparisons seat self.old }
-        requires empty { slice_index_or self.old.mails.items seat [] ≡ [] }
-        ensures went { WentInOrder K.machine K.comparisons C.given seat self.old [] (option_to_list result) self.new }
-    {
-        let Some((first, answer)) = self.next_pending() else {
-            return None;
-        };
-        if first == seat {
-            return Some(answer);
-        }
-        self.put_back(first, answer);
-        let _all = self.sort(seat);
-        self.take_mail(seat)
-    }
-
     // Makes an answer the oldest one again.
     fn put_back(&mut self, seat: Seat, answer: Answer)
-        ensures held { self.new.held ≡ Some (seat, answer) }
-        ensures marked { self.new.is_sorted ≡ false }
-        ensures woken { self.new.woken ≡ self.old.woken }
-        ensures outs { self.new.timed.outs ≡ self.old.timed.outs }
-        ensures core { self.new.timed.core ≡ self.old.timed.core }
-        ensures mails { self.new.mails ≡ self.old.mails }
-        ensures clock { self.new.timed.time.clock ≡ self.old.timed.time.clock }
-        ensures heard { self.new.timed.time.moment ≡ self.old.timed.time.moment }
-        ensures due { (self.new.timed.is_due_known ≡ self.old.timed.is_due_known) × (self.new.timed.due ≡ self.old.timed.due) }
+        ensures { self.new ≡ with_pending (Some (seat, answer)) self.old.timed.outs.given false self.old }
     {
         self.held = Some((seat, answer));
         self.is_sorted = false;
@@ -286,24 +242,17 @@ impl<C: Clock + Drop, K: QueueCore + Drop> Hub<C, K> {
         self.held.is_none() && self.timed.outs.is_empty()
     }
 
+    // Takes the oldest answer that is not in the mail.
     fn next_pending(&mut self) -> Option<(Seat, Answer)>
         ensures pending { (state_of K.machine K.comparisons self.old).pending
             ≡ option_to_list result ++ (state_of K.machine K.comparisons self.new).pending }
         ensures none { IsNone result → (state_of K.machine K.comparisons self.new).pending ≡ [] }
-        ensures held { option_to_list self.new.held ≡ [] }
-        ensures most { self.new.timed.outs.most ≡ self.old.timed.outs.most }
-        ensures core { self.new.timed.core ≡ self.old.timed.core }
-        ensures mails { self.new.mails ≡ self.old.mails }
-        ensures clock { self.new.timed.time.clock ≡ self.old.timed.time.clock }
-        ensures heard { self.new.timed.time.moment ≡ self.old.timed.time.moment }
-        ensures due { (self.new.timed.is_due_known ≡ self.old.timed.is_due_known) × (self.new.timed.due ≡ self.old.timed.due) }
-        ensures marked { self.new.is_sorted ≡ self.old.is_sorted }
-        ensures woken { self.new.woken ≡ self.old.woken }
+        ensures rest { self.new ≡ with_pending None self.new.timed.outs.given self.old.is_sorted self.old }
     {
         if self.held.is_some() {
             return self.held.take();
         }
-        self.timed.outs.take_first()
+        self.next_new()
     }
 
     /// Removes and returns the first of the seats that are to be woken.

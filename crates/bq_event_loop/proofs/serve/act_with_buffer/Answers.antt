@@ -17,7 +17,8 @@ act_to_extent-progress-requires g c =
           core core row lent (
             c.requires.ready.0.0,
             c.exchange_if.ensures.keeps.0,
-            serves_rested g.L.Line.seen at g.K.QueueCore.machine g.K.QueueCore.comparisons g.C.Clock.given g.D.Door.same core row lent rests,
+            serves_rested g.L.Line.seen at g.K.QueueCore.machine g.K.QueueCore.comparisons g.C.Clock.given g.D.Door.same core row lent
+                rests,
           ) c.requires.ready;
     }
 

@@ -156,7 +156,8 @@ next-turn-requires g c =
       still = still_of g.L.Line.may_give g.L.Line.may_take l.news.still l.row.seats.items _ l.core.mails.items _ (sym seats_are)
           (sym mails_are) l.invariant.still;
       so_far = so_far_of g.C.Clock.given g.L.Line.seen g.D.Door.lines_over g.D.Door.is_out g.D.Door.same g.K.QueueCore.machine
-          g.K.QueueCore.comparisons begun l.row.seats.items _ l.row.doors.items _ _ _ _ _ (sym seats_are) (sym (ap (λ z. z.items) now.doors))
+          g.K.QueueCore.comparisons begun l.row.seats.items _ l.row.doors.items _ _ _ _ _ (sym seats_are)
+          (sym (ap (λ z. z.items) now.doors))
           (so_far_as g.C.Clock.given g.L.Line.seen g.D.Door.is_out g.D.Door.is_at_end g.D.Door.lines_over g.D.Door.same
           g.I.ControlInput.seen g.I.ControlInput.remaining g.I.ControlInput.may_fail g.K.QueueCore.machine g.K.QueueCore.comparisons
           begun l.row.seats.items l.row.doors.items l.core.timed.time.clock _ l.control.input _ l.core.timed.core _

@@ -18,8 +18,8 @@ returns-then-seat-len g c =
             rested_there g.L.Line.seen at g.D.Door.same first.seats.items row.seats.items first.doors.items row.doors.items c.args.seat
             c.index_mut.result.now c.exchange_at.new.seat c.index_mut-then-seat-len.result.now c.exchange_at.new.door
             (let e = c.len.ensures in let b = c.if-seat-len.true in
-            omega arith) c.requires.tended.doored c.index_mut.ensures.value c.index_mut-then-seat-len.ensures.value c.exchange_at.ensures.went
-            c.exchange_at.ensures.same rests,
+            omega arith) c.requires.tended.doored c.index_mut.ensures.value c.index_mut-then-seat-len.ensures.value
+            c.exchange_at.ensures.went c.exchange_at.ensures.same rests,
       );
       only = changed_one row.seats.items c.args.seat c.exchange_at.new.seat;
     }

@@ -10,11 +10,12 @@ returns-clause-went g c =
     let d = c.is_due.ensures in
     let machine = g.K.QueueCore.machine in
     let compared = g.K.QueueCore.comparisons in
-    let old = c.args.self.now in (
-      order_ready machine compared old (record old { timed = c.is_due.new.self }) d.ready (ap (λ (m : Machine). m.settings) d.same) refl
-          (none_pending_over machine compared g.C.Clock.given old c.is_due.new.self d.over c.requires.order) c.requires.order,
+    let old = c.args.self.now in
+    let new = c.is_due.new.self in (
+      order_ready machine compared old (record old { timed = new }) d.ready (ap (λ (m : Machine). m.settings) d.same) refl
+          (none_pending_over machine compared g.C.Clock.given old new d.over c.requires.order) c.requires.order,
       (
-        timed_over machine compared g.C.Clock.given 0 old.timed c.is_due.new.self old.held old.mails.items old.is_sorted old.is_sorted d.over,
+        timed_over machine compared g.C.Clock.given 0 old.timed new old.held old.mails.items old.is_sorted old.is_sorted d.over,
         wakes_none old.mails.items old.woken,
       ),
     )

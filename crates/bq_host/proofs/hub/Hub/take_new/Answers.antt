@@ -1,61 +1,41 @@
-use Rattle.std.proofs.Common.{◌≡◌, ◌∷◌, ◌++◌, ◌∙◌, ℕ, List, [], Option, ap, refl, subst, sym}
-use Rattle.std.specs.Option.{option_to_list}
+use Rattle.std.proofs.Common.{◌≡◌, ◌∷◌, ◌∙◌, ℕ, List, None, Some, ap, false, refl, subst, sym}
 use Rattle.bq_job.specs.machine.Dispatch.{GivenAnswer}
-use Rattle.bq_line.specs.GivenReadings.{GaveReadings}
-use Rattle.bq_host.specs.Hubs.{WentAt, state_of}
-use Rattle.bq_host.proofs.WentLemmas.{gave_none}
-use Rattle.bq_host.proofs.HubLemmas.{takes_on, went_still}
-use Rattle.bq_host.proofs.WakeLemmas.{wakes_same}
-use Rattle.bq_host.proofs.MailLemmas.{seat_takes_pending}
+use Rattle.bq_host.specs.Hubs.{state_of, with_pending}
+use Rattle.bq_host.specs.declared.hub.Hub.{Hub}
+use Rattle.bq_host.proofs.HubLemmas.{takes_on, went_moved, went_taken}
 use Rattle.bq_host.proofs.hub.Hub.take_new.Goals as goal
 
 pub returns-in_default-clause-went : goal.returns-in_default-clause-went
-returns-in_default-clause-went g c =
-    let h = c.next_new.ensures in (
-      refl,
-      went_still g.K.QueueCore.machine g.K.QueueCore.comparisons g.C.Clock.given c.args.seat c.args.self.now c.next_new.new.self h.core
-          h.mails (sym c.in_default.ensures.pending) h.heard h.most h.due.0 h.due.1 h.clock h.woken,
-    )
+returns-in_default-clause-went g c = (
+  refl,
+  went_moved g.K.QueueCore.machine g.K.QueueCore.comparisons g.C.Clock.given c.args.seat c.args.self.now c.next_new.new.self None _ _
+      c.next_new.ensures.rest (sym c.in_default.ensures.pending),
+)
 
 pub returns-then-seat-first-clause-went : goal.returns-then-seat-first-clause-went
 returns-then-seat-first-clause-went g c =
-    let h = c.next_new.ensures in
+    let pending : Hub _ _ → List GivenAnswer = λ h. (state_of g.K.QueueCore.machine g.K.QueueCore.comparisons h).pending in
     let old = c.args.self.now in
-    let new = c.next_new.new.self in
-    let state = state_of g.K.QueueCore.machine g.K.QueueCore.comparisons in
-    let first_is : (state old).pending ≡ (c.args.seat, c.in-Some.answer) ∷ (state new).pending =
-    subst (λ (n : ℕ). (state old).pending ≡ (n, c.in-Some.answer) ∷ (state new).pending) (sym c.if-seat-first.true)
-    c.in-Some.ensures.pending in (
+    let popped = c.next_new.new.self in (
       c.in-Some.answer,
       refl,
-      (
-        (
-          [],
-          subst (λ x. GaveReadings g.C.Clock.given old.timed.time.clock [] x) (sym h.clock) (gave_none g.C.Clock.given old.timed.time.clock),
-          seat_takes_pending (state old) (state new) c.args.seat c.in-Some.answer c.requires.empty first_is
-              (ap g.K.QueueCore.machine h.core) h.due.0 (ap g.K.QueueCore.comparisons h.core) h.heard (ap (λ ms. ms.items) h.mails),
-        ),
-        wakes_same old.mails.items new.mails.items old.woken new.woken (ap (λ ms. ms.items) h.mails) h.woken,
-      ),
+      went_taken g.K.QueueCore.machine g.K.QueueCore.comparisons g.C.Clock.given c.args.seat c.in-Some.answer old popped None _ _
+          c.next_new.ensures.rest c.requires.empty
+          (subst (λ (n : ℕ). pending old ≡ (n, c.in-Some.answer) ∷ pending popped) (sym c.if-seat-first.true) c.in-Some.ensures.pending),
     )
 
 pub returns-clause-went : goal.returns-clause-went
 returns-clause-went g c =
     let machine = g.K.QueueCore.machine in
     let compared = g.K.QueueCore.comparisons in
-    let given = g.C.Clock.given in
-    let h = c.next_new.ensures in
-    let b = c.put_back.ensures in
+    let pending : Hub _ _ → List GivenAnswer = λ h. (state_of machine compared h).pending in
     let old = c.args.self.now in
     let popped = c.next_new.new.self in
     let back = c.put_back.new.self in
-    let pending : (state_of machine compared back).pending ≡ (state_of machine compared old).pending =
-    ap (λ (x : Option GivenAnswer). option_to_list x ++ back.timed.outs.given) b.held
-    ∙ ap (λ o. (c.in-Some.first, c.in-Some.answer) ∷ o.given) b.outs
-    ∙ ap (λ (xs : List GivenAnswer). (c.in-Some.first, c.in-Some.answer) ∷ (xs ++ popped.timed.outs.given)) (sym h.held)
-    ∙ sym c.in-Some.ensures.pending in
-    let still : WentAt machine compared given c.args.seat old [] [] back =
-    went_still machine compared given c.args.seat old back (b.core ∙ h.core) (b.mails ∙ h.mails) pending (b.heard ∙ h.heard)
-    (ap (λ o. o.most) b.outs ∙ h.most) (b.due.0 ∙ h.due.0) (b.due.1 ∙ h.due.1) (b.clock ∙ h.clock) (b.woken ∙ h.woken) in
-    takes_on machine compared given c.args.seat old back c.take_kept.new.self c.args.place.now c.take_kept.new.place c.take_kept.result
-    still c.take_kept.ensures.went
+    let answer : GivenAnswer = (c.in-Some.first, c.in-Some.answer) in
+    let moved : back ≡ with_pending (Some answer) popped.timed.outs.given false old =
+    c.put_back.ensures ∙ ap (with_pending (Some answer) popped.timed.outs.given false) c.next_new.ensures.rest in
+    let same : pending back ≡ pending old =
+    ap pending c.put_back.ensures ∙ ap (λ xs. answer ∷ xs) (sym (ap pending c.next_new.ensures.rest)) ∙ sym c.in-Some.ensures.pending in
+    takes_on machine compared g.C.Clock.given c.args.seat old back c.take_kept.new.self c.args.place.now c.take_kept.new.place
+    c.take_kept.result (went_moved machine compared g.C.Clock.given c.args.seat old back _ _ _ moved same) c.take_kept.ensures.went

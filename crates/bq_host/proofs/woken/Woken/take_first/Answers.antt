@@ -15,5 +15,7 @@ invariant_of-self-2 c =
     let seat_below = within (λ mark. mark) false [] c.pop_front.new.self.items c.self.inside.marks.items c.in_ok-seat.seat refl
     (subst (λ z. HasMarks (λ mark. mark) false z c.self.inside.marks.items) c.in_ok-seat.ensures.items c.self.invariant.0) in
     let after = left (λ mark. mark) false [] c.pop_front.new.self.items c.self.inside.marks.items c.in_ok-seat.seat false
-    (subst (λ z. HasMarks (λ mark. mark) false z c.self.inside.marks.items) c.in_ok-seat.ensures.items c.self.invariant.0) seat_below refl in
-    rw c.unmark.ensures (rw c.from.ensures (after, grind (arith, common_steps, c.self.invariant.1, c.pop_front.ensures.capacity, length-set)))
+    (subst (λ z. HasMarks (λ mark. mark) false z c.self.inside.marks.items) c.in_ok-seat.ensures.items c.self.invariant.0)
+    seat_below refl in
+    let fits = c.pop_front.ensures.capacity in
+    rw c.unmark.ensures (rw c.from.ensures (after, grind (arith, common_steps, c.self.invariant.1, fits, length-set)))
