@@ -268,18 +268,19 @@ impl<C: Clock + Drop, K: QueueCore + Drop> Hub<C, K> {
     /// Takes a tick if something is due by now, and puts all answers into the mail. Returns in how
     /// many milliseconds something is due next, or `None` if nothing is; 0 if something was due.
     ///
-    /// A reading of the clock since the last call is taken for the moment now. So this is called
-    /// before each wait, and only then.
+    /// If a step read the clock since the last call, its reading is taken for the moment now. So a
+    /// run must not wait between the step and this call.
     pub fn pass_time(&mut self) -> Option<u64>
         requires order { IsInOrder (state_of K.machine K.comparisons self.old) }
         ensures went { WentInOrder K.machine K.comparisons C.given 0 self.old [] [] self.new }
         ensures due { result ≡ (if is_before self.new.timed.time.moment (next_due (K.machine self.old.timed.core))
             then time_left (next_due (K.machine self.old.timed.core)) self.new.timed.time.moment else Some 0) }
         ensures within { IsLimit result (next_due (K.machine self.new.timed.core)) self.new.timed.time.moment }
+        ensures read_again { self.new.is_fresh ≡ false }
     {
         let ticks = self.tick_if_due();
-        self.is_fresh = false;
         let _all = self.sort(0);
+        self.is_fresh = false;
         self.rest(ticks)
     }
 
