@@ -7,7 +7,7 @@ pub use doors::Doors;
 pub use event_loop::run_event_loop;
 pub use order::Order;
 pub use row::Row;
-pub use run::{EventLoop, EventLoopRun, RunRefused, run_turns};
+pub use run::{EventLoopRun, RunRefused, run_turns};
 pub use sleeper::{Report, Sleeper};
 pub use turns::{
     Began, ControlReads, ControlStands, Extent, News, SoFar, Stands, Turn, Turns, TurnsFault,

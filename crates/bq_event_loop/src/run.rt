@@ -1,16 +1,17 @@
 //! The run of many doors by one thread that owns the core.
 ghost use Rattle.std.specs.Prelude.{◌≡◌, ◌↔◌, ◌&&◌, ◌==◌, true, false, not, length, Ok, IfErr, IfOk, IsErrOf, IsTrue, vec_len};
 ghost use Rattle.std.specs.List.{All};
-ghost use Rattle.bq_core_api.specs.Limits.{are_in_range};
+ghost use Rattle.bq_core_api.specs.Limits.{are_in_range, is_body_size};
 ghost use Rattle.bq_job.specs.laws.TheHeadline.{AreJobsServedIn};
 ghost use Rattle.bq_line.specs.Tending.{AreSame, IsNewDoor, IsNewSeat, door_seen};
 ghost use Rattle.bq_event_loop.specs.EventLoopRuns.{IsEventLoopRun, IsEventLoopSoFar};
 ghost use Rattle.bq_event_loop.specs.Known.{KnowsAll};
 ghost use Rattle.bq_host.specs.Hubs.{state_of};
+ghost use Rattle.bq_host.specs.MailStates.{IsInOrder, IsNewMailState};
+ghost use Rattle.bq_host.specs.WakeLists.{none_waits};
+ghost use Rattle.bq_event_loop.specs.NewLoops.{IsNewLoop};
 ghost use Rattle.bq_event_loop.specs.Refused.{IsRefusedBy};
 ghost use Rattle.bq_event_loop.specs.SoFar.{beginning};
-ghost use Rattle.bq_host.specs.WakeLists.{none_waits};
-ghost use Rattle.bq_host.specs.MailStates.{IsInOrder, IsNewMailState};
 
 use crate::control_turns::ControlTurns;
 use crate::row::{Row, new_seats};
@@ -19,7 +20,7 @@ use crate::sleeper::Sleeper;
 use crate::turns::{Began, Turns, TurnsFault};
 use bq_core_api::{Config, QueueCore};
 use bq_host::{Hub, RunFault, Woken};
-use bq_job::{steps_keep_settings, the_headline};
+use bq_job::{NoMemory, steps_keep_settings, the_headline};
 use bq_line::Door;
 use bq_line::attendant::Attendant;
 use bq_line::buffers::Buffers;
@@ -51,121 +52,27 @@ pub struct RunRefused<D> {
     pub doors: Vec<D, Global>,
 }
 
-/// An event loop that is ready to run: a new core with its clock, the seats, and the turns.
+// What a run needs from its start on: a new core with its clock, the seats, room for what is read,
+// the turns and the sleeper.
 #[derive(Drop)]
-pub struct EventLoop<T: Turns + Drop, L: Line + Drop, C: Clock + Drop, K: QueueCore + Drop> {
-    config: Config,
+struct NewLoop<
+    T: Turns + Drop,
+    W: Sleeper + Drop,
+    L: Line + Drop,
+    C: Clock + Drop,
+    K: QueueCore + Drop,
+> {
+    parts: NewParts<L, C, K>,
+    turns: T,
+    sleeper: W,
+}
+
+// What a run allocates at its start.
+#[derive(Drop)]
+struct NewParts<L: Line + Drop, C: Clock + Drop, K: QueueCore + Drop> {
     core: Hub<C, K>,
     seats: Vec<Attendant<L>, Global>,
     buffer: ReadBuffer,
-    turns: T,
-}
-
-impl<T: Turns + Drop, L: Line + Drop, C: Clock + Drop, K: QueueCore + Drop> EventLoop<T, L, C, K> {
-    ghost use Rattle.bq_event_loop.specs.NewLoops.{IsNewLoop};
-
-    /// Prepares a run with these turns. It has no door yet, so it serves no connection. All memory
-    /// is allocated here that the run needs at its start.
-    ///
-    /// The error is `BadConfiguration` if the configuration is out of its ranges. Otherwise it is
-    /// `NoMemory` if an allocation failed, or the error of the turns.
-    pub fn new(
-        alloc: Global,
-        config: Config,
-        clock: C,
-        turns: Result<T, TurnsFault>,
-    ) -> Result<EventLoop<T, L, C, K>, RunFault>
-        ensures new { IfOk result (λ ready. IsNewLoop K.machine K.comparisons ready) }
-        ensures config { IfOk result (λ ready. ready.config ≡ config) }
-        ensures clock { IfOk result (λ ready. ready.core.timed.time.clock ≡ clock) }
-        ensures turns { IfOk result (λ ready. turns ≡ Ok ready.turns) }
-        ensures bad_configuration { IsErrOf result RunFault.BadConfiguration ↔ IsTrue
-            (not (are_in_range config)) }
-    {
-        let core: Hub<C, K> = new_hub(alloc, config, clock)?;
-        let Ok(seats) = new_seats(alloc, config.seats, config.max_job_size) else {
-            return Err(RunFault::NoMemory);
-        };
-        let Ok(buffer) = ReadBuffer::new(alloc) else {
-            return Err(RunFault::NoMemory);
-        };
-        match turns {
-            Ok(turns) => Ok(EventLoop {
-                config,
-                core,
-                seats,
-                buffer,
-                turns,
-            }),
-            Err(fault) => Err(fault.as_run_fault()),
-        }
-    }
-
-    /// Serves the connections of all doors, each door at a seat of its own, until no more
-    /// connections come at any of them. The calling thread does everything, in the order that the
-    /// turns choose. It waits by `sleeper` alone. It also reads the control line, where each line
-    /// `drain` starts draining.
-    ///
-    /// It cannot fail: what may fail was done by `new`.
-    pub fn run<W: Sleeper, D: Door<Line = L> + Drop, I: ControlReader + Drop>(
-        self,
-        doors: Vec<D, Global>,
-        control: I,
-        sleeper: &mut W,
-    ) -> EventLoopRun<L, D, C, I, K>
-        requires ready { IsNewLoop K.machine K.comparisons self }
-        requires doored { length doors.items ≡ self.config.seats }
-        // No door has a connection that is open or was served, and no door is at its end.
-        requires new { All
-            (λ door. IsNewDoor (door_seen D.is_out D.is_at_end D.lines_over door)) doors.items }
-        // The turns are for this run.
-        requires of_run { T.is_of (beginning self.config doors.items self.core.timed.time.clock
-            (I.remaining control) (I.may_fail control)) }
-        // They know each seat.
-        requires knows { KnowsAll self.config.seats (T.seats self.turns) (T.listed self.turns) (T.looks self.turns) }
-        // There is one history of the steps of all clients and of the control line, each at the
-        // moment of a reading of the clock. The one-list model takes this history, the core
-        // represents the model after it, and each connection received exactly the bytes that the
-        // history prescribes for it.
-        ensures served { result.is_over ≡ true → IsEventLoopRun C.given D.lines_over I.remaining I.may_fail
-            K.machine K.comparisons self.config self.core.timed.time.clock control result }
-        // The same so far, however the run ended. Each open connection has received a beginning of
-        // what the history prescribes for it.
-        ensures so_far { IsEventLoopSoFar C.given L.seen D.lines_over D.is_out D.same I.remaining I.may_fail
-            K.machine K.comparisons self.config doors.items self.core.timed.time.clock control result }
-        // Along either history, each job that is handed out is the least one that the client may
-        // have. An undisturbed job is handed out at most once and in order. No job is lost before
-        // its deletion. Once draining has begun, no put is accepted.
-        ensures headline { (served : IsEventLoopRun C.given D.lines_over I.remaining I.may_fail K.machine K.comparisons
-            self.config self.core.timed.time.clock control result) → AreJobsServedIn served.history.run }
-        ensures headline_so_far { (so_far : IsEventLoopSoFar C.given L.seen D.lines_over D.is_out D.same I.remaining I.may_fail
-            K.machine K.comparisons self.config doors.items self.core.timed.time.clock control result)
-            → AreJobsServedIn so_far.history.run }
-        ensures at_end { result.is_over ≡ true → All (λ door. (D.is_out door ≡ false) × (D.is_at_end door ≡ true)) result.doors.items }
-        // The doors are those that were passed in, in the same order.
-        ensures same { AreSame D.same doors.items result.doors.items }
-        // The core can be used further.
-        ensures settings { (K.machine result.core).settings ≡ self.config }
-    {
-        let EventLoop {
-            config,
-            core,
-            seats,
-            mut buffer,
-            mut turns,
-        } = self;
-        the_headline();
-        run_at(
-            config,
-            core,
-            seats,
-            doors,
-            control,
-            &mut turns,
-            sleeper,
-            &mut buffer,
-        )
-    }
 }
 
 /// Serves the connections of all doors, each door at a seat of its own, until no more connections
@@ -231,31 +138,101 @@ pub fn run_turns<
     ensures bad_configuration { IsRefusedBy result RunFault.BadConfiguration
         ↔ IsTrue (not (are_in_range config && vec_len doors == config.seats)) }
 {
-    if doors.len() != usize::from(config.seats) {
-        return Err(RunRefused {
-            fault: RunFault::BadConfiguration,
-            doors,
-        });
+    match new_loop(alloc, config, doors.len(), clock, turns, sleeper) {
+        Ok(
+            NewLoop {
+                parts,
+                mut turns,
+                mut sleeper,
+            },
+        ) => {
+            the_headline();
+            Ok(run_at(config, parts, doors, control, &mut turns, &mut sleeper))
+        }
+        Err(fault) => Err(RunRefused { fault, doors }),
     }
-    let ready: EventLoop<T, L, C, K> = match EventLoop::new(alloc, config, clock, turns) {
-        Ok(ready) => ready,
-        Err(fault) => return Err(RunRefused { fault, doors }),
-    };
-    let mut sleeper = match made_of(sleeper) {
-        Ok(sleeper) => sleeper,
-        Err(fault) => return Err(RunRefused { fault, doors }),
-    };
-    the_headline();
-    Ok(ready.run(doors, control, &mut sleeper))
 }
 
-// Returns what was prepared for a run, or the error of the run.
-fn made_of<W>(made: Result<W, TurnsFault>) -> Result<W, RunFault>
-    ensures { IsErrOf result RunFault.BadConfiguration → ⊥ }
+// Makes what a run needs. Its errors are those of `run_turns`.
+fn new_loop<
+    T: Turns + Drop,
+    W: Sleeper + Drop,
+    L: Line + Drop,
+    C: Clock + Drop,
+    K: QueueCore + Drop,
+>(
+    alloc: Global,
+    config: Config,
+    doors: usize,
+    clock: C,
+    turns: Result<T, TurnsFault>,
+    sleeper: Result<W, TurnsFault>,
+) -> Result<NewLoop<T, W, L, C, K>, RunFault>
+    ensures doors { IfOk result (λ made. doors ≡ config.seats) }
+    ensures new { IfOk result (λ made. IsNewLoop K.machine K.comparisons config clock made.parts) }
+    ensures turns { IfOk result (λ made. turns ≡ Ok made.turns) }
+    ensures bad_configuration { IsErrOf result RunFault.BadConfiguration
+        ↔ IsTrue (not (are_in_range config && doors == config.seats)) }
 {
-    match made {
-        Ok(made) => Ok(made),
-        Err(fault) => Err(fault.as_run_fault()),
+    let made = both(turns, sleeper);
+    match new_parts(alloc, config, doors, clock) {
+        Ok(parts) => match made {
+            Ok((turns, sleeper)) => Ok(NewLoop {
+                parts,
+                turns,
+                sleeper,
+            }),
+            Err(fault) => {
+                drop(parts);
+                Err(fault.as_run_fault())
+            }
+        },
+        Err(fault) => {
+            drop(made);
+            Err(fault)
+        }
+    }
+}
+
+// Returns the turns and the sleeper if both were made, and an error otherwise.
+fn both<T: Drop, W: Drop>(
+    turns: Result<T, TurnsFault>,
+    sleeper: Result<W, TurnsFault>,
+) -> Result<(T, W), TurnsFault>
+    ensures turns { IfOk result (λ made. turns ≡ Ok made.0) }
+{
+    match (turns, sleeper) {
+        (Ok(turns), Ok(sleeper)) => Ok((turns, sleeper)),
+        (Err(fault), _) | (_, Err(fault)) => Err(fault),
+    }
+}
+
+// Allocates what a run needs at its start.
+fn new_parts<L: Line + Drop, C: Clock + Drop, K: QueueCore + Drop>(
+    alloc: Global,
+    config: Config,
+    doors: usize,
+    clock: C,
+) -> Result<NewParts<L, C, K>, RunFault>
+    ensures doors { IfOk result (λ made. doors ≡ config.seats) }
+    ensures new { IfOk result (IsNewLoop K.machine K.comparisons config clock) }
+    ensures bad_configuration { IsErrOf result RunFault.BadConfiguration
+        ↔ IsTrue (not (are_in_range config && doors == config.seats)) }
+{
+    if doors != usize::from(config.seats) {
+        return Err(RunFault::BadConfiguration);
+    }
+    let core: Hub<C, K> = new_hub(alloc, config, clock)?;
+    match new_room(alloc, &config) {
+        Ok((seats, buffer)) => Ok(NewParts {
+            core,
+            seats,
+            buffer,
+        }),
+        Err(NoMemory) => {
+            drop(core);
+            Err(RunFault::NoMemory)
+        }
     }
 }
 
@@ -274,10 +251,27 @@ fn new_hub<C: Clock + Drop, K: QueueCore + Drop>(
 {
     let mut hub: Hub<C, K> = Hub::new(alloc, config, clock)?;
     let Ok(woken) = Woken::new(alloc, config.seats) else {
+        drop(hub);
         return Err(RunFault::NoMemory);
     };
     hub.woken = woken;
     Ok(hub)
+}
+
+// Allocates the seats, and the buffer that they share.
+fn new_room<L: Line + Drop>(
+    alloc: Global,
+    config: &Config,
+) -> Result<(Vec<Attendant<L>, Global>, ReadBuffer), NoMemory>
+    requires { IsTrue (is_body_size config.now.max_job_size) }
+    ensures many { IfOk result (λ made. vec_len made.0 ≡ config.now.seats) }
+    ensures new { IfOk result (λ made. All (IsNewSeat config.now.max_job_size) made.0.items) }
+{
+    let seats = new_seats(alloc, config.seats, config.max_job_size)?;
+    let Ok(buffer) = ReadBuffer::new(alloc) else {
+        return Err(NoMemory);
+    };
+    Ok((seats, buffer))
 }
 
 // The run, from a new core and new seats on.
@@ -291,33 +285,31 @@ fn run_at<
     K: QueueCore + Drop,
 >(
     config: Config,
-    core: Hub<C, K>,
-    seats: Vec<Attendant<L>, Global>,
+    parts: NewParts<L, C, K>,
     doors: Vec<D, Global>,
     control: I,
     turns: &mut T,
     sleeper: &mut W,
-    buffer: &mut ReadBuffer,
 ) -> EventLoopRun<L, D, C, I, K>
-    requires made { IsNewMailState config (state_of K.machine K.comparisons core) }
-    requires order { IsInOrder (state_of K.machine K.comparisons core) }
-    requires many { length seats.items ≡ config.seats }
+    requires new { IsNewLoop K.machine K.comparisons config parts.core.timed.time.clock parts }
     requires doored { length doors.items ≡ config.seats }
-    requires of_run { T.is_of (beginning config doors.items core.timed.time.clock (I.remaining control) (I.may_fail control)) }
+    requires of_run { T.is_of (beginning config doors.items parts.core.timed.time.clock (I.remaining control) (I.may_fail control)) }
     requires knows { KnowsAll config.seats (T.seats turns.old) (T.listed turns.old) (T.looks turns.old) }
-    requires woken { core.woken ≡ none_waits (length core.mails.items) }
-    requires new_seats { All (IsNewSeat config.max_job_size) seats.items }
     requires new_doors { All
         (λ door. IsNewDoor (door_seen D.is_out D.is_at_end D.lines_over door)) doors.items }
     ensures served { result.is_over ≡ true →
-        IsEventLoopRun C.given D.lines_over I.remaining I.may_fail K.machine K.comparisons config core.timed.time.clock control result }
+        IsEventLoopRun C.given D.lines_over I.remaining I.may_fail K.machine K.comparisons config parts.core.timed.time.clock control result }
     ensures so_far { IsEventLoopSoFar C.given L.seen D.lines_over D.is_out D.same I.remaining I.may_fail K.machine K.comparisons
-        config doors.items core.timed.time.clock control result }
+        config doors.items parts.core.timed.time.clock control result }
     ensures at_end { result.is_over ≡ true → All (λ door. (D.is_out door ≡ false) × (D.is_at_end door ≡ true)) result.doors.items }
     ensures same { AreSame D.same doors.items result.doors.items }
     ensures settings { (K.machine result.core).settings ≡ config }
 {
-    let mut core = core;
+    let NewParts {
+        mut core,
+        seats,
+        mut buffer,
+    } = parts;
     let input = ControlLine::new(control);
     let began = begin_with(&config, &doors, &core.timed.time.clock, &input);
     let mut row = Row { seats, doors };
@@ -331,16 +323,16 @@ fn run_at<
         &mut control,
         &mut core,
         &mut buffers,
-        buffer,
+        &mut buffer,
     );
     steps_keep_settings();
-    let timed = core.timed;
+    let (clock, core) = core.into_parts();
     EventLoopRun {
         seats: row.seats,
         doors: row.doors,
-        clock: timed.time.clock,
+        clock,
         control: control.input,
-        core: timed.core,
+        core,
         is_over,
     }
 }

@@ -73,6 +73,15 @@ impl<C: Clock + Drop, K: QueueCore + Drop> Hub<C, K> {
         })
     }
 
+    /// Returns the clock and the core. Answers that were not taken are dropped.
+    pub fn into_parts(self) -> (C, K)
+        ensures clock { result.0 ≡ self.timed.time.clock }
+        ensures core { result.1 ≡ self.timed.core }
+    {
+        let timed = self.timed;
+        (timed.time.clock, timed.core)
+    }
+
     /// Lets the core take this step of a seat, at the moment that the clock reads now. Returns
     /// false if it did not, because an answer of an earlier step waits for room in the mail of its
     /// seat.
