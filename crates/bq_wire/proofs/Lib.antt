@@ -1,3 +1,4 @@
+pub mod FrequentLemmas
 pub mod HasReadLemmas
 pub mod LeadingLemmas
 pub mod LineEndLemmas

@@ -7,6 +7,7 @@ pub use texts::{answer_body, answer_head, answer_tail};
 
 mod by_value;
 mod command;
+mod frequent;
 mod head_buf;
 mod line_read;
 mod put_body;

@@ -1,5 +1,6 @@
 //! Command lines: where they end, their words, and what they request.
-ghost use Rattle.std.specs.Prelude.{◌≡◌, ◌<◌, ◌≤◌, ◌+◌, ◌^◌, [], ◌∷◌, IfSome, Some, None, MatchOption, length, drop, take, get_or, if◌then◌else◌, false, true};
+ghost use Rattle.std.specs.Prelude.{◌≡◌, ◌<◌, ◌≤◌, ◌+◌, ◌^◌, [], ◌∷◌, IfSome, Some, None, MatchOption};
+ghost use Rattle.std.specs.Prelude.{length, drop, take, get_or, if◌then◌else◌, false, true};
 ghost use Rattle.std.specs.List.{list_all};
 ghost use Rattle.std.specs.Option.{SomeIff};
 ghost use Rattle.bq_job.specs.reading.CommandWords.{command_named};
@@ -208,11 +209,11 @@ fn first_letters(line: &[u8]) -> usize
     letters
 }
 
-// Returns the number that the first bytes of a command line denote, and how many bytes it has. It
-// ends before the first byte that is no digit, or before a digit that might make it too large for 64
-// bits.
+/// Returns the number that the first bytes of a command line denote, and how many bytes it has. It
+/// ends before the first byte that is no digit, or before a digit that might make it too large for 64
+/// bits.
 #[tactic(auto, using(crate::proofs::LeadingLemmas::digits_more, crate::proofs::LeadingLemmas::value_more))]
-fn leading_digits(line: &[u8]) -> (u64, usize)
+pub fn leading_digits(line: &[u8]) -> (u64, usize)
     ensures within { result.1 ≤ length line.now }
     ensures digits { list_all numbers.is_digit (take result.1 line.now) ≡ true }
     ensures value { result.0 ≡ numbers.value_of_digits (take result.1 line.now) }

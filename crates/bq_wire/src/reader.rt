@@ -1,16 +1,21 @@
 //! The reader of requests: its state, and how it continues with more bytes.
-ghost use Rattle.std.specs.Prelude.{◌≡◌, ◌≤◌, ◌<◌, ◌+◌, ◌++◌, ℕ, List, [], length, take, IfOk, OnOk, IfSome, None, false, true, if◌then◌else◌};
+ghost use Rattle.std.specs.Prelude.{◌≡◌, ◌≤◌, ◌<◌, ◌+◌, ◌++◌, ℕ, List, [], length, take};
+ghost use Rattle.std.specs.Prelude.{IfOk, OnOk, IfNone, IfSome, None, false, true, if◌then◌else◌};
 ghost use Rattle.std.specs.List.{flat_map};
+ghost use Rattle.bq_job.specs.reading.Line.{first_line};
 ghost use Rattle.bq_job.specs.reading.LineRead as line_read;
 ghost use Rattle.bq_job.specs.reading.Reading.{IsPutRequest, Reads, is_quit};
 ghost use Rattle.bq_wire.specs.Asked.{asked_by, put_line_of};
 ghost use Rattle.bq_wire.specs.HasRead.{HasRead, HasReadText, ReadsOn};
+ghost use Rattle.bq_wire.specs.LineEnds.{last_is_cr, line_end_after};
 ghost use Rattle.bq_wire.specs.PutBodies.{HasBodyRoom, IsBodySoFar};
 ghost use Rattle.bq_wire.specs.Standing.{IsFed, IsOver, IsSoundPlace, IsSoundReader, Stands, StandsAt, Feeds};
-ghost use Rattle.bq_wire.specs.Standing.{Keeps, EndsLineAsking, IsPutLine, TakesMissing, Waits, HandsRequest, but_last, missing_at, request_in};
+ghost use Rattle.bq_wire.specs.Standing.{Keeps, EndsLineAsking, IsPutLine, TakesMissing};
+ghost use Rattle.bq_wire.specs.Standing.{Waits, HandsRequest, but_last, missing_at, request_in};
 ghost use Rattle.bq_wire.specs.declared.reader.ReaderPlace.TheVariants.{InLine, InLongLine, InBody, Over};
 
 use crate::command::is;
+use crate::frequent::{EndedLine, frequent_line};
 use crate::line_read::{LONGEST_LINE, LineRead, PutLine, ends_in_cr, line_end_after, read_line};
 use crate::put_body::PutBody;
 use bq_job::{Body, LARGEST_BODY, NoMemory, Refusal, Request};
@@ -246,7 +251,7 @@ fn feed_line(alloc: Global, state: &mut ReaderState, piece: &[u8], place: &mut R
     ensures fed { IsFed state.old state.new piece.now result.count (request_in result place.new) }
     ensures feeds { Feeds (StandsAt state.old InLine) state.new piece.now result.count (request_in result place.new) }
 {
-    match line_end_after(ends_in_cr(false, state.kept.as_slice()), piece) {
+    match line_in(&mut state.kept, piece, place) {
         None => {
             state.place = keep(&mut state.kept, piece);
             Taken {
@@ -254,11 +259,42 @@ fn feed_line(alloc: Global, state: &mut ReaderState, piece: &[u8], place: &mut R
                 is_request: false,
             }
         }
-        Some(end) => {
-            let read = whole_line(&mut state.kept, &piece[..end - 1], place);
-            after_line(alloc, state, read, piece, end, place)
+        Some(line) => after_line(alloc, state, line.read, piece, line.end, place),
+    }
+}
+
+// Returns the command line that ends in the piece, if one does. A complete request is put into
+// `place`.
+#[inline(always)]
+fn line_in(kept: &mut KeptLine, piece: &[u8], place: &mut Request) -> Option<EndedLine>
+    ensures none { IfNone result ((kept.new ≡ kept.old) × (line_end_after (last_is_cr false kept.old) piece.now ≡ None)) }
+    ensures some { IfSome result (λ line. 0 < line.end) }
+    ensures within { IfSome result (λ line. line.end ≤ length piece.now) }
+    ensures cleared { IfSome result (λ line. kept.new ≡ []) }
+    ensures asks { IfSome result (λ line. first_line kept.old ≡ None
+        → EndsLineAsking (asked_by line.read place.new) (take line.end piece.now) kept.old) }
+{
+    if kept.as_slice().is_empty() {
+        if let Some(line) = frequent_line(piece, place) {
+            return Some(line);
         }
     }
+    any_line_in(kept, piece, place)
+}
+
+// The same for any line.
+#[inline(never)]
+fn any_line_in(kept: &mut KeptLine, piece: &[u8], place: &mut Request) -> Option<EndedLine>
+    ensures none { IfNone result ((kept.new ≡ kept.old) × (line_end_after (last_is_cr false kept.old) piece.now ≡ None)) }
+    ensures some { IfSome result (λ line. 0 < line.end) }
+    ensures within { IfSome result (λ line. line.end ≤ length piece.now) }
+    ensures cleared { IfSome result (λ line. kept.new ≡ []) }
+    ensures asks { IfSome result (λ line. first_line kept.old ≡ None
+        → EndsLineAsking (asked_by line.read place.new) (take line.end piece.now) kept.old) }
+{
+    let end = line_end_after(ends_in_cr(false, kept.as_slice()), piece)?;
+    let read = whole_line(kept, &piece[..end - 1], place);
+    Some(EndedLine { end, read })
 }
 
 // Keeps the bytes of an unfinished command line, or none if the line is too long.
