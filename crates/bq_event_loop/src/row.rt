@@ -1,14 +1,11 @@
 //! The seats of a run, each with its door.
-ghost use Rattle.std.specs.Prelude.{◌≡◌, ◌⊎◌, ◌<◌, ℕ, List, [], true, length, IfOk, IsTrue, vec_len};
-ghost use Rattle.std.specs.List.{All};
-ghost use Rattle.bq_core_api.specs.Limits.{is_body_size};
+ghost use Rattle.std.specs.Prelude.{◌≡◌, ◌⊎◌, ◌<◌, ℕ, List, [], true, length};
 ghost use Rattle.bq_job.specs.declared.answer.Answer.{Answer};
 ghost use Rattle.bq_event_loop.specs.Still.{IsStill};
-ghost use Rattle.bq_line.specs.Tending.{DoorSeen, IsNewSeat, IsPlaced, Tends, door_seen};
+ghost use Rattle.bq_line.specs.Tending.{DoorSeen, IsPlaced, Tends, door_seen};
 
 use crate::still::{is_still, stands_of};
 use crate::turns::Stands;
-use bq_job::NoMemory;
 use bq_line::attendant::{Attendant, LinePlace, Looked};
 use bq_line::line::{Line, ReadBuffer, Readiness};
 use bq_line::{Door, TurnedAway, Watcher};
@@ -191,33 +188,4 @@ fn exchange_at<L: Line + Drop, D: Door<Line = L>>(
     } else {
         seat.exchange(buffer);
     }
-}
-
-/// Returns new seats. All memory but that for bodies is allocated here.
-pub fn new_seats<L: Line + Drop>(
-    alloc: Global,
-    seats: u16,
-    max_job_size: u32,
-) -> Result<Vec<Attendant<L>, Global>, NoMemory>
-    requires { IsTrue (is_body_size max_job_size) }
-    ensures many { IfOk result (λ all. vec_len all ≡ seats) }
-    ensures new { IfOk result (λ all. All (IsNewSeat max_job_size) all.items) }
-{
-    let Ok(mut all) = Vec::with_capacity(alloc, usize::from(seats)) else {
-        return Err(NoMemory);
-    };
-    for _ in 0..seats {
-        let Ok(seat) = new_seat(alloc, max_job_size) else {
-            return Err(NoMemory);
-        };
-        all.push_reserved(seat);
-    }
-    Ok(all)
-}
-
-fn new_seat<L: Line + Drop>(alloc: Global, max_job_size: u32) -> Result<Attendant<L>, NoMemory>
-    requires { IsTrue (is_body_size max_job_size) }
-    ensures { IfOk result (λ seat. IsNewSeat max_job_size seat) }
-{
-    Attendant::new(alloc, max_job_size)
 }

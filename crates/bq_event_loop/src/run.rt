@@ -14,12 +14,12 @@ ghost use Rattle.bq_event_loop.specs.Refused.{IsRefusedBy};
 ghost use Rattle.bq_event_loop.specs.SoFar.{beginning};
 
 use crate::control_turns::ControlTurns;
-use crate::row::{Row, new_seats};
+use crate::row::Row;
 use crate::serve::serve;
 use crate::sleeper::Sleeper;
 use crate::turns::{Began, Turns, TurnsFault};
 use bq_core_api::{Config, QueueCore};
-use bq_host::{Hub, RunFault, Woken};
+use bq_host::{Hub, RunFault, Woken, new_seats};
 use bq_job::{NoMemory, steps_keep_settings, the_headline};
 use bq_line::Door;
 use bq_line::attendant::Attendant;

@@ -1,5 +1,5 @@
-//! What the runs of the server share: how a run begins and why it does not, the mail of a seat, a core
-//! with its clock, what is logged about the core's steps, and a journal of them. Also a hub, at which
+//! What the runs of the server share: how a run begins and why it does not, its seats and their mail, a
+//! core with its clock, what is logged about the core's steps, and a journal of them. Also a hub, at which
 //! one thread serves seats.
 #![tactic(auto)]
 
@@ -8,6 +8,7 @@ pub use hub::Hub;
 pub use journal::{CopySource, Journal, SharedBodies};
 pub use mail::{Mail, new_mails};
 pub use notices::Notices;
+pub use seats::new_seats;
 pub use start::Start;
 pub use timed_core::{HeardClock, TimedCore, new_core};
 pub use woken::Woken;
@@ -18,6 +19,7 @@ pub mod hub_seat;
 mod journal;
 mod mail;
 mod notices;
+mod seats;
 mod start;
 mod timed_core;
 mod woken;

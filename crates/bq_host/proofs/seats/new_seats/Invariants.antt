@@ -1,7 +1,7 @@
 use Rattle.std.proofs.Common.{◌≡◌, ◌≤◌, vec_capacity, vec_len}
 use Rattle.std.specs.List.{All}
 use Rattle.bq_line.specs.Tending.{IsNewSeat}
-use Rattle.bq_event_loop.proofs.row.new_seats.Given as goal
+use Rattle.bq_host.proofs.seats.new_seats.Given as goal
 
 abbrev pub invariant-loop : goal.invariant-loop
 invariant-loop g l = record {

@@ -3,7 +3,7 @@ use Rattle.std.specs.List.{All}
 use Rattle.bq_line.specs.Tending.{IsNewSeat}
 use Rattle.bq_line.specs.declared.attendant.Attendant.{Attendant}
 use Rattle.bq_host.proofs.ListLemmas.{all_more}
-use Rattle.bq_event_loop.proofs.row.new_seats.Goals as goal
+use Rattle.bq_host.proofs.seats.new_seats.Goals as goal
 
 pub loop-preserved : goal.loop-preserved
 loop-preserved g c =
