@@ -33,7 +33,9 @@ fn is_deadline_soon(jobs: &mut NumberedJobs, seat: Seat, moment: Moment) -> bool
     is_soon(jobs.next_deadline_of(seat), moment)
 }
 
-// Returns true if the time to run of some reserved job ends within a second.
+// Returns true if the time to run of some reserved job ends within a second. Like the two functions
+// below it is not inlined: usually no client waits, so that a step needs little code for its checks.
+#[inline(never)]
 #[tactic(auto, using(crate::proofs::FiredTimerLemmas::some_warned))]
 fn is_some_deadline_soon(jobs: &mut NumberedJobs, moment: Moment) -> bool
     ensures soon { result ≡ list_any (is_lease_short moment) jobs.old.jobs }
@@ -127,6 +129,7 @@ fn turn(state: &mut CoreParts, outs: &mut Outs, last: &mut Option<Turn>) -> bool
 
 // Ends the waits that end now, if there may be some. Each waiting client is checked once, in the
 // order of tickets.
+#[inline(never)]
 #[tactic(auto, using(crate::proofs::WaitLemmas::ends_of_waits))]
 fn end_all(state: &mut CoreParts, outs: &mut Outs)
     requires room { HasRoom 0 (machine_of state.old) outs.old }
@@ -140,6 +143,7 @@ fn end_all(state: &mut CoreParts, outs: &mut Outs)
 }
 
 // Returns true if some wait has timed out, or its client sends no more.
+#[inline(never)]
 #[tactic(auto, using(bq_state::proofs::FirstTimeoutLemmas::over_known))]
 fn is_some_wait_over(state: &mut CoreParts) -> bool
     ensures over { result ≡ list_any (has_waited state.old.moment) state.old.seats.items }
