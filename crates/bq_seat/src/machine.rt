@@ -173,7 +173,7 @@ impl SeatMachine {
                 self.stage = Stage::Connecting;
                 *next = Action::Submit(Step::Connect);
             }
-            _ => *next = Action::Stray,
+            _ => stray(next),
         }
     }
 
@@ -187,7 +187,7 @@ impl SeatMachine {
             Stage::TellingEnd => self.poll(true, next),
             Stage::AskingQuit => self.close(LineEnd::Quit, next),
             Stage::Closing(end) => self.leave(end, next),
-            _ => *next = Action::Stray,
+            _ => stray(next),
         }
     }
 
@@ -217,7 +217,7 @@ impl SeatMachine {
         match self.stage {
             Stage::Reading => self.take_in(alloc, bytes, next),
             Stage::ReadingOn => self.keep(bytes, next),
-            _ => *next = Action::Stray,
+            _ => stray(next),
         }
     }
 
@@ -242,7 +242,7 @@ impl SeatMachine {
             Stage::ReadingOn => self.poll(true, next),
             Stage::Polling { waits } => self.no_mail_yet(waits, next),
             Stage::Leaving(_) => *next = Action::PollMail,
-            _ => *next = Action::Stray,
+            _ => stray(next),
         }
     }
 
@@ -257,7 +257,7 @@ impl SeatMachine {
                 self.stage = Stage::TellingEnd;
                 *next = Action::Submit(Step::End);
             }
-            _ => *next = Action::Stray,
+            _ => stray(next),
         }
     }
 
@@ -268,7 +268,7 @@ impl SeatMachine {
         match self.stage {
             Stage::Reading => self.close(LineEnd::ReadFault, next),
             Stage::ReadingOn => self.close(LineEnd::ReadFault, next),
-            _ => *next = Action::Stray,
+            _ => stray(next),
         }
     }
 
@@ -283,7 +283,7 @@ impl SeatMachine {
         match self.stage {
             Stage::Polling { .. } => self.stage = Stage::Writing,
             Stage::Leaving(end) => self.mail_after_close(end, next),
-            _ => *next = Action::Stray,
+            _ => stray(next),
         }
     }
 
@@ -293,7 +293,7 @@ impl SeatMachine {
     {
         match self.stage {
             Stage::Writing => self.go_on(alloc, next),
-            _ => *next = Action::Stray,
+            _ => stray(next),
         }
     }
 
@@ -303,7 +303,7 @@ impl SeatMachine {
     {
         match self.stage {
             Stage::Writing => self.close(LineEnd::WriteFault, next),
-            _ => *next = Action::Stray,
+            _ => stray(next),
         }
     }
 
@@ -418,6 +418,7 @@ impl SeatMachine {
 
     // The answer to the close ends the connection. Other mail is dropped. A body that did not come
     // whole is freed here, since the next connection may come much later.
+    #[inline(never)]
     fn mail_after_close(&mut self, end: LineEnd, next: &mut Action)
         ensures action { (answer : Answer) → next.old ≡ Action.Write answer
             → next.new ≡ (if is_closed_answer answer then Action.LineOver end else Action.PollMail) }
@@ -435,6 +436,15 @@ impl SeatMachine {
             _ => *next = Action::PollMail,
         }
     }
+}
+
+// The event does not answer the last action. A separate function, so that its
+// callers save no registers for it: the last action has to be dropped.
+#[inline(never)]
+fn stray(next: &mut Action)
+    ensures { next.new ≡ Action.Stray }
+{
+    *next = Action::Stray;
 }
 
 // Reads the next request from these bytes. It is made in `next`, as the step that submits it, so that
