@@ -65,7 +65,8 @@ impl Bench {
         let mut last: Option<Request> = None;
         self.reader.restart();
         for line in words.split('~') {
-            let _ = self.feed(line.as_bytes());
+            drop(self.feed(line.as_bytes()));
+            drop(last);
             last = self.feed(b"\r\n");
         }
         last
@@ -102,6 +103,11 @@ impl Bench {
         self.outs.take_first()
     }
 
+    /// Returns true if no answer of the last step is left.
+    pub fn is_silent(&self) -> bool {
+        self.outs.is_empty()
+    }
+
     /// Returns true if the command of the last step was left out because an allocation failed.
     pub fn left_out(&self) -> bool {
         self.outs.left_out()
@@ -121,6 +127,10 @@ impl Bench {
     pub fn comparisons(&self) -> u64 {
         self.core.comparisons()
     }
+
+    /// Drops the bench. A function where a bench goes out of scope is dear to prove, and one that
+    /// calls this is not.
+    pub fn end(self) {}
 }
 
 /// Appends what a client receives for an answer, or these bytes for a close. Returns false if an

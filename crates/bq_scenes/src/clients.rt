@@ -28,6 +28,7 @@ pub fn parts_of(alloc: Global, does: &str) -> Result<Vec<Part, Global>, NoMemory
     let mut parts: Vec<Part> = Vec::new(alloc);
     for text in does.split(" + ") {
         if !adds_part(alloc, &mut parts, text) {
+            drop(parts);
             return Err(NoMemory);
         }
     }
@@ -39,6 +40,7 @@ pub fn clock(alloc: Global, readings: &str) -> Result<ScriptClock, NoMemory> {
     let mut script: Vec<Option<Moment>> = Vec::new(alloc);
     for word in readings.split(' ') {
         if script.push(word.parse::<u64>().ok()).is_err() {
+            drop(script);
             return Err(NoMemory);
         }
     }

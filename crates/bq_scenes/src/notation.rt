@@ -51,6 +51,7 @@ pub fn bytes_of(alloc: Global, text: &str) -> Result<Vec<u8>, AllocError> {
             None => adds_plain(&mut bytes, piece),
         };
         if !is_added {
+            drop(bytes);
             return Err(AllocError);
         }
     }
