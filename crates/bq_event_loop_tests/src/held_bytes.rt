@@ -40,6 +40,7 @@ fn ends_by_held_bytes<R: Net<Listener = TcpListener, Stream = TcpStream> + rt::C
         return false;
     };
     let Ok(doors) = no_clients(alloc) else {
+        drop(silent);
         return false;
     };
     let clock = ScriptClock::new(Vec::new(alloc));
@@ -54,10 +55,13 @@ fn ends_by_held_bytes<R: Net<Listener = TcpListener, Stream = TcpStream> + rt::C
         control,
         source,
     );
-    match ran {
+    let is_over = match &ran {
         Ok(run) => run.is_over,
         Err(_) => false,
-    }
+    };
+    drop(ran);
+    drop(silent);
+    is_over
 }
 
 #[test]

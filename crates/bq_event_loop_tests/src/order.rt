@@ -42,6 +42,34 @@ enum Stage {
     Control,
 }
 
+/// How a seat stands.
+#[derive(Clone, Copy)]
+struct Stood {
+    /// How many of its last actions moved nothing.
+    unmoved: u8,
+    /// True if it is between two connections.
+    is_between: bool,
+    /// True if it has to try again.
+    tries_again: bool,
+}
+
+impl Stood {
+    // Notes what is known after a turn of the seat, and whether that moved something.
+    fn note(&mut self, moved: bool, looked: bool, news: &News) {
+        self.unmoved = if moved {
+            0
+        } else {
+            self.unmoved.saturating_add(1)
+        };
+        self.is_between = if looked {
+            news.free.is_some()
+        } else {
+            matches!(news.stands, Stands::Between)
+        };
+        self.tries_again = !looked && news.tries_again;
+    }
+}
+
 /// Chooses turns by a rule, until no seat can act. Then the core may take a tick, and the control
 /// line is read. A seat can act unless its last two actions moved nothing.
 #[derive(Drop)]
@@ -51,11 +79,7 @@ pub struct RuleOrder<'t> {
     seats: usize,
     all: &'t Together,
     stage: Stage,
-    // How many of the last actions of each seat moved nothing.
-    unmoved: [u8; MOST],
-    // Whether each seat is between two connections, and whether it has to try again.
-    between: [bool; MOST],
-    tries_again: [bool; MOST],
+    stood: [Stood; MOST],
     // The seat of the last turn, and whether it checked for a connection.
     last: Option<(usize, bool)>,
     // The seat after which the search for the next one begins.
@@ -77,9 +101,11 @@ impl<'t> RuleOrder<'t> {
                 ControlReads::ToEnd => Stage::Control,
                 _ => Stage::Seats,
             },
-            unmoved: [0; MOST],
-            between: [true; MOST],
-            tries_again: [false; MOST],
+            stood: [Stood {
+                unmoved: 0,
+                is_between: true,
+                tries_again: false,
+            }; MOST],
             last: None,
             after: 0,
             drawn: 1,
@@ -95,24 +121,18 @@ impl<'t> RuleOrder<'t> {
         };
         let moved = news.progress.has_moved();
         if moved && !matches!(self.rule, Rule::Woken) {
-            self.unmoved = [0; MOST];
-        } else if let Some(unmoved) = self.unmoved.get_mut(seat) {
-            *unmoved = if moved { 0 } else { unmoved.saturating_add(1) };
+            self.move_all();
         }
-        self.note_stands(seat, looked, news);
+        if let Some(stood) = self.stood.get_mut(seat) {
+            stood.note(moved, looked, news);
+        }
         self.last = None;
     }
 
-    fn note_stands(&mut self, seat: usize, looked: bool, news: &News) {
-        if let Some(between) = self.between.get_mut(seat) {
-            *between = if looked {
-                news.free.is_some()
-            } else {
-                news.stands == Stands::Between
-            };
-        }
-        if let Some(tries_again) = self.tries_again.get_mut(seat) {
-            *tries_again = !looked && news.tries_again;
+    // Notes that each seat may act.
+    fn move_all(&mut self) {
+        for stood in &mut self.stood {
+            stood.unmoved = 0;
         }
     }
 
@@ -163,25 +183,21 @@ impl<'t> RuleOrder<'t> {
         None
     }
 
+    // Returns how a seat stands. With a number that no seat has, it is one that cannot act.
+    fn stood(&self, seat: usize) -> Stood {
+        match self.stood.get(seat) {
+            Some(stood) => *stood,
+            None => Stood {
+                unmoved: 2,
+                is_between: false,
+                tries_again: false,
+            },
+        }
+    }
+
     fn may_go_on(&self, seat: usize) -> bool {
-        match self.unmoved.get(seat) {
-            Some(unmoved) => *unmoved < 2 || self.tries(seat) || self.all.is_ready(seat),
-            None => false,
-        }
-    }
-
-    fn tries(&self, seat: usize) -> bool {
-        match self.tries_again.get(seat) {
-            Some(tries_again) => *tries_again,
-            None => false,
-        }
-    }
-
-    fn is_between(&self, seat: usize) -> bool {
-        match self.between.get(seat) {
-            Some(between) => *between,
-            None => false,
-        }
+        let stood = self.stood(seat);
+        stood.unmoved < 2 || stood.tries_again || self.all.is_ready(seat)
     }
 
     // Returns the next turn of a seat. A seat between two connections checks for the next one.
@@ -190,7 +206,7 @@ impl<'t> RuleOrder<'t> {
             self.stage = Stage::Time;
             return Turn::Nothing;
         };
-        let looks = self.is_between(seat);
+        let looks = self.stood(seat).is_between;
         self.last = Some((seat, looks));
         if looks {
             return Turn::Look(seat);
@@ -201,12 +217,30 @@ impl<'t> RuleOrder<'t> {
         }
     }
 
+    // Returns the next turn, after this news of the last one. It is no part of `next`, since functions
+    // with many type parameters are dear to prove.
+    fn next_turn(&mut self, news: &News) -> Turn {
+        self.note(news);
+        self.count();
+        match self.stage {
+            Stage::Seats => self.seat_turn(),
+            Stage::Time => {
+                self.stage = Stage::Control;
+                Turn::Time
+            }
+            Stage::Control => {
+                self.begin_round();
+                Turn::Control(self.reads)
+            }
+        }
+    }
+
     // Begins a round. With most rules it tries each seat again, since the seat's connection may be
     // ready by now. In a run that was given up each connection fails.
     fn begin_round(&mut self) {
         self.stage = Stage::Seats;
         if !matches!(self.rule, Rule::Woken) || self.all.has_given_up() {
-            self.unmoved = [0; MOST];
+            self.move_all();
         }
     }
 }
@@ -229,24 +263,12 @@ impl<'t> Turns for RuleOrder<'t> {
         I: ControlInput + Drop,
         K: QueueCore + Drop,
     >(&mut self, news: &News, _began: &Began<D, C, I>, _so_far: SoFar<L, D, C, I, K>) -> Turn {
-        self.note(news);
-        self.count();
-        match self.stage {
-            Stage::Seats => self.seat_turn(),
-            Stage::Time => {
-                self.stage = Stage::Control;
-                Turn::Time
-            }
-            Stage::Control => {
-                self.begin_round();
-                Turn::Control(self.reads)
-            }
-        }
+        self.next_turn(news)
     }
 
     fn wake(&mut self, seat: usize) {
-        if let Some(unmoved) = self.unmoved.get_mut(seat) {
-            *unmoved = 0;
+        if let Some(stood) = self.stood.get_mut(seat) {
+            stood.unmoved = 0;
         }
     }
 

@@ -17,31 +17,40 @@ const ONE_RUN: Run = Run {
     clients: 1,
 };
 
-fn is_refused(alloc: Global, row: &Refused, fault: Option<TurnsFault>) -> bool {
+fn is_refused(alloc: Global, table: &Table, row: &Refused, fault: Option<TurnsFault>) -> bool {
     let all = Together::new();
-    let table = Table::of_text(alloc, ONE);
     let (config, setting) = (config(row.0, row.1), by_rule(Rule::Next));
-    match ran_so(alloc, config, &table, ONE_RUN, &setting, fault, &all) {
+    match ran_so(alloc, config, table, ONE_RUN, &setting, fault, &all) {
         Ok(is_so) => is_so && row.2.is_none() && all.opened() == ONE_RUN.opens(),
         Err(fault) => row.2 == Some(fault) && all.opened() == 0,
     }
 }
 
 // Configurations, and turns that could not be prepared. The configuration is checked first.
-fn are_refused(alloc: Global) -> bool {
+fn are_refused(alloc: Global, table: &Table) -> bool {
     for row in rows() {
-        if !is_refused(alloc, row, None) {
+        if !is_refused(alloc, table, row, None) {
             return false;
         }
     }
     let no_memory = Some(TurnsFault::NoMemory);
     let refused = Some(TurnsFault::Refused);
-    is_refused(alloc, &(1, 1, Some(RunFault::NoMemory)), no_memory)
-        && is_refused(alloc, &(1, 1, Some(RunFault::ThreadRefused)), refused)
-        && is_refused(alloc, &(2, 1, Some(RunFault::BadConfiguration)), refused)
+    is_refused(alloc, table, &(1, 1, Some(RunFault::NoMemory)), no_memory)
+        && is_refused(
+            alloc,
+            table,
+            &(1, 1, Some(RunFault::ThreadRefused)),
+            refused,
+        )
+        && is_refused(
+            alloc,
+            table,
+            &(2, 1, Some(RunFault::BadConfiguration)),
+            refused,
+        )
 }
 
 #[test]
 fn refused_runs(rt: HostRuntime) {
-    assert!(rt; are_refused(rt.alloc()));
+    assert!(rt; are_refused(rt.alloc(), &Table::of_text(rt.alloc(), ONE)));
 }

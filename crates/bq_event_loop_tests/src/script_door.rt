@@ -39,14 +39,21 @@ impl<'t> ScriptDoor<'t> {
             is_out,
             is_at_end: _,
         } = self;
-        let mut is_right = coming.is_empty() && !is_out;
-        for (line, end) in over {
-            if !line.into_stream().is_left_so(most, end) {
-                is_right = false;
-            }
-        }
-        is_right
+        let is_done = coming.is_empty() && !is_out;
+        drop(coming);
+        are_left_so(over, most) && is_done
     }
+}
+
+// Returns true if the clients of these connections were left as they have to be.
+fn are_left_so(over: Vec<(IoLine<Script<'_>>, LineEnd), Global>, most: usize) -> bool {
+    let mut are_right = true;
+    for (line, end) in over {
+        if !line.into_stream().is_left_so(most, end) {
+            are_right = false;
+        }
+    }
+    are_right
 }
 
 impl<'t> Door for ScriptDoor<'t> {

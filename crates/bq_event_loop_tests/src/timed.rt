@@ -31,6 +31,5 @@ static WAITS: &str = "put 0 1 9 1~x~reserve~ + after 29 > INSERTED 1~RESERVED 1 
 
 #[test]
 fn the_loop_sleeps(rt: HostRuntime) {
-    let slept = sleeps_in(rt.alloc(), WAITS, &Series::Timed.setting(0));
-    assert!(rt; matches!(slept, Some(2..)));
+    assert!(rt; sleeps_in(rt.alloc(), WAITS, &Series::Timed.setting(0)) >= 2);
 }
