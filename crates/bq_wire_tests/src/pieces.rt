@@ -45,7 +45,11 @@ pub fn push_text(bytes: &mut Vec<u8>, text: &str) -> bool {
 // Returns true if these are the requests of a text in pieces, in short form.
 fn has_requests(alloc: Global, limit: u32, pieces: &[Vec<u8>], wanted: &[u8]) -> bool {
     match requests_of(alloc, limit.max(1).min(1_048_576), pieces) {
-        Ok(requests) => are_noted(&requests, wanted),
+        Ok(requests) => {
+            let are_right = are_noted(&requests, wanted);
+            drop(requests);
+            are_right
+        }
         Err(_) => false,
     }
 }
@@ -89,5 +93,8 @@ pub fn is_read_in(
     wanted: &[u8],
 ) -> bool {
     let mut pieces = Vec::new(alloc);
-    cut(alloc, &mut pieces, text, first, each) && has_requests(alloc, limit, &pieces, wanted)
+    let is_right = cut(alloc, &mut pieces, text, first, each)
+        && has_requests(alloc, limit, &pieces, wanted);
+    drop(pieces);
+    is_right
 }

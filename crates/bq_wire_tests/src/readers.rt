@@ -18,6 +18,7 @@ fn takes(
         Some(request) => words_of(request),
         None => "",
     };
+    drop(request);
     taken == count && returned == words
 }
 

@@ -87,15 +87,26 @@ fn answers(event: &str, last: &str) -> bool {
     false
 }
 
-// Returns the name of the action that answers the event of a row.
+// Returns the name of the action that answers the event of a row, whose bytes are these.
+fn named(alloc: Global, machine: &mut SeatMachine, event: &str, bytes: &[u8]) -> &'static str {
+    match event_of(event, bytes) {
+        Some(event) => {
+            let action = machine.on(alloc, event);
+            let name = name_of(&action);
+            drop(action);
+            name
+        }
+        None => "no event",
+    }
+}
+
+// Does the same for an event with its bytes.
 fn told(alloc: Global, machine: &mut SeatMachine, event: &str) -> &'static str {
     let mut bytes = Vec::new(alloc);
-    if !push_text(&mut bytes, event.strip_prefix("bytes ").unwrap_or("")) {
-        return "no memory";
-    }
-    match event_of(event, bytes.as_slice()) {
-        Some(event) => name_of(&machine.on(alloc, event)),
-        None => "no event",
+    if push_text(&mut bytes, event.strip_prefix("bytes ").unwrap_or("")) {
+        named(alloc, machine, event, bytes.as_slice())
+    } else {
+        "no memory"
     }
 }
 

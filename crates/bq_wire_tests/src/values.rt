@@ -15,7 +15,9 @@ fn is_made(alloc: Global, bytes: &[u8]) -> bool {
         Ok(body) => {
             let is_whole = body.as_slice() == bytes;
             let numbered = NumberedBody::new(body, 4_000_000_000);
-            is_whole && numbered.number() == 4_000_000_000 && is_shared(&numbered, bytes)
+            let is_numbered = numbered.number() == 4_000_000_000 && is_shared(&numbered, bytes);
+            drop(numbered);
+            is_whole && is_numbered
         }
         Err(_) => false,
     }
@@ -23,7 +25,11 @@ fn is_made(alloc: Global, bytes: &[u8]) -> bool {
 
 fn is_shared(numbered: &NumberedBody, bytes: &[u8]) -> bool {
     match numbered.share() {
-        Ok(body) => body.as_slice() == bytes,
+        Ok(body) => {
+            let is_same = body.as_slice() == bytes;
+            drop(body);
+            is_same
+        }
         Err(_) => false,
     }
 }
@@ -69,7 +75,9 @@ fn are_names() -> bool {
 }
 
 fn has_number(answer: Answer, number: u16) -> bool {
-    answer.code().unwrap_or(0) == number
+    let code = answer.code().unwrap_or(0);
+    drop(answer);
+    code == number
 }
 
 // The numbers of refusals, of answers and of the fault.

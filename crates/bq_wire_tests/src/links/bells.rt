@@ -1,7 +1,7 @@
 //! Wake-ups: a waiting thread is woken up by what it waits for, even if that came before it waited.
 ghost use Rattle.std.specs.Prelude.{◌≡◌};
 
-use crate::links::ends::{Shared, submit_one};
+use crate::links::ends::{Shared, refused, taken};
 use bq_job::Step;
 use bq_link::{CoreEnd, SeatEnd};
 use std::sync::Wait;
@@ -25,7 +25,7 @@ fn takes_after_a_wait<R: Wait>(rt: &R, intake: &Shared, core: &mut CoreEnd) -> b
     ensures { core.new.intake ≡ core.old.intake }
 {
     core.wait(rt, intake, long());
-    core.take(rt, intake).is_some()
+    taken(rt, intake, core).is_some()
 }
 
 // Submits a step in place.
@@ -33,7 +33,9 @@ fn submits_in_place<R: Wait>(rt: &R, intake: &Shared, end: &mut SeatEnd) -> bool
     requires { end.old.intake ≡ intake.now.id }
 {
     let mut step = Step::Tick;
-    end.submit_in_place(rt, intake, &mut step)
+    let is_submitted = end.submit_in_place(rt, intake, &mut step);
+    drop(step);
+    is_submitted
 }
 
 // An end waits after it was woken up.
@@ -58,8 +60,8 @@ pub fn end_waits<R: Clock + Wait>(
     let Ok(start) = Instant::now(rt) else {
         return false;
     };
-    submit_one(rt, intake, first, Step::Tick);
-    let are_heard = takes_after_a_wait(rt, intake, core)
+    let are_heard = refused(rt, intake, first, Step::Tick).is_none()
+        && takes_after_a_wait(rt, intake, core)
         && submits_in_place(rt, intake, second)
         && takes_after_a_wait(rt, intake, core);
     hears(rt, intake, first);

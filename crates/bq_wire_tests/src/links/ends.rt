@@ -2,11 +2,10 @@
 ghost use Rattle.std.specs.Prelude.{◌≡◌, ◌+◌, ◌≤◌, IfOk, length};
 ghost use Rattle.bq_link.specs.EndStates.{IsPair, IsSameCore, IsSameSeat};
 
-use bq_job::{NoMemory, Seat, Step};
+use bq_job::{JobId, NoMemory, Request, Seat, Step};
 use bq_link::{Anything, CoreEnd, Intake, SeatEnd, links};
 use std::alloc::Global;
 use std::sync::Wait;
-use std::thread;
 
 /// The intake of all tests.
 pub type Shared = Intake<Anything>;
@@ -26,53 +25,59 @@ pub fn last_ends(alloc: Global, count: u16) -> Result<(Shared, CoreEnd, SeatEnd,
     Ok((intake, core, first, second))
 }
 
-/// Submits a step, and tries again while the intake is full.
-pub fn submit_one<R: Wait>(rt: &R, intake: &Shared, end: &mut SeatEnd, step: Step)
-    requires { end.old.intake ≡ intake.now.id }
-    ensures { end.new.intake ≡ end.old.intake }
-{
-    let mut step = step;
-    for _ in rt.forever() {
-        match end.submit(rt, intake, step) {
-            Ok(()) => return,
-            Err(back) => step = back,
-        }
-        thread::yield_now();
-    }
-    unreachable!()
-}
-
-/// Returns true if the intake had room for a step.
-pub fn submits<R: Wait>(rt: &R, intake: &Shared, end: &mut SeatEnd, step: Step) -> bool
-    requires { end.old.intake ≡ intake.now.id }
-    ensures { IsSameSeat end.old end.new }
-{
-    end.submit(rt, intake, step).is_ok()
-}
-
-/// Returns true if the core takes a step of this kind from the end with this number.
-pub fn takes<R: Wait>(rt: &R, intake: &Shared, core: &mut CoreEnd, seat: Seat, kind: Did) -> bool
-    requires { core.old.intake ≡ intake.now.id }
-    ensures { IsSameCore core.old core.new }
-{
-    match core.take(rt, intake) {
-        Some((from, step)) => from == seat && is_of(&step, kind),
-        None => false,
-    }
-}
-
 /// The steps of these tests.
 #[derive(Clone, Copy)]
 pub enum Did {
     Connect,
     Tick,
     Drain,
+    Gone,
+    /// A touch of the job with this id.
+    Touch(JobId),
+    /// Another step.
+    Other,
 }
 
-fn is_of(step: &Step, kind: Did) -> bool {
-    match kind {
-        Did::Connect => matches!(step, Step::Connect),
-        Did::Tick => matches!(step, Step::Tick),
-        Did::Drain => matches!(step, Step::Drain),
+fn kind_of(step: &Step) -> Did {
+    match step {
+        Step::Connect => Did::Connect,
+        Step::Tick => Did::Tick,
+        Step::Drain => Did::Drain,
+        Step::Gone => Did::Gone,
+        Step::Ask(Request::Touch { id }) => Did::Touch(*id),
+        _ => Did::Other,
+    }
+}
+
+// A step or an answer that goes out of scope makes its function dear to prove, and a call of `drop`
+// does not.
+
+/// Submits a step. Returns the step that comes back if the intake is full.
+pub fn refused<R: Wait>(rt: &R, intake: &Shared, end: &mut SeatEnd, step: Step) -> Option<Did>
+    requires { end.old.intake ≡ intake.now.id }
+    ensures { IsSameSeat end.old end.new }
+{
+    match end.submit(rt, intake, step) {
+        Ok(()) => None,
+        Err(back) => {
+            let kind = kind_of(&back);
+            drop(back);
+            Some(kind)
+        }
+    }
+}
+
+/// Takes a step, with the number of the end that it is from.
+pub fn taken<R: Wait>(rt: &R, intake: &Shared, core: &mut CoreEnd) -> Option<(Seat, Did)>
+    requires { core.old.intake ≡ intake.now.id }
+    ensures { IsSameCore core.old core.new }
+{
+    match core.take(rt, intake) {
+        Some((seat, step)) => {
+            let kind = kind_of(&step);
+            drop(step);
+            Some((seat, kind))
+        }
+        None => None,
     }
 }
