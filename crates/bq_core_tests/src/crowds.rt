@@ -27,7 +27,18 @@ fn puts(alloc: Global, bench: &mut Bench, number: u32) -> bool {
         body,
     };
     bench.step(0, 0, Step::Ask(put));
-    matches!(bench.answer(), Some((0, Answer::Inserted(id))) if id == JobId::from(number))
+    is_inserted(bench, JobId::from(number))
+}
+
+// Returns true if the oldest answer tells the client at seat 0 that its job has this id.
+fn is_inserted(bench: &mut Bench, id: JobId) -> bool {
+    let answer = bench.answer();
+    let is_right = match &answer {
+        Some((0, Answer::Inserted(found))) => *found == id,
+        _ => false,
+    };
+    drop(answer);
+    is_right
 }
 
 // Puts this many jobs, the first the most urgent, into a core that had none.

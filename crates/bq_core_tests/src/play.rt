@@ -59,7 +59,11 @@ fn is_next(bench: &mut Bench, wanted: &'static str) -> bool {
         return false;
     };
     match bench.answer() {
-        Some((to, answer)) => to == seat && has_text(&answer, text.as_bytes()),
+        Some((to, answer)) => {
+            let is_right = to == seat && has_text(&answer, text.as_bytes());
+            drop(answer);
+            is_right
+        }
         None => false,
     }
 }
@@ -73,7 +77,7 @@ fn is_answered(bench: &mut Bench, answers: &'static str) -> bool {
             return false;
         }
     }
-    bench.answer().is_none() && bench.was_ample()
+    bench.is_silent() && bench.was_ample()
 }
 
 // Takes the step of the row, and returns true if it is answered as the row says.
@@ -131,7 +135,11 @@ pub(crate) fn play_one(
     script: Script,
 ) -> Result<u64, &'static str> {
     match Bench::new(alloc, config) {
-        Some(mut bench) => play_at(alloc, &mut bench, crowd, script),
+        Some(mut bench) => {
+            let played = play_at(alloc, &mut bench, crowd, script);
+            bench.end();
+            played
+        }
         None => Err("no memory"),
     }
 }

@@ -48,7 +48,11 @@ fn are_three(alloc: Global) -> bool {
         sizes: [0; 3],
     };
     match NumberedJobs::new(alloc, &NumberedTubes::new(alloc)) {
-        Ok(mut jobs) => asks_for_three(&mut jobs, &mut source) && are_small(&source),
+        Ok(mut jobs) => {
+            let are_three = asks_for_three(&mut jobs, &mut source) && are_small(&source);
+            drop(jobs);
+            are_three
+        }
         Err(_) => false,
     }
 }

@@ -6,6 +6,11 @@ use bq_job::{Body, Counts, Job, JobId, JobState, Pri, Seat, TubeName};
 use bq_jobs::Jobs;
 use std::alloc::Global;
 
+// Each function that names the table takes seconds to prove.
+fn rows() -> &'static [(JobId, &'static str, Pri, JobState)] {
+    JOBS
+}
+
 static JOBS: &[(JobId, &str, Pri, JobState)] = &[
     (1, "ab", 0, JobState::Ready),
     (2, "a", 7, JobState::Ready),
@@ -86,7 +91,7 @@ fn add(alloc: Global, jobs: &mut Jobs, id: JobId, name: &str, pri: Pri, state: J
 
 // Adds the jobs of all rows.
 fn add_all(alloc: Global, jobs: &mut Jobs) -> bool {
-    for (id, name, pri, state) in JOBS {
+    for (id, name, pri, state) in rows() {
         if !add(alloc, jobs, *id, *name, *pri, *state) {
             return false;
         }
@@ -126,13 +131,17 @@ fn are_first(jobs: &mut Jobs) -> bool {
 // Returns true if the job with this id is removed, and has the name of this tube.
 fn is_removed(jobs: &mut Jobs, id: JobId, name: &str) -> bool {
     match jobs.remove(id) {
-        Some(job) => job.tube.as_slice() == name.as_bytes() && job.id == id,
+        Some(job) => {
+            let is_right = job.tube.as_slice() == name.as_bytes() && job.id == id;
+            drop(job);
+            is_right
+        }
         None => false,
     }
 }
 
 fn are_removed(jobs: &mut Jobs) -> bool {
-    for (id, name, _, _) in JOBS {
+    for (id, name, _, _) in rows() {
         if !is_removed(jobs, *id, *name) {
             return false;
         }
@@ -146,5 +155,8 @@ fn works(alloc: Global, jobs: &mut Jobs) -> bool {
 
 #[test]
 fn first_of_each_kind_by_names(rt: HostRuntime) {
-    assert!(rt; works(rt.alloc(), &mut Jobs::new()));
+    let mut jobs = Jobs::new();
+    let works = works(rt.alloc(), &mut jobs);
+    drop(jobs);
+    assert!(rt; works);
 }

@@ -56,7 +56,10 @@ fn reserves_three(
 
 fn all_reserve_three(heap: Global) -> bool {
     for (refused, asked, spare) in REFUSALS {
-        if !reserves_three(heap, &mut Shelf::new(), *refused, *asked, *spare) {
+        let mut shelf = Shelf::new();
+        let is_right = reserves_three(heap, &mut shelf, *refused, *asked, *spare);
+        drop(shelf);
+        if !is_right {
             return false;
         }
     }
@@ -72,13 +75,18 @@ fn has_boxes_of<V: Drop>(heap: Global, shelf: &mut Shelf<u64, V>, value: usize) 
 fn are_small(heap: Global) -> bool {
     let mut keys: Shelf<u64, ()> = Shelf::new();
     let mut entries: Shelf<u64, (u64, u64)> = Shelf::new();
-    has_boxes_of(heap, &mut keys, 0) && has_boxes_of(heap, &mut entries, 16)
+    let are_small = has_boxes_of(heap, &mut keys, 0) && has_boxes_of(heap, &mut entries, 16);
+    drop(keys);
+    drop(entries);
+    are_small
 }
 
 // A chain of spare boxes that is far longer than the stack is deep is freed, one box after another.
 fn frees_a_million(heap: Global) -> bool {
     let mut shelf: Shelf<u64, u64> = Shelf::new();
-    shelf.reserve(heap, 1_000_000).is_ok() && shelf.spare() == 1_000_000
+    let are_made = shelf.reserve(heap, 1_000_000).is_ok() && shelf.spare() == 1_000_000;
+    drop(shelf);
+    are_made
 }
 
 #[test]

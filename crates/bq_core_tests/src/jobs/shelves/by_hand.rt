@@ -52,5 +52,8 @@ fn works(alloc: Global, shelf: &mut Shelf<u64, char>) -> bool {
 
 #[test]
 fn shelf_by_hand(rt: HostRuntime) {
-    assert!(rt; works(rt.alloc(), &mut Shelf::new()) && NoMemory.code() == 301);
+    let mut shelf = Shelf::new();
+    let works = works(rt.alloc(), &mut shelf);
+    drop(shelf);
+    assert!(rt; works && NoMemory.code() == 301);
 }

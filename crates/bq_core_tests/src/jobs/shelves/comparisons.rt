@@ -124,5 +124,7 @@ fn compares_few(shelf: &mut Shelf<u64, u64>) -> bool {
 fn comparisons_of_a_call(rt: HostRuntime) {
     digits_by_hand();
     let mut shelf = Shelf::new();
-    assert!(rt; shelf.reserve(rt.alloc(), 1_024).is_ok() && compares_few(&mut shelf));
+    let are_few = shelf.reserve(rt.alloc(), 1_024).is_ok() && compares_few(&mut shelf);
+    drop(shelf);
+    assert!(rt; are_few);
 }
