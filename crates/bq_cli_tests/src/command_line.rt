@@ -7,7 +7,10 @@ use std::alloc::{AllocError, Global};
 pub fn words_of(alloc: Global, line: &str) -> Result<Vec<&str>, AllocError> {
     let mut words: Vec<&str> = Vec::new(alloc);
     for word in line.split(' ') {
-        words.push(word)?;
+        if words.push(word).is_err() {
+            drop(words);
+            return Err(AllocError);
+        }
     }
     Ok(words)
 }
@@ -22,7 +25,9 @@ fn chosen(alloc: Global, line: &str) -> Result<Options, OptionFault> {
     } else {
         Program::Bq
     };
-    options(alloc, program, words.as_slice())
+    let options = options(alloc, program, words.as_slice());
+    drop(words);
+    options
 }
 
 // Words with options: the address, the seats, the size of bodies, the limit on jobs, the delay of
@@ -133,11 +138,13 @@ fn is_met(alloc: Global, row: &str) -> bool {
         return false;
     };
     let result_of_words = chosen(alloc, line);
-    match &result_of_words {
+    let is_met = match &result_of_words {
         Ok(options) => are_so(options, wanted),
         Err(OptionFault::BadOptions(text)) => is_reason(text.as_str(), wanted),
         Err(_) => false,
-    }
+    };
+    drop(result_of_words);
+    is_met
 }
 
 // Returns true if the words of each row have the result after the bar.
@@ -193,7 +200,11 @@ fn is_bound(alloc: Global, address: &str, bound: &str) -> bool {
         return address == bound;
     }
     match with_usual_port(alloc, address) {
-        Ok(found) => found.as_str() == bound,
+        Ok(found) => {
+            let is_same = found.as_str() == bound;
+            drop(found);
+            is_same
+        }
         Err(_) => false,
     }
 }

@@ -44,14 +44,21 @@ impl<R: Wait> Heard<R> {
         let Ok(text) = format!(in self.alloc; "{value}{end}") else {
             return Err(io::Error::from(ErrorKind::OutOfMemory));
         };
-        match self
-            .errors
+        let is_kept = self.keep_text(text.as_str());
+        drop(text);
+        if is_kept {
+            Ok(())
+        } else {
+            Err(io::Error::from(ErrorKind::OutOfMemory))
+        }
+    }
+
+    // Appends a text. Returns false if an allocation fails.
+    fn keep_text(&self, text: &str) -> bool {
+        self.errors
             .lock(&self.host)
             .extend_from_slice(text.as_bytes())
-        {
-            Ok(()) => Ok(()),
-            Err(_) => Err(io::Error::from(ErrorKind::OutOfMemory)),
-        }
+            .is_ok()
     }
 
     /// Returns true if exactly this was written to standard error.
@@ -164,7 +171,11 @@ fn is_answered(stream: &mut TcpStream, client: &str) -> bool {
 // Returns true if a client that connects is served as the text says.
 fn is_served<R: Net<Stream = TcpStream>>(host: &R, address: SocketAddr, client: &str) -> bool {
     match TcpStream::connect(host, address) {
-        Ok(mut stream) => is_answered(&mut stream, client),
+        Ok(mut stream) => {
+            let is_answered = is_answered(&mut stream, client);
+            drop(stream);
+            is_answered
+        }
         Err(_) => false,
     }
 }

@@ -25,8 +25,12 @@ fn clients_at_one_and_two_seats(rt: HostRuntime) {
     for turn in 0..TIMES {
         let heard = Heard::new(rt, rt.alloc());
         let visits = if turn % 2 == 0 { WAITS } else { APART };
-        assert!(rt; serves(&heard, &options(2, 1), visits, 2));
+        let serves = serves(&heard, &options(2, 1), visits, 2);
+        drop(heard);
+        assert!(rt; serves);
     }
     let heard = Heard::new(rt, rt.alloc());
-    assert!(rt; serves(&heard, &options(1, 3), VISITS, 3) && heard.has_errors(TWICE));
+    let serves = serves(&heard, &options(1, 3), VISITS, 3) && heard.has_errors(TWICE);
+    drop(heard);
+    assert!(rt; serves);
 }

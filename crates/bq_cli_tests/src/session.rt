@@ -118,7 +118,9 @@ fn options_of(alloc: Global, row: &'static str) -> Option<BqOptions>
     let Ok(words) = words_of(alloc, column(row, 1)) else {
         return None;
     };
-    bq_options(alloc, words.as_slice()).ok()
+    let options = bq_options(alloc, words.as_slice());
+    drop(words);
+    options.ok()
 }
 
 // Returns true if the client of a row has received what it has to, and its connection has ended as
@@ -140,8 +142,17 @@ fn is_met<R: Wait + Clock>(rt: &R, alloc: Global, row: &'static str) -> bool {
         MachineClock::new(rt),
     ) {
         Ok(served) => {
-            are_chosen(served.options, row)
-                && is_left_so(&served.line.into_stream().into_output(), served.end, row)
+            let Served {
+                line,
+                end,
+                options,
+                clock,
+            } = served;
+            drop(clock);
+            let reads = line.into_stream().into_output();
+            let is_met = are_chosen(options, row) && is_left_so(&reads, end, row);
+            drop(reads);
+            is_met
         }
         Err(_) => false,
     }
@@ -177,8 +188,17 @@ fn is_served_surely<R: Wait + Clock>(rt: &R, alloc: Global) -> bool {
     };
     match serve_surely(rt, alloc, &options, b"put 5 0 10 3\r\nabc\r\nput") {
         Ok(served) => {
-            served.end == LineEnd::EndOfInput
-                && served.line.into_stream().received() == b"INSERTED 1\r\n".as_slice()
+            let Served {
+                line,
+                end,
+                options: _,
+                clock,
+            } = served;
+            drop(clock);
+            let client = line.into_stream();
+            let is_answered = client.received() == b"INSERTED 1\r\n".as_slice();
+            drop(client);
+            end == LineEnd::EndOfInput && is_answered
         }
         Err(_) => false,
     }

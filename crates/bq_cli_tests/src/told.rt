@@ -81,7 +81,9 @@ fn tell_words<R: Wait>(heard: &Heard<R>, alloc: Global, form: LogForm) -> u8 {
         return 0;
     };
     let stop = Stop::Options(OptionFault::BadOptions(words));
-    tell_stop(heard, Program::Bqd, form, &stop)
+    let status = tell_stop(heard, Program::Bqd, form, &stop);
+    drop(stop);
+    status
 }
 
 fn are_told<R: Wait>(heard: &Heard<R>, alloc: Global) -> bool {
@@ -93,7 +95,10 @@ fn are_told<R: Wait>(heard: &Heard<R>, alloc: Global) -> bool {
 #[test]
 fn faults_are_told(rt: HostRuntime) {
     let heard = Heard::new(rt, rt.alloc());
-    assert!(rt; tell_all(&heard) == 1 && has_told(&heard, REPORTS));
+    let are_faults_told = tell_all(&heard) == 1 && has_told(&heard, REPORTS);
+    drop(heard);
     let heard = Heard::new(rt, rt.alloc());
-    assert!(rt; are_told(&heard, rt.alloc()));
+    let are_words_told = are_told(&heard, rt.alloc());
+    drop(heard);
+    assert!(rt; are_faults_told && are_words_told);
 }

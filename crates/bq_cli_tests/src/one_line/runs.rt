@@ -36,7 +36,11 @@ impl Client {
 
 fn is_left_so(alloc: Global, client: &Client, one: &One<MemLine, ScriptClock>) -> bool {
     match bytes_of(alloc, client.receives) {
-        Ok(bytes) => one.line.written() == bytes.as_slice() && is_end(one.end, client.end),
+        Ok(bytes) => {
+            let is_same = one.line.written() == bytes.as_slice();
+            drop(bytes);
+            is_same && is_end(one.end, client.end)
+        }
         Err(_) => false,
     }
 }
@@ -57,10 +61,15 @@ pub fn ran_so<R: Wait>(
         return Err(RunFault::NoMemory);
     };
     let Ok(clock) = clock(alloc, readings) else {
+        drop(line);
         return Err(RunFault::NoMemory);
     };
     match run_one(rt, alloc, config, line, clock) {
-        Ok(one) => Ok(is_left_so(alloc, client, &one)),
+        Ok(one) => {
+            let is_so = is_left_so(alloc, client, &one);
+            drop(one);
+            Ok(is_so)
+        }
         Err(fault) => Err(fault),
     }
 }
