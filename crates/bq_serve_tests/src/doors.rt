@@ -117,10 +117,27 @@ fn door(alloc: Global, case: &Case, number: usize) -> Result<MemDoor, NoMemory>
     for visit in &case.table.visits {
         let is_here = visit.run == case.run.number && visit.door == number;
         if is_here && !adds_line(alloc, &mut lines, visit, case.room_at(number)) {
+            drop(lines);
             return Err(NoMemory);
         }
     }
     MemDoor::new(alloc, lines)
+}
+
+// Adds the doors of a run.
+fn add_doors<'c>(
+    alloc: Global,
+    doors: &mut NewDoors<'c>,
+    case: &Case,
+    opened: &'c AtomicU64,
+) -> Result<(), NoMemory> {
+    for number in 0..case.run.doors {
+        match door(alloc, case, number) {
+            Ok(door) => doors.push(door, opened)?,
+            Err(_) => return Err(NoMemory),
+        }
+    }
+    Ok(())
 }
 
 /// Returns the doors of a run. They share a count of how often they are opened.
@@ -132,10 +149,13 @@ pub fn doors<'c>(
     let mut doors = NewDoors {
         all: Vec::new(alloc),
     };
-    for number in 0..case.run.doors {
-        doors.push(door(alloc, case, number)?, opened)?;
+    match add_doors(alloc, &mut doors, case, opened) {
+        Ok(()) => Ok(doors),
+        Err(_) => {
+            drop(doors);
+            Err(NoMemory)
+        }
     }
-    Ok(doors)
 }
 
 // Returns true if a connection with this room was left as the table says. Without enough room its

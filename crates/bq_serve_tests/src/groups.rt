@@ -24,9 +24,11 @@ fn all_come_out<R: Threads + Wait + Sync>(
     engine: Engine,
 ) -> bool {
     let table = table_of(alloc, group);
+    let mut all = false;
     for number in 0..MOST {
         let Some(case) = case_of(&table, group, number) else {
-            return number > 0;
+            all = number > 0;
+            break;
         };
         let came = match engine {
             Engine::Threads => by_threads(rt, alloc, &case),
@@ -34,10 +36,11 @@ fn all_come_out<R: Threads + Wait + Sync>(
         };
         let is_broken = matches!(group, Group::Broken);
         if !matches!(came, Came::AsWanted) && !(is_broken && matches!(came, Came::Otherwise)) {
-            return false;
+            break;
         }
     }
-    false
+    drop(table);
+    all
 }
 
 // Does the same with both engines.

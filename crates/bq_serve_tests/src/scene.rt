@@ -25,6 +25,7 @@ impl<'c> Scene<'c> {
             return Err(NoMemory);
         };
         let Ok(clock) = clock(alloc, "0") else {
+            drop(control);
             return Err(NoMemory);
         };
         match doors(alloc, case, opened) {
@@ -33,7 +34,11 @@ impl<'c> Scene<'c> {
                 clock,
                 control,
             }),
-            Err(_) => Err(NoMemory),
+            Err(_) => {
+                drop(clock);
+                drop(control);
+                Err(NoMemory)
+            }
         }
     }
 }

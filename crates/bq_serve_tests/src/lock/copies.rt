@@ -46,7 +46,11 @@ fn notes(alloc: Global, row: &(usize, usize, usize, usize, bool)) -> bool {
     locked.step_from(&mut source, 0, 0, Step::Connect);
     locked.step_from(&mut source, 0, 0, Step::End);
     locked.step_from(&mut source, 0, 0, Step::Close);
-    source.asked == asked && locked.journal().len() == entries && locked.whole() == is_whole
+    let is_noted = source.asked == asked
+        && locked.journal().len() == entries
+        && locked.whole() == is_whole;
+    drop(locked);
+    is_noted
 }
 
 fn are_noted(alloc: Global) -> bool {

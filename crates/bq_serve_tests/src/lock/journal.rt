@@ -31,7 +31,9 @@ fn adds_answers(bench: &mut Bench, seat: Seat, text: &mut Vec<u8, Global>) -> bo
     for _ in 0..MOST {
         match bench.answer() {
             Some((to, answer)) => {
-                if to == seat && !push_answer(text, &answer, &[LINE_OVER]) {
+                let is_added = to != seat || push_answer(text, &answer, &[LINE_OVER]);
+                drop(answer);
+                if !is_added {
                     return false;
                 }
             }
@@ -113,9 +115,12 @@ fn has_received(
     door: &CountedDoor,
 ) -> bool {
     let (mut text, mut wanted) = (Vec::new(alloc), Vec::new(alloc));
-    replays(bench, entries, seat, &mut wanted)
+    let is_right = replays(bench, entries, seat, &mut wanted)
         && adds_written(&mut text, door)
-        && is_due(door, text.as_slice(), wanted.as_slice())
+        && is_due(door, text.as_slice(), wanted.as_slice());
+    drop(text);
+    drop(wanted);
+    is_right
 }
 
 // Returns true if a seat disconnected once, and its door received what a new core answers.
@@ -128,7 +133,10 @@ fn is_replayed(
 ) -> bool {
     match Bench::new(alloc, case.config) {
         Some(mut bench) => {
-            times_gone(entries, seat) == 1 && has_received(alloc, &mut bench, entries, seat, door)
+            let is_right = times_gone(entries, seat) == 1
+                && has_received(alloc, &mut bench, entries, seat, door);
+            bench.end();
+            is_right
         }
         None => false,
     }

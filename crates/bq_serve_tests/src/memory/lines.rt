@@ -42,10 +42,15 @@ pub fn ran<R: Wait>(rt: &R, alloc: Global, row: &'static str) -> Outcome {
         return Outcome::NotBegun;
     };
     let Ok(clock) = clock(alloc, "0") else {
+        drop(line);
         return Outcome::NotBegun;
     };
     match run_one(rt, alloc, config(1, USUAL_BODY), line, clock) {
-        Ok(one) => outcome_of(row, &one),
+        Ok(one) => {
+            let outcome = outcome_of(row, &one);
+            drop(one);
+            outcome
+        }
         Err(RunFault::NoMemory) => Outcome::Refused,
         Err(_) => Outcome::Wrong,
     }

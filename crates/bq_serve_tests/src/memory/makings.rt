@@ -26,7 +26,9 @@ fn made_or_refused(is_made: bool) -> Outcome {
 fn boxes(alloc: Global) -> Outcome {
     let mut shelf: Shelf<u64, u64> = Shelf::new();
     let is_made = shelf.reserve(alloc, 3).is_ok();
-    match (is_made, shelf.spare()) {
+    let spare = shelf.spare();
+    drop(shelf);
+    match (is_made, spare) {
         (true, 3) => Outcome::Made,
         (true, _) => Outcome::Wrong,
         (false, spare) => Outcome::Kept(spare),
@@ -36,15 +38,14 @@ fn boxes(alloc: Global) -> Outcome {
 // A shelf with one entry gets room for four more.
 fn shelf(alloc: Global) -> Outcome {
     let mut shelf: Shelf<u64, u64> = Shelf::new();
-    if shelf.reserve(alloc, 3).is_err() {
-        return Outcome::NotBegun;
-    }
-    grown_shelf(alloc, &mut shelf)
+    let outcome = grown_shelf(alloc, &mut shelf);
+    drop(shelf);
+    outcome
 }
 
-// Adds an entry to a shelf without entries, which has room for it.
+// Reserves room in a new shelf, and adds an entry.
 fn grown_shelf(alloc: Global, shelf: &mut Shelf<u64, u64>) -> Outcome {
-    if shelf.spare() == 0 || shelf.get(&7).is_some() {
+    if shelf.reserve(alloc, 3).is_err() || shelf.spare() == 0 || shelf.get(&7).is_some() {
         return Outcome::NotBegun;
     }
     shelf.insert(7, 70);
@@ -64,7 +65,13 @@ fn has_one(shelf: &mut Shelf<u64, u64>) -> bool {
 // A collection with one job gets room for one more.
 fn jobs(alloc: Global) -> Outcome {
     let mut jobs = Jobs::new();
-    if !has_added(alloc, &mut jobs) {
+    let outcome = grown_jobs(alloc, &mut jobs);
+    drop(jobs);
+    outcome
+}
+
+fn grown_jobs(alloc: Global, jobs: &mut Jobs) -> Outcome {
+    if !has_added(alloc, jobs) {
         return Outcome::NotBegun;
     }
     let is_made = jobs.reserve_one(alloc).is_ok();
@@ -92,9 +99,11 @@ fn add(jobs: &mut Jobs, body: Body) -> bool
     requires { 0 < jobs.old.room }
 {
     let Some(tube) = TubeName::new(b"default") else {
+        drop(body);
         return false;
     };
     if jobs.get(1).is_some() {
+        drop(body);
         return false;
     }
     jobs.add(Job {
@@ -113,7 +122,10 @@ fn add(jobs: &mut Jobs, body: Body) -> bool
 
 fn core(alloc: Global) -> Outcome {
     match Core::new(alloc, config(2, USUAL_BODY)) {
-        Ok(_) => Outcome::Made,
+        Ok(core) => {
+            drop(core);
+            Outcome::Made
+        }
         Err(CoreFault::NoMemory) => Outcome::Refused,
         Err(_) => Outcome::Wrong,
     }
@@ -122,18 +134,27 @@ fn core(alloc: Global) -> Outcome {
 // The state under the lock, with a journal.
 fn lock(alloc: Global) -> Outcome {
     match Locked::new(alloc, config(2, USUAL_BODY), 10) {
-        Ok(_) => Outcome::Made,
+        Ok(locked) => {
+            drop(locked);
+            Outcome::Made
+        }
         Err(RunFault::NoMemory) => Outcome::Refused,
         Err(_) => Outcome::Wrong,
     }
 }
 
 fn outs(alloc: Global) -> Outcome {
-    made_or_refused(Outs::new(alloc, 2).is_ok())
+    let outs = Outs::new(alloc, 2);
+    let is_made = outs.is_ok();
+    drop(outs);
+    made_or_refused(is_made)
 }
 
 fn links_of_two(alloc: Global) -> Outcome {
-    made_or_refused(links::<Anything>(alloc, 2).is_ok())
+    let links = links::<Anything>(alloc, 2);
+    let is_made = links.is_ok();
+    drop(links);
+    made_or_refused(is_made)
 }
 
 fn reader(alloc: Global) -> Outcome {

@@ -20,6 +20,7 @@ static ONE: &str = "put 0 0 1 1~a~reserve-with-timeout 0~quit~ > INSERTED 1~RESE
 pub fn ran<R: Threads + Wait + Sync>(rt: &R, alloc: Global, is_locked: bool) -> Outcome {
     let table = Table::of_text(alloc, ONE);
     let Some(mut case) = Case::new(&table, 0) else {
+        drop(table);
         return Outcome::Refused;
     };
     case.journal = 100;
@@ -29,6 +30,7 @@ pub fn ran<R: Threads + Wait + Sync>(rt: &R, alloc: Global, is_locked: bool) -> 
     } else {
         by_threads(rt, alloc, &case)
     };
+    drop(table);
     match came {
         Came::AsWanted => Outcome::Made,
         Came::Otherwise => Outcome::LeftOut,

@@ -46,7 +46,9 @@ const SEATS: u16 = 3;
 fn tells_answers(rt: &HostRuntime, bench: &mut Bench) -> bool {
     for _ in 0..3 {
         if let Some((seat, answer)) = bench.answer() {
-            if !tells_answer(rt, seat, &answer) {
+            let is_told = tells_answer(rt, seat, &answer);
+            drop(answer);
+            if !is_told {
                 return false;
             }
         }
@@ -85,7 +87,8 @@ fn tells_answer(rt: &HostRuntime, seat: Seat, answer: &Answer) -> bool {
         && rt.write_all(answer_tail(answer)).is_ok()
 }
 
-// Prints the words of a step. Of a put that is one word.
+// Prints the words of a step. Of a put that is one word. It is one write, since tests/memory_faults
+// counts the allocations before each write that begins so.
 fn tells_words(rt: &HostRuntime, words: &str) -> bool {
     let words = if words.starts_with("put ") {
         "put"
@@ -113,7 +116,10 @@ fn tells_rows(rt: &HostRuntime, bench: &mut Bench, rows: Rows) -> bool {
 fn tells_steps(rt: &HostRuntime, alloc: Global, rows: Rows) -> bool {
     match Bench::new(alloc, config(SEATS, USUAL_BODY)) {
         Some(mut bench) => {
-            rt.write_all(b"steps: begun\n").is_ok() && tells_rows(rt, &mut bench, rows)
+            let is_told = rt.write_all(b"steps: begun\n").is_ok()
+                && tells_rows(rt, &mut bench, rows);
+            bench.end();
+            is_told
         }
         None => rt.write_all(b"steps: not begun\n").is_ok(),
     }

@@ -11,8 +11,11 @@ mod guest_control;
 mod guest_door;
 
 use awaited::Meeting;
+use bq_core::Core;
 use bq_job::{NoMemory, USUAL_BODY};
 use bq_line::Door;
+use bq_line::clock::ScriptClock;
+use bq_run::Run;
 use bq_scenes::clients::clock;
 use bq_scenes::settings::config;
 use bq_serve::run_sessions;
@@ -43,6 +46,7 @@ fn doors<'m>(
         let guest = Guest::new(alloc, meeting, u64::from(others));
         let door = GuestDoor::new(place, guest);
         let Ok(()) = doors.push(door) else {
+            drop(doors);
             return Err(NoMemory);
         };
     }
@@ -59,6 +63,29 @@ fn are_served(doors: Vec<GuestDoor<'_>, Global>, chosen: u16) -> bool {
     are_right
 }
 
+// Returns true if each client of a run was served.
+fn is_left_so(
+    run: Run<GuestDoor<'_>, ScriptClock, BufReader<GuestControl<'_>>, Core>,
+    chosen: u16,
+) -> bool {
+    let Run {
+        doors,
+        clock,
+        control,
+        core,
+        intake,
+        core_end,
+        ends,
+    } = run;
+    drop(clock);
+    drop(control);
+    drop(core);
+    drop(intake);
+    drop(core_end);
+    drop(ends);
+    are_served(doors, chosen)
+}
+
 // Makes a run in which the chosen client waits until the others have their answers. Returns true if
 // the clients met, and each was served.
 fn do_all_meet<R: Threads + Wait + Sync>(rt: &R, alloc: Global, chosen: u16) -> bool {
@@ -67,14 +94,17 @@ fn do_all_meet<R: Threads + Wait + Sync>(rt: &R, alloc: Global, chosen: u16) -> 
         return false;
     };
     let Ok(clock) = clock(alloc, "0") else {
+        drop(control);
         return false;
     };
     let Ok(doors) = doors(alloc, &meeting, chosen) else {
+        drop(control);
+        drop(clock);
         return false;
     };
     let config = config(GUESTS, USUAL_BODY);
     match run_sessions(rt, alloc, config, doors, clock, control) {
-        Ok(run) => are_served(run.doors, chosen) && !meeting.has_failed.load(Ordering::SeqCst),
+        Ok(run) => is_left_so(run, chosen) && !meeting.has_failed.load(Ordering::SeqCst),
         Err(_) => false,
     }
 }

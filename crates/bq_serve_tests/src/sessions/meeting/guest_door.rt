@@ -43,14 +43,20 @@ impl<'m> GuestDoor<'m> {
     pub fn is_served(self, is_last: bool) -> bool {
         let GuestDoor {
             seat: _,
-            coming: _,
+            coming,
             over,
             is_out: _,
             is_at_end: _,
         } = self;
+        drop(coming);
         match over {
-            Some((line, LineEnd::EndOfInput)) => line.into_stream().is_answered(is_last),
-            _ => false,
+            Some((line, end)) => {
+                let guest = line.into_stream();
+                let is_answered = guest.is_answered(is_last);
+                drop(guest);
+                is_answered && end == LineEnd::EndOfInput
+            }
+            None => false,
         }
     }
 }
