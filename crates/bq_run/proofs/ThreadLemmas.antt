@@ -1,7 +1,8 @@
 -- The threads of a run: their posts, their starts and what they returned.
 use Rattle.std.proofs.Common.{◌≡◌, ◌==◌, ◌&&◌, ℕ, zero, suc, ◌<◌, true, false, not, Ok, Err, List, []}
-use Rattle.std.proofs.Common.{◌∷◌, ◌++◌, Some, map, length, refl, sym, ap, ◌∙◌, arith, append_assoc, slice_get, slice_index_or}
-use Rattle.std.specs.Prelude.{◌↔◌, IsErrOf, IsTrue, Result}
+use Rattle.std.proofs.Common.{◌∷◌, ◌++◌, ◌∙◌, Some, map, length, refl, subst, sym, ap, arith, append-nil, append_assoc}
+use Rattle.std.proofs.Common.{slice_get, slice_index_or}
+use Rattle.std.specs.Prelude.{◌↔◌, IsErrOf, IsTrue, Result, reverse}
 use Rattle.std.proofs.lemmas.Bool.{eq-eqb}
 use Rattle.bq_job.specs.declared.settings.Settings.{Settings}
 use Rattle.bq_core_api.specs.Limits.{are_in_range}
@@ -30,6 +31,33 @@ served_more at size _ _ _ first last door h same served = absurd h
 pub joined_first : {X Y : Type 0} (f : X → Y) (firsts : List Y) (xs rest : List X) (x : X) → xs ≡ x ∷ rest
     → (firsts ++ f x ∷ []) ++ map f rest ≡ firsts ++ map f xs
 joined_first {X} f firsts xs rest x e = append_assoc firsts (f x ∷ []) (map f rest) ∙ ap (λ (zs : List X). firsts ++ map f zs) (sym e)
+
+some_left : {X : Type 0} (x : X) (rest : List X) → length (x ∷ rest) ≡ 0 → ⊥
+some_left x rest e = absurd (omega (arith, e))
+
+pub none_left : {X : Type 0} (xs : List X) → length xs ≡ 0 → xs ≡ []
+none_left [] e = refl
+none_left (x ∷ xs) e = absurd (some_left x xs e)
+
+-- All threads were joined.
+pub all_joined : {D X : Type 0} (at : D → DoorSeen) (size : ℕ) (f : X → SeatState) (all rest : List X) (lasts : List SeatState)
+    (doors : List D) → length rest ≡ 0
+    → ((firsts : List SeatState) × (firsts ++ map f rest ≡ map f all) × AreServed at size firsts lasts doors)
+    → AreServed at size (map f all) lasts doors
+all_joined at size f all [] lasts doors none (firsts, e, h) =
+    subst (λ (l : List SeatState). AreServed at size l lasts doors) (sym (append-nil firsts) ∙ e) h
+all_joined at size f all (x ∷ rest) lasts doors none h = absurd (some_left x rest none)
+
+-- All of a list were taken from its end on, and put before the others in another list.
+pub all_put : {X Y : Type 0} (f : X → Y) (rest whole : List Y) (xs : List X) → length rest ≡ 0
+    → rest ++ reverse (map f xs) ≡ whole → reverse (map f xs) ≡ whole
+all_put f [] whole xs none e = e
+all_put f (y ∷ rest) whole xs none e = absurd (some_left y rest none)
+
+pub all_handed : {X Y : Type 0} (f : X → Y) (given whole : List Y) (rest : List X) → length rest ≡ 0
+    → given ++ reverse (map f rest) ≡ whole → given ≡ whole
+all_handed f given whole [] none e = sym (append-nil given) ∙ e
+all_handed f given whole (x ∷ rest) none e = absurd (some_left x rest none)
 
 -- as many ends were returned as threads were started
 pub lasts_many : {D : Type 0} (at : D → DoorSeen) (size : ℕ) (firsts lasts : List SeatState) (doors : List D)

@@ -67,7 +67,8 @@ impl<'a, C: Clock + Drop, K: QueueCore + Drop> CorePost<'a, C, K> {
     /// clock. Returns `None` if a thread was not started.
     pub fn serve<R: Threads + Wait>(self, rt: &R, start: &Start) -> Option<(CoreEnd, K, C)>
         ensures { IfSome result
-            (λ r. IsCoreOver C.given self.entry.new_core.config self.entry.end self.entry.clock r.0 (K.machine r.1) (K.comparisons r.1) r.2) }
+            (λ r. IsCoreOver C.given self.entry.new_core.config self.entry.end self.entry.clock r.0 (K.machine r.1)
+            (K.comparisons r.1) r.2) }
     {
         let CorePost {
             alloc,

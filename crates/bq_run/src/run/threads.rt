@@ -136,10 +136,24 @@ fn serve_all<
     let Some(thread) = start_core(scope, rt, core, start) else {
         return Err(RunFault::ThreadRefused);
     };
-    let ends = match serve_ends(scope, rt, ends, rooms, start, control) {
-        Ok(ends) => ends,
-        Err(fault) => return Err(fault),
-    };
+    match serve_ends(scope, rt, ends, rooms, start, control) {
+        Ok(ends) => join_core(rt, thread, ends),
+        Err(fault) => Err(fault),
+    }
+}
+
+// Waits for the core's thread, after those of the ends.
+fn join_core<R: Threads, D: Drop, C: Clock + Drop, I: Drop, K: QueueCore + Drop>(
+    rt: &R,
+    thread: CoreThread<C, K>,
+    ends: EndedEnds<D, I>,
+) -> Result<Ended<D, C, I, K>, RunFault>
+    ensures fault { IsErrOf result RunFault.BadConfiguration → ⊥ }
+    ensures ends { IfOk result (λ r. r.ends ≡ ends) }
+    ensures core { let began = thread.promise in
+        IfOk result (λ r. IsCoreOver C.given began.settings began.end.value began.clock.value r.core_end (K.machine r.core)
+        (K.comparisons r.core) r.clock) }
+{
     let Some((core_end, core, clock)) = thread.join(rt) else {
         return Err(RunFault::ThreadRefused);
     };

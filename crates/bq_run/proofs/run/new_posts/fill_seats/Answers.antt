@@ -1,7 +1,8 @@
-use Rattle.std.proofs.Common.{◌≡◌, ◌-◌, ◌∙◌, vec_len, arith}
+use Rattle.std.proofs.Common.{◌≡◌, ◌-◌, ◌∙◌, vec_len, arith, sym}
 use Rattle.bq_line.specs.Tending.{IsNewDoor, door_seen}
 use Rattle.bq_thread_work.specs.Ends.{IsNewEnd}
 use Rattle.bq_host.proofs.ListLemmas.{all_pushed, all_taken, popped_passes, put_behind}
+use Rattle.bq_run.proofs.ThreadLemmas.{all_put}
 use Rattle.bq_run.proofs.run.new_posts.fill_seats.Goals as goal
 
 pub loop-door-preserved : goal.loop-door-preserved
@@ -37,3 +38,14 @@ pub new-requires-clause-new : goal.new-requires-clause-new
 new-requires-clause-new g c =
     let at = door_seen g.D.Door.is_out g.D.Door.is_at_end g.D.Door.lines_over in
     popped_passes c.loop-door.doors.items _ c.in-Some.door (λ d. IsNewDoor (at d)) c.in-Some.ensures.items c.loop-door.invariant.new
+
+pub returns-clause-limits : goal.returns-clause-limits
+returns-clause-limits g c = c.loop-door.invariant.limits
+
+pub returns-clause-ends : goal.returns-clause-ends
+returns-clause-ends g c = all_put (λ p. p.end) c.loop-door.ends.items _ c.loop-door.posts.items
+    (sym c.loop-door.ends.ok.0 ∙ c.loop-door.invariant.many ∙ c.in_default.ensures.cases.0) c.loop-door.invariant.whole
+
+pub returns-clause-doors : goal.returns-clause-doors
+returns-clause-doors g c = all_put (λ p. p.door) c.loop-door.doors.items _ c.loop-door.posts.items
+    (sym c.loop-door.doors.ok.0 ∙ c.in_default.ensures.cases.0) c.loop-door.invariant.doors

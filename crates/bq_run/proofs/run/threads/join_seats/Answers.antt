@@ -1,8 +1,8 @@
-use Rattle.std.proofs.Common.{◌≡◌, ◌++◌, ◌∙◌, ◌∷◌, [], ap, arith, length}
+use Rattle.std.proofs.Common.{◌≡◌, ◌++◌, ◌∙◌, ◌∷◌, [], ap, arith, length, sym}
 use Rattle.bq_line.specs.Tending.{door_seen}
 use Rattle.bq_host.proofs.ListLemmas.{first_passes, rest_passes}
-use Rattle.bq_line.proofs.BackLemmas.{one_back}
-use Rattle.bq_run.proofs.ThreadLemmas.{joined_first, served_more}
+use Rattle.bq_line.proofs.BackLemmas.{all_back, one_back}
+use Rattle.bq_run.proofs.ThreadLemmas.{all_joined, joined_first, none_left, served_more}
 use Rattle.bq_run.proofs.run.threads.join_seats.Goals as goal
 
 pub loop-thread-preserved : goal.loop-thread-preserved
@@ -36,3 +36,19 @@ loop-thread-preserved g c =
           c.in-Some.thread c.loop-thread.doors.items _ door step.0 c.push_reserved-in-loop-thread.ensures.items same
           c.loop-thread.invariant.back;
     }
+
+pub returns-clause-room : goal.returns-clause-room
+returns-clause-room g c = let h = c.loop-thread.invariant.for_ends in omega arith
+
+pub returns-clause-served : goal.returns-clause-served
+returns-clause-served g c =
+    let rest = c.loop-thread.thread-iterator.rest in
+    all_joined (door_seen g.D.Door.is_out g.D.Door.is_at_end g.D.Door.lines_over) c.args.max_job_size (λ t. t.promise.end.value)
+    c.args.threads.items rest.items c.loop-thread.ends.items c.loop-thread.doors.items (sym rest.ok.0 ∙ c.in-None.ensures.steps.0)
+    c.loop-thread.invariant.served
+
+pub returns-clause-same : goal.returns-clause-same
+returns-clause-same g c =
+    let rest = c.loop-thread.thread-iterator.rest in
+    all_back g.D.Door.same (λ t. t.promise.door.value) c.args.threads.items rest.items c.loop-thread.doors.items
+    (none_left rest.items (sym rest.ok.0 ∙ c.in-None.ensures.steps.0)) c.loop-thread.invariant.back

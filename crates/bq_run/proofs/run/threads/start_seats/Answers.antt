@@ -1,5 +1,6 @@
-use Rattle.std.proofs.Common.{◌≡◌, ◌-◌, ◌∙◌, arith, vec_len}
+use Rattle.std.proofs.Common.{◌≡◌, ◌-◌, ◌∙◌, arith, sym, vec_len}
 use Rattle.bq_host.proofs.ListLemmas.{all_pushed, all_taken, handed_on, popped_passes}
+use Rattle.bq_run.proofs.ThreadLemmas.{all_handed}
 use Rattle.bq_run.proofs.run.threads.start_seats.Goals as goal
 
 pub loop-post-preserved : goal.loop-post-preserved
@@ -24,3 +25,17 @@ loop-post-preserved g c =
           started.thread c.in-Some.ensures.items c.push_reserved.ensures.items
           started.ensures.door ∙ c.loop-post.invariant.doors;
     }
+
+pub returns-clause-ends : goal.returns-clause-ends
+returns-clause-ends g c = λ _. all_handed (λ p. p.end) _ _ c.loop-post.posts.items
+    (sym c.loop-post.posts.ok.0 ∙ c.in_default.ensures.cases.0) c.loop-post.invariant.whole
+
+pub returns-clause-doors : goal.returns-clause-doors
+returns-clause-doors g c = λ _. all_handed (λ p. p.door) _ _ c.loop-post.posts.items
+    (sym c.loop-post.posts.ok.0 ∙ c.in_default.ensures.cases.0) c.loop-post.invariant.doors
+
+pub returns-clause-limits : goal.returns-clause-limits
+returns-clause-limits g c = λ _. c.loop-post.invariant.promised
+
+pub returns-clause-count : goal.returns-clause-count
+returns-clause-count g c = λ _. let h = c.loop-post.invariant.count in let e = c.in_default.ensures.cases.0 in omega arith
