@@ -66,7 +66,7 @@ impl From<AllocError> for OptionFault {
 pub fn bq_options<'a, S: AsStr>(alloc: Global, words: &'a [S]) -> Result<BqOptions, OptionFault>
     ensures { IfOk result (λ o. IsForBq o) }
 {
-    let matches = matches_of(alloc, bq_command(alloc)?, words)?;
+    let matches = matches_of(alloc, bq_command(alloc), words)?;
     Ok(bq_chosen(&matches))
 }
 
@@ -74,17 +74,17 @@ pub fn bq_options<'a, S: AsStr>(alloc: Global, words: &'a [S]) -> Result<BqOptio
 pub fn bqd_options<'a, S: AsStr>(alloc: Global, words: &'a [S]) -> Result<BqdOptions, OptionFault>
     ensures { IfOk result (λ o. IsForBqd o) }
 {
-    let matches = matches_of(alloc, bqd_command(alloc)?, words)?;
+    let matches = matches_of(alloc, bqd_command(alloc), words)?;
     bqd_chosen(alloc, &matches)
 }
 
-// Parses the words by a command.
+// Parses the words by a command, if there was memory for that.
 fn matches_of<'a, S: AsStr>(
     alloc: Global,
-    command: Command<'a>,
+    command: Result<Command<'a>, AllocError>,
     words: &'a [S],
 ) -> Result<ArgMatches<'a>, OptionFault> {
-    match command.try_get_matches_from(words) {
+    match command?.try_get_matches_from(words) {
         Ok(matches) => Ok(matches),
         Err(e) => Err(fault_of(alloc, &e)),
     }
