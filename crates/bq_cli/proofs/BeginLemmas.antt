@@ -1,6 +1,6 @@
 -- How a server begins: a new control line over an input has the bytes that the input has left.
-use Rattle.std.proofs.Common.{◌≡◌, ◌∙◌, ◌≤◌, ℕ, ◌==◌, Bool, List, [], Option, None, Some, IfOk, IfSome, Result, Ok, Err, ap, refl, subst, sym}
-use Rattle.std.proofs.Common.{if◌then◌else◌}
+use Rattle.std.proofs.Common.{◌≡◌, ◌∙◌, ◌≤◌, ℕ, ◌==◌, Bool, List, [], Option, None, Some, IfOk, IfSome, Result, Ok, Err, ap, refl}
+use Rattle.std.proofs.Common.{if◌then◌else◌, subst, sym}
 use Rattle.std.proofs.KnownBytes.{prepend_known-nil}
 use Rattle.std.specs.Io.Buffered.{reader_buffer, reader_capacity, reader_inner, reader_remaining}
 use Rattle.std.specs.Io.KnownBytes.{prepend_known}
@@ -35,15 +35,16 @@ pub status_from : {R I K : Type 0} {left : I → Option (List ℕ)} {may_fail : 
     (came : Result (Option ℕ) Fault) → chosen ≡ same → left control ≡ input
     → IfOk came (λ o. IfSome o (λ s. IsStatusOfServer R left may_fail machine comparisons chosen listener control s × (s ≤ 1)))
     → IsStatusFrom came status → IsStatusOfListening R left may_fail machine comparisons same input status
-status_from {R} {I} {K} {left} {may_fail} {machine} {comparisons} {chosen} {same} {input} {status} listener control (Ok (Some s)) e l h is = (
-  Some (listener, control),
-  (
-    l,
-    subst (λ n. IsStatusOfServer R left may_fail machine comparisons same listener control n) (sym is) (status_by e h.0),
-  ),
-)
-status_from {R} {I} {K} {left} {may_fail} {machine} {comparisons} {chosen} {same} {input} {status} listener control (Ok None) e l h is = (None, is)
-status_from {R} {I} {K} {left} {may_fail} {machine} {comparisons} {chosen} {same} {input} {status} listener control (Err fault) e l h is = (None, is)
+status_from {R} {I} {K} {left} {may_fail} {machine} {comparisons} {chosen} {same} {input} {status} listener control (Ok (Some s))
+    e l h is = (
+      Some (listener, control),
+      (
+        l,
+        subst (λ n. IsStatusOfServer R left may_fail machine comparisons same listener control n) (sym is) (status_by e h.0),
+      ),
+    )
+status_from listener control (Ok None) e l h is = (None, is)
+status_from listener control (Err fault) e l h is = (None, is)
 
 -- The program cannot listen, whichever engine was chosen.
 pub cannot_begin : {R I K : Type 0} {left : I → Option (List ℕ)} {may_fail : I → Bool} {machine : K → Machine} {comparisons : K → ℕ}

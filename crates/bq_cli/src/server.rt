@@ -216,8 +216,15 @@ fn serve_by_loop<R: Net + Clock + Print + Eprint, I: ControlReader + Drop>(
     }
     let tell = DoorsTell::new(rt, options, ending);
     let came = run_loop(rt, alloc, options, listener, &tell, control, source);
-    status_of_loop(rt, ending, &came)
+    let status = status_of_loop(rt, ending, &came);
+    drop_loop(came);
+    status
 }
+
+// Drops what came of an event loop. It is generic because a drop at the types of a server takes ten times as long to prove.
+fn drop_loop<L: Drop, D: Drop, C: Drop, I: Drop, K: Drop>(
+    _came: Result<EventLoopRun<L, D, C, I, K>, Fault>,
+) {}
 
 fn serve_by_threads<R: Threads + Wait + Clock + Print + Eprint + Sync, I: ControlReader + Drop>(
     rt: &R,
@@ -233,15 +240,20 @@ fn serve_by_threads<R: Threads + Wait + Clock + Print + Eprint + Sync, I: Contro
 {
     let tell = DoorsTell::new(rt, options, ending);
     let came = run_by_threads(rt, alloc, options, listener, &tell, control);
-    status_of_threads(rt, ending, &came)
+    let status = status_of_threads(rt, ending, &came);
+    drop_run(came);
+    status
 }
+
+// Does the same for a run by threads.
+fn drop_run<D: Drop, C: Drop, I: Drop, K: Drop>(_came: Result<Run<D, C, I, K>, Fault>) {}
 
 /// Reports how this run of a server by an event loop ended, unless another thread has done so.
 /// Returns the status of the program.
-pub fn status_of_loop<'l, R: Clock + Eprint, C: Drop, I: Drop>(
+pub fn status_of_loop<'l, R: Clock + Eprint, C, I, K>(
     rt: &R,
     ending: &Ending,
-    came: &Result<EventLoopRun<TcpLine, TcpDoor<'l, R>, C, I, Core>, Fault>,
+    came: &Result<EventLoopRun<TcpLine, TcpDoor<'l, R>, C, I, K>, Fault>,
 ) -> u8
     ensures { result ≡ status_of_server (came_of_loop (λ door. door.met_fault) came.now) }
 {
@@ -249,10 +261,10 @@ pub fn status_of_loop<'l, R: Clock + Eprint, C: Drop, I: Drop>(
 }
 
 /// Does the same for a run by threads.
-pub fn status_of_threads<'l, R: Clock + Eprint, C: Drop, I: Drop>(
+pub fn status_of_threads<'l, R: Clock + Eprint, C, I, K>(
     rt: &R,
     ending: &Ending,
-    came: &Result<Run<TcpDoor<'l, R>, C, I, Core>, Fault>,
+    came: &Result<Run<TcpDoor<'l, R>, C, I, K>, Fault>,
 ) -> u8
     ensures { result ≡ status_of_server (came_of_run (λ door. door.met_fault) came.now) }
 {
@@ -434,8 +446,8 @@ fn config_of(options: &Options) -> Config
 }
 
 // Returns the fault of a server, or that some connection could not be accepted.
-fn came_of<'l, R: Clock + Eprint, C: Drop, I: Drop>(
-    came: &Result<Run<TcpDoor<'l, R>, C, I, Core>, Fault>,
+fn came_of<'l, R: Clock + Eprint, C, I, K>(
+    came: &Result<Run<TcpDoor<'l, R>, C, I, K>, Fault>,
 ) -> Result<(), Fault>
     ensures { result ≡ came_of_run (λ door. door.met_fault) came.now }
 {
@@ -446,8 +458,8 @@ fn came_of<'l, R: Clock + Eprint, C: Drop, I: Drop>(
 }
 
 // Returns the same for an event loop. If it was broken off, that is a fault too.
-fn came_of_loop<'l, R: Clock + Eprint, C: Drop, I: Drop>(
-    came: &Result<EventLoopRun<TcpLine, TcpDoor<'l, R>, C, I, Core>, Fault>,
+fn came_of_loop<'l, R: Clock + Eprint, C, I, K>(
+    came: &Result<EventLoopRun<TcpLine, TcpDoor<'l, R>, C, I, K>, Fault>,
 ) -> Result<(), Fault>
     ensures { result ≡ came_of_loop (λ door. door.met_fault) came.now }
 {
