@@ -256,17 +256,17 @@ impl<L: Line + Drop> Attendant<L> {
         match door.look(may_have_come, watcher) {
             Ok(Opening::Line(line)) => {
                 let action = self.machine.on(alloc, Event::Opened);
-                self.place = LinePlace::On(line, action, 0);
+                put_place(&mut self.place, LinePlace::On(line, action, 0));
                 Looked::Opened
             }
             Ok(Opening::NotYet) => Looked::NotYet,
             Ok(Opening::Later) => Looked::Later,
             Ok(Opening::NoMore) => {
-                self.place = LinePlace::Leaving;
+                put_place(&mut self.place, LinePlace::Leaving);
                 Looked::NoMore
             }
             Err(_) => {
-                self.place = LinePlace::Leaving;
+                put_place(&mut self.place, LinePlace::Leaving);
                 Looked::NoMore
             }
         }
@@ -338,6 +338,13 @@ fn open_in_place<L: Line + Drop, D: Door<Line = L>>(
     *place = open_line(alloc, machine, door);
 }
 
+// Replaces the place of a seat. It is a call, so that what drops the last one is proved once.
+fn put_place<L: Line + Drop>(place: &mut LinePlace<L>, next: LinePlace<L>)
+    ensures { place.new ≡ next }
+{
+    drop(mem::replace(place, next));
+}
+
 // Opens the next connection, or learns that no more come.
 fn open_line<L: Line + Drop, D: Door<Line = L>>(
     alloc: Global,
@@ -374,7 +381,8 @@ fn shut_line<L: Line + Drop, D: Door<Line = L>>(
     ensures sure { StaysSure L.lies_over D.lines_over D.may_fail place.old door.old place.new door.new }
     ensures same { (first : D) → D.same first door.old → D.same first door.new }
 {
-    if let LinePlace::On(line, _, _) = mem::replace(place, LinePlace::Between) {
+    if let LinePlace::On(line, action, _) = mem::replace(place, LinePlace::Between) {
+        drop(action);
         door.shut(line, end);
     }
 }
@@ -391,7 +399,7 @@ fn leave<L: Line + Drop, K: Link>(place: &mut LinePlace<L>, link: &mut K) -> Pro
         → GoesOn K.went link.old link.new L.seen (attendant machine place.old) door (attendant machine place.new) door }
 {
     if link.submit(&mut Step::Gone) {
-        *place = LinePlace::Done;
+        put_place(place, LinePlace::Done);
         Progress::Moved
     } else {
         Progress::NotAccepted

@@ -18,12 +18,13 @@ returns-in-Ok-Line-clause-went g c =
     let opened = subst (λ (o : Opening g.row.L.Denot).
     IsLookedFor {E = DoorFault} g.L.Line.seen (g.D.Door.is_out next) (g.D.Door.is_at_end next) (Ok o)) c.in-Ok-Line.field-0-is
     c.in-Ok-Line.ensures.opened in
-    tends_from g.L.Line.seen m c.args.self.now.place places.Between (at c.args.door.now) (at next) _ c.requires.between
+    rw c.put_place.ensures (tends_from g.L.Line.seen m c.args.self.now.place places.Between (at c.args.door.now) (at next) _
+    c.requires.between
     (tends_opened g.L.Line.seen m c.on-action.new.self line c.on-action.result _ _ c.on-action.ensures c.in-Ok-Line.ensures.over
-    opened.0 opened.1 opened.2)
+    opened.0 opened.1 opened.2))
 
 pub returns-in-Ok-Line-clause-sure : goal.returns-in-Ok-Line-clause-sure
 returns-in-Ok-Line-clause-sure g c = λ never sure.
     let opened = subst (λ (o : Opening g.row.L.Denot). IfLine {E = DoorFault} (Ok o) (IsSureLine g.L.Line.lies_over))
     c.in-Ok-Line.field-0-is (c.in-Ok-Line.ensures.sure never) in
-    sure_opened g.L.Line.lies_over _ c.in-Ok-Line.line _ _ _ c.in-Ok-Line.ensures.over opened sure
+    rw c.put_place.ensures (sure_opened g.L.Line.lies_over _ c.in-Ok-Line.line _ _ _ c.in-Ok-Line.ensures.over opened sure)
