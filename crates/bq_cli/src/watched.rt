@@ -26,13 +26,19 @@ use std::sync::{Arc, Wait};
 use std::thread;
 use std::thread::{Promise, PromisedHandle, Threads};
 
-/// Binds the address and serves until the server has ended. The input is the control line. Returns the status of the
-/// program.
-///
-/// An event loop runs on the calling thread, and there is no other one. Otherwise one thread serves, and one writes what is
-/// reported, and the calling thread waits for the end. So neither a control line that stays open nor a standard error that
-/// blocks can hold it up.
-pub(crate) fn listen_and_serve<
+/// What a server needs of the system, and what lets its threads have copies of it.
+pub(crate) trait System: Net<Listener = TcpListener, Stream = TcpStream>
+    + Threads
+    + Wait
+    + Clock
+    + Print
+    + Eprint
+    + Copy
+    + Send
+    + Sync
+    + 'static {}
+
+impl<
     R: Net<Listener = TcpListener, Stream = TcpStream>
         + Threads
         + Wait
@@ -43,8 +49,21 @@ pub(crate) fn listen_and_serve<
         + Send
         + Sync
         + 'static,
-    I: Read + Drop + Send + 'static,
->(rt: &R, alloc: Global, form: LogForm, options: BqdOptions, input: I) -> u8
+> System for R {}
+
+/// Binds the address and serves until the server has ended. The input is the control line. Returns the status of the
+/// program.
+///
+/// An event loop runs on the calling thread, and there is no other one. Otherwise one thread serves, and one writes what is
+/// reported, and the calling thread waits for the end. So neither a control line that stays open nor a standard error that
+/// blocks can hold it up.
+pub(crate) fn listen_and_serve<R: System, I: Read + Drop + Send + 'static>(
+    rt: &R,
+    alloc: Global,
+    form: LogForm,
+    options: BqdOptions,
+    input: I,
+) -> u8
     ensures status { IsStatusOfListening (Logging R) ⟦<BufReader<I> as Read>⟧.remaining ⟦<BufReader<I> as ControlReader>⟧.may_fail
         ⟦<Core as QueueCore>⟧.machine ⟦<Core as QueueCore>⟧.comparisons (of_bqd options) (I.remaining input) result }
     ensures at_most { result ≤ 1 }
@@ -85,19 +104,7 @@ fn tell_no_listener<R: Eprint>(rt: &R, form: LogForm, address: &str, why: &NoLis
 
 // Serves by the engine that the options choose. Returns the status, or None if the last door failed and that was
 // reported.
-fn serve_begun<
-    R: Net<Listener = TcpListener, Stream = TcpStream>
-        + Threads
-        + Wait
-        + Clock
-        + Print
-        + Eprint
-        + Copy
-        + Send
-        + Sync
-        + 'static,
-    I: ControlReader + Drop + Send + 'static,
->(
+fn serve_begun<R: System, I: ControlReader + Drop + Send + 'static>(
     rt: &R,
     alloc: Global,
     form: LogForm,
@@ -118,19 +125,7 @@ fn serve_begun<
 }
 
 // Serves in a thread of its own. Returns its status, or None if its last door failed and that was reported.
-fn serve_watched<
-    R: Net<Listener = TcpListener, Stream = TcpStream>
-        + Threads
-        + Wait
-        + Clock
-        + Print
-        + Eprint
-        + Copy
-        + Send
-        + Sync
-        + 'static,
-    I: ControlReader + Drop + Send + 'static,
->(
+fn serve_watched<R: System, I: ControlReader + Drop + Send + 'static>(
     rt: &R,
     alloc: Global,
     form: LogForm,
@@ -168,19 +163,7 @@ fn serve_watched<
 }
 
 // Serves on the calling thread, by an event loop. It ends by itself when its last door fails. Returns the status.
-fn serve_here<
-    R: Net<Listener = TcpListener, Stream = TcpStream>
-        + Threads
-        + Wait
-        + Clock
-        + Print
-        + Eprint
-        + Copy
-        + Send
-        + Sync
-        + 'static,
-    I: ControlReader + Drop,
->(
+fn serve_here<R: System, I: ControlReader + Drop>(
     rt: &R,
     alloc: Global,
     form: LogForm,
@@ -216,19 +199,10 @@ fn start_log<R: Threads + Wait + Eprint + Copy + Send + 'static>(
     thread::spawn(&rt, move || shared.log.write(&rt)).is_ok()
 }
 
-fn start_server<
-    R: Net<Listener = TcpListener, Stream = TcpStream>
-        + Threads
-        + Wait
-        + Clock
-        + Print
-        + Eprint
-        + Copy
-        + Send
-        + Sync
-        + 'static,
-    I: ControlReader + Drop + Send + 'static,
->(rt: &R, server: Server<R, I>) -> Option<PromisedHandle<u8, ServerPromise<R, I>>>
+fn start_server<R: System, I: ControlReader + Drop + Send + 'static>(
+    rt: &R,
+    server: Server<R, I>,
+) -> Option<PromisedHandle<u8, ServerPromise<R, I>>>
     ensures { IfSome result (λ t. (t.promise.options.value ≡ server.options)
         × (t.promise.listener.value ≡ server.listener) × (t.promise.control.value ≡ server.control)) }
 {
@@ -251,17 +225,7 @@ struct Server<R, I> {
     control: I,
 }
 
-impl<
-    R: Net<Listener = TcpListener, Stream = TcpStream>
-        + Threads
-        + Wait
-        + Clock
-        + Print
-        + Eprint
-        + Copy
-        + Sync,
-    I: ControlReader + Drop,
-> Server<R, I> {
+impl<R: System, I: ControlReader + Drop> Server<R, I> {
     // Serves until the server has ended. Returns the status.
     fn serve(self) -> u8
         ensures status { IsStatusOfServer (Logging R) I.remaining I.may_fail ⟦<Core as QueueCore>⟧.machine
