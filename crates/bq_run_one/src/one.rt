@@ -74,6 +74,7 @@ pub fn run_one<R: Wait, L: Line + Drop, C: Clock + Drop>(
     }
     let hub: Hub<C, Core> = Hub::new(alloc, config, clock)?;
     let Ok(machine) = SeatMachine::new(alloc, config.max_job_size) else {
+        drop(hub);
         return Err(RunFault::NoMemory);
     };
     the_headline();
@@ -105,6 +106,8 @@ fn serve_line<R: Wait, L: Line + Drop, C: Clock + Drop, K: QueueCore + Drop>(
     let mut sent = 0;
     for _ in rt.forever() {
         if let Action::LineOver(end) = action {
+            drop(action);
+            drop(machine);
             return One {
                 line,
                 end,
@@ -130,8 +133,8 @@ fn serve_line<R: Wait, L: Line + Drop, C: Clock + Drop, K: QueueCore + Drop>(
 fn into_clock<C: Clock + Drop, K: QueueCore + Drop>(hub: Hub<C, K>) -> C
     ensures { result ≡ hub.timed.time.clock }
 {
-    let timed = hub.timed;
-    timed.time.clock
+    let (clock, _core) = hub.into_parts();
+    clock
 }
 
 // Lets time pass if the next action checks the mail.
