@@ -189,9 +189,11 @@ fn serve_all<
     let SeatPosts { all, max_job_size } = posts;
     let seats = all.len();
     let Ok(mut threads) = Vec::with_capacity(alloc, seats) else {
+        drop(all);
         return Err(RunFault::NoMemory);
     };
     let Ok(doors) = Vec::with_capacity(alloc, seats) else {
+        drop(all);
         return Err(RunFault::NoMemory);
     };
     let all_started = start_threads(
@@ -218,6 +220,7 @@ fn serve_all<
         rests: false,
     };
     submit_control(rt, &mut ControlLine::new(control), &mut link);
+    drop(link);
     join_all(rt, threads, doors, max_job_size)
 }
 

@@ -80,6 +80,7 @@ impl<L: Line + Drop, D: Door<Line = L> + Drop> Post<D> {
             mut door,
         } = self;
         if !start.wait(rt) {
+            drop(machine);
             return None;
         }
         let mut attendant = Attendant {
@@ -97,6 +98,8 @@ impl<L: Line + Drop, D: Door<Line = L> + Drop> Post<D> {
         let mut buffers = Buffers::new();
         for _ in rt.forever() {
             if attendant.is_done() {
+                drop(attendant);
+                drop(link);
                 return Some(door);
             }
             let progress = attendant.go_on(alloc, &mut door, &mut link, &mut buffers);
