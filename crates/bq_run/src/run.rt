@@ -98,15 +98,20 @@ pub fn run_sessions<
     }
     let new_core = NewCore::<K>::new(alloc, config)?;
     let Ok((intake, core_end, ends)) = links::<NoTicks>(alloc, config.seats) else {
+        drop(new_core);
         return Err(RunFault::NoMemory);
     };
     let Ok(posts) = new_posts(alloc, &intake, new_core, core_end, ends, doors, clock) else {
+        drop(intake);
         return Err(RunFault::NoMemory);
     };
     let start = Start::new();
     let ended = match serve_in_scope(rt, alloc, posts, &start, control) {
         Ok(ended) => ended,
-        Err(fault) => return Err(fault),
+        Err(fault) => {
+            drop(intake);
+            return Err(fault);
+        }
     };
     steps_keep_settings();
     the_headline();

@@ -131,9 +131,12 @@ fn serve_all<
 {
     let Posts { ends, core } = posts;
     let Ok(rooms) = new_rooms(alloc, ends.seats.len()) else {
+        drop(ends);
+        drop(core);
         return Err(RunFault::NoMemory);
     };
     let Some(thread) = start_core(scope, rt, core, start) else {
+        drop(ends);
         return Err(RunFault::ThreadRefused);
     };
     match serve_ends(scope, rt, ends, rooms, start, control) {
