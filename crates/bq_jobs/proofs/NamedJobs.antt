@@ -229,7 +229,8 @@ told_moved k id f ignores rows = of (job_with id rows) ∙ ap (option_map (moved
     of : (o : Option Job) → option_map (λ r. r.1) (option_map (moved_told k) (option_map (row_moved_by f) o))
         ≡ option_map (moved_by f) (option_map (named k) o)
     of None = refl
-    of (Some j) = ap (λ i. Some (record { tube = (named k j).tube; from = standing j; to = standing i })) (sym (edited_named k id f ignores j))
+    of (Some j) = ap (λ i. Some (record { tube = (named k j).tube; from = standing j; to = standing i }))
+        (sym (edited_named k id f ignores j))
 
 -- and the tube of the job has the number that comes with it.
 has_number : (k : Numbering) → IsPaired k → (j : Job) → IsNumbered k j → HasNumber (named k j).tube j.tube k.numbers

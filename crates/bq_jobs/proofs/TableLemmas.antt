@@ -247,7 +247,8 @@ module _ {V : Type 0} where
           let new : slice_get (changed_at f n vs) p.1 ≡ Some (f v) =
           ap (slice_get (changed_at f n vs)) same ∙ changed_here f vs n ∙ ap (option_map f) its in
           let rest : entries_at ps (changed_at f n vs) ≡ entries_at ps vs =
-          agreeing vs (changed_at f n vs) ps (agree_by vs (changed_at f n vs) n (changed_other f vs n) ps (subst (λ i. Lack i ps) same apart.0)) in
+          agreeing vs (changed_at f n vs) ps (agree_by vs (changed_at f n vs) n (changed_other f vs n) ps (subst (λ i. Lack i ps)
+          same apart.0)) in
           ap (λ o. with_value p.0 o (entries_at ps (changed_at f n vs))) new
           ∙ ap (λ es. (p.0, f v) ∷ es) rest
           ∙ sym (ap (λ o. set_value test (with_value p.0 o (entries_at ps vs)) (f v)) here

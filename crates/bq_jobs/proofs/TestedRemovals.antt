@@ -63,7 +63,8 @@ module _ (k : Numbering) (id : ℕ) (rows : List Job) (p : Job → Bool) where
   pub number_removed_if : AreRegistered k rows
       → IfSome (option_map (removed_told k) (option_map row_removed (passing p (job_with id rows)))) (λ r. HasNumber r.1.tube r.0 k.numbers)
   number_removed_if h =
-      number_removed k h.paired (passing p (job_with id rows)) (passing_numbered k p (job_with id rows) (numbered_found k id rows h.numbered))
+      number_removed k h.paired (passing p (job_with id rows)) (passing_numbered k p (job_with id rows)
+      (numbered_found k id rows h.numbered))
 
 pub registered_if : (k : Numbering) (id : ℕ) (rows : List Job) (b : Bool) → AreRegistered k rows
     → AreRegistered k (if b then without id rows else rows)

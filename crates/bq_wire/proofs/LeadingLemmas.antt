@@ -18,7 +18,8 @@ use Rattle.bq_wire.proofs.WordLemmas.{one_word, word_before}
 -- one more digit was read
 pub digits_more : (line : List ℕ) (i : ℕ) → i < length line → list_all is_digit (take i line) ≡ true
     → is_digit (get_or line i 0) ≡ true → list_all is_digit (take (i + 1) line) ≡ true
-digits_more line i low before here = rw (take_more line i 0 low, list_all-append is_digit (take i line) (get_or line i 0 ∷ []), before) (grind (arith, here))
+digits_more line i low before here = rw (take_more line i 0 low, list_all-append is_digit (take i line) (get_or line i 0 ∷ []), before)
+    (grind (arith, here))
 
 pub value_more : (line : List ℕ) (i : ℕ) → i < length line
     → value_of_digits (take (i + 1) line) ≡ with_digit (value_of_digits (take i line)) (get_or line i 0)

@@ -75,5 +75,6 @@ feeds_put state put text piece body end q nothing at line within parts low made 
     let unit : IsUnit state.max_job_size (text ++ take (put.bytes + 2) piece) q = rw (split, line.read_is) (long, is) in
     let no_quit : is_quit q ≡ false =
     put_no_quit state.max_job_size (put_line_of put) (take (put.bytes + 2) piece) q is in
-    subst (λ place. HandsRequest (record { max_job_size = state.max_job_size; kept = state.kept; place = place }) text piece (put.bytes + 2) q)
+    subst (λ place. HandsRequest (record { max_job_size = state.max_job_size; kept = state.kept; place = place })
+    text piece (put.bytes + 2) q)
     (sym at) (hands_out state.max_job_size state.kept text piece (put.bytes + 2) q nothing unit no_quit)

@@ -127,7 +127,8 @@ returns-clause-so_far g c =
     let w = c.serve-is_over.ensures.served in
     let begun = beginning c.args.config c.args.doors.items c.args.parts.core.timed.time.clock (g.I.Read.remaining c.args.control)
     (g.I.ControlReader.may_fail c.args.control) in
-    rw (c.into_parts-clock.ensures.clock, c.into_parts-clock.ensures.core) (serving_so_far g.C.Clock.given g.L.Line.seen g.D.Door.is_out g.D.Door.is_at_end g.D.Door.lines_over g.D.Door.same
+    rw (c.into_parts-clock.ensures.clock, c.into_parts-clock.ensures.core) (serving_so_far g.C.Clock.given g.L.Line.seen
+    g.D.Door.is_out g.D.Door.is_at_end g.D.Door.lines_over g.D.Door.same
     control_seen (λ (line : ControlLine g.row.I.Denot). g.I.Read.remaining line.reader)
     (λ (line : ControlLine g.row.I.Denot). g.I.ControlReader.may_fail line.reader) g.K.QueueCore.machine g.K.QueueCore.comparisons
     begun c.serve-is_over.new.core c.serve-is_over.new.row c.serve-is_over.new.control

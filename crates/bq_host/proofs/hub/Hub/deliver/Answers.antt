@@ -20,7 +20,11 @@ returns-in-Err-clause-sorted g c =
     let state = state_of g.K.QueueCore.machine g.K.QueueCore.comparisons in
     let popped = c.next_pending.new.self in
     let rest = c.next_pending.ensures.rest in
-    let now : List (List Answer) → MailState = λ ms. record (state popped) { mails = ms; pending = (c.in-Some.seat, c.in-Err.back) ∷ popped.timed.outs.given } in
+    let now : List (List Answer) → MailState = λ ms. record (state popped) {
+      mails = ms;
+      pending = (c.in-Some.seat, c.in-Err.back)
+          ∷ popped.timed.outs.given;
+    } in
     sorted_moved (state c.args.self.now) (state c.loop-seat.self) (now c.post.new.mails.items) _ _ c.loop-seat.invariant.sorted
     (ap now c.in-Err.ensures.posted.1
     ∙ ap (λ h. record (state h) { pending = (c.in-Some.seat, c.in-Err.back) ∷ popped.timed.outs.given }) rest)

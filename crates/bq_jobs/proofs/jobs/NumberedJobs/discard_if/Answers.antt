@@ -11,8 +11,10 @@ use Rattle.bq_jobs.proofs.jobs.NumberedJobs.discard_if.Goals as goal
 pub returns-clause-left : goal.returns-clause-left
 returns-clause-left g c =
     let k = c.self.inside.tubes.value in
-    removes_named_if k c.args.id c.self.inside.rows c.discard_if-removed.new.self c.args.self.now c.discard_if-removed.result c.removed_of.result
-    c.self.view_is (ap is_some c.removed_of.ensures ∙ some_mapped (removed_told k) c.discard_if-removed.result) c.discard_if-removed.ensures.left
+    removes_named_if k c.args.id c.self.inside.rows c.discard_if-removed.new.self c.args.self.now c.discard_if-removed.result
+    c.removed_of.result
+    c.self.view_is (ap is_some c.removed_of.ensures ∙ some_mapped (removed_told k) c.discard_if-removed.result)
+    c.discard_if-removed.ensures.left
 
 pub returns-clause-number : goal.returns-clause-number
 returns-clause-number g c =

@@ -5,7 +5,8 @@ use Rattle.bq_jobs.proofs.jobs.NumberedJobs.share.Goals as goal
 
 pub returns-in_err-number-clause-kept : goal.returns-in_err-number-clause-kept
 returns-in_err-number-clause-kept c =
-    finds_named c.self.inside.tubes.value c.args.id c.self.inside.rows c.share.new.self c.args.self.now c.share.result c.from_residual.result
+    finds_named c.self.inside.tubes.value c.args.id c.self.inside.rows c.share.new.self c.args.self.now c.share.result
+    c.from_residual.result
     c.self.view_is (ap is_some c.from_residual.ensures ∙ sym (ap is_some c.in_err-number.was)) c.share.ensures.kept
 
 pub returns-clause-kept : goal.returns-clause-kept

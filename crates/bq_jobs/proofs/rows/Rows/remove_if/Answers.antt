@@ -36,7 +36,8 @@ pub leave-requires : goal.leave-requires
 leave-requires g c =
     let s = c.self.inside in
     let h = c.self.invariant in
-    let found = passing_there (g.T.RowTest.passed c.args.test.now) c.args.id s h c.in_ok-job.job (sym c.remove_at.ensures.job ∙ c.in_ok-job.was) in
+    let found = passing_there (g.T.RowTest.passed c.args.test.now) c.args.id s h c.in_ok-job.job (sym c.remove_at.ensures.job ∙
+    c.in_ok-job.was) in
     record {
       held = λ p e. held_place group_laws.total-law group_place group_own c.args.id c.in_ok-job.job
           (jobs_of s.by_id.entries) s.by_id.spare s.groups h.in_groups found p (sym c.group_place.ensures ∙ e);
@@ -46,7 +47,8 @@ pub leave-requires-2 : goal.leave-requires-2
 leave-requires-2 g c =
     let s = c.self.inside in
     let h = c.self.invariant in
-    let found = passing_there (g.T.RowTest.passed c.args.test.now) c.args.id s h c.in_ok-job.job (sym c.remove_at.ensures.job ∙ c.in_ok-job.was) in
+    let found = passing_there (g.T.RowTest.passed c.args.test.now) c.args.id s h c.in_ok-job.job (sym c.remove_at.ensures.job ∙
+    c.in_ok-job.was) in
     record {
       held = λ p e. held_place timer_laws.total-law timer_place timer_own c.args.id c.in_ok-job.job
           (jobs_of s.by_id.entries) s.by_id.spare s.timers h.in_timers found p (sym c.timer_place.ensures ∙ e);

@@ -19,4 +19,5 @@ returns-in_err-number-clause-entries g c =
     search rules
 
 pub returns-in_err-number-clause-ordered : goal.returns-in_err-number-clause-ordered
-returns-in_err-number-clause-ordered g c = table_order c.self.inside.tubes c.self.inside.values.items c.self.invariant c.args.self.now c.self.view_is
+returns-in_err-number-clause-ordered g c = table_order c.self.inside.tubes c.self.inside.values.items c.self.invariant c.args.self.now
+    c.self.view_is

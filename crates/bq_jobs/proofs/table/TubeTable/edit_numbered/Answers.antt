@@ -11,7 +11,8 @@ edit_at-requires g c =
     let k = c.self.inside.tubes in
     let vs = c.self.inside.values.items in
     let known = known_at k vs c.self.invariant c.args.self.now c.self.view_is c.args.name.now c.args.number c.requires.number in
-    let slot = slot_there k vs c.self.invariant c.args.self.now c.self.view_is c.args.name.now (Some c.args.number) known c.args.number refl in
+    let slot = slot_there k vs c.self.invariant c.args.self.now c.self.view_is c.args.name.now (Some c.args.number)
+    known c.args.number refl in
     omega (arith, slot, c.get.ensures.number)
 
 pub invariant_of-self : goal.invariant_of-self
@@ -26,7 +27,8 @@ returns-clause-told g c =
     let k = c.self.inside.tubes in
     let vs = c.self.inside.values.items in
     let known = known_at k vs c.self.invariant c.args.self.now c.self.view_is c.args.name.now c.args.number c.requires.number in
-    let there = value_there k vs c.self.invariant c.args.self.now c.self.view_is c.args.name.now (Some c.args.number) known c.args.number refl in
+    let there = value_there k vs c.self.invariant c.args.self.now c.self.view_is c.args.name.now (Some c.args.number)
+    known c.args.number refl in
     c.edit_at.ensures.told ∙ ap (λ n. option_map (g.E.Edit.told c.args.edit.now) (slice_get vs n)) c.get.ensures.number
     ∙ ap (option_map (g.E.Edit.told c.args.edit.now)) (sym there)
 

@@ -11,7 +11,8 @@ returns-in_err-number-clause-value g c =
     search rules
 
 pub returns-in_err-number-clause-ordered : goal.returns-in_err-number-clause-ordered
-returns-in_err-number-clause-ordered g c = table_order c.self.inside.tubes c.self.inside.values.items c.self.invariant c.args.self.now c.self.view_is
+returns-in_err-number-clause-ordered g c = table_order c.self.inside.tubes c.self.inside.values.items c.self.invariant c.args.self.now
+    c.self.view_is
 
 pub returns-clause-ordered : goal.returns-clause-ordered
 returns-clause-ordered g c = table_order c.self.inside.tubes c.self.inside.values.items c.self.invariant c.args.self.now c.self.view_is

@@ -9,7 +9,8 @@ index-requires g c =
     let k = c.self.inside.tubes in
     let vs = c.self.inside.values.items in
     let known = known_at k vs c.self.invariant c.args.self.now c.self.view_is c.args.name.now c.args.number c.requires.number in
-    let slot = slot_there k vs c.self.invariant c.args.self.now c.self.view_is c.args.name.now (Some c.args.number) known c.args.number refl in
+    let slot = slot_there k vs c.self.invariant c.args.self.now c.self.view_is c.args.name.now (Some c.args.number)
+    known c.args.number refl in
     omega (arith, slot, c.get.ensures.number)
 
 pub returns : goal.returns
@@ -17,8 +18,10 @@ returns g c =
     let k = c.self.inside.tubes in
     let vs = c.self.inside.values.items in
     let known = known_at k vs c.self.invariant c.args.self.now c.self.view_is c.args.name.now c.args.number c.requires.number in
-    let slot = slot_there k vs c.self.invariant c.args.self.now c.self.view_is c.args.name.now (Some c.args.number) known c.args.number refl in
-    let there = value_there k vs c.self.invariant c.args.self.now c.self.view_is c.args.name.now (Some c.args.number) known c.args.number refl in
+    let slot = slot_there k vs c.self.invariant c.args.self.now c.self.view_is c.args.name.now (Some c.args.number)
+    known c.args.number refl in
+    let there = value_there k vs c.self.invariant c.args.self.now c.self.view_is c.args.name.now (Some c.args.number)
+    known c.args.number refl in
     sym (slice_get_read vs (length vs) c.get.result c.index.result.now refl
     (subst (λ i. i < length vs) (sym c.get.ensures.number) slot) c.index.ensures)
     ∙ ap (slice_get vs) c.get.ensures.number ∙ sym there
