@@ -46,13 +46,14 @@ reserve_job_done m first second last s seat id body at passes one two told after
 abbrev pub after_given : Machine → Machine
 after_given m = record m { next_id = m.next_id + 1; puts = raised m.puts; draining = nat_le last_id m.next_id }
 
--- the outcome of an accepted put
-pub put_done : (m given last : Machine) (s : SeatRecord) (pri delay ttr : ℕ) (body : List ℕ) (j : Job) → m.draining ≡ false
-    → is_full m.settings.max_jobs m.jobs ≡ false → j ≡ new_job m s pri delay ttr body → given ≡ after_given m
+-- the outcome of an accepted put, whose job is made once its id was given
+pub put_done : (m given last : Machine) (s : SeatRecord) (pri delay ttr id : ℕ) (body shared : List ℕ) (j : Job) → m.draining ≡ false
+    → is_full m.settings.max_jobs m.jobs ≡ false → given ≡ after_given m → id ≡ m.next_id → shared ≡ body
+    → j ≡ record (new_job given s pri delay ttr shared) { id = id }
     → AreIdsWithin 1 m.jobs m.next_id → (AreIdsWithin 1 m.jobs j.id → with_added j m.jobs ≡ m.jobs ++ j ∷ [])
     → last ≡ record (with_tube j.tube with_put given) { jobs = with_added j given.jobs }
-    → put_effect pri delay ttr body m s ≡ telling (answers.Inserted j.id) last
-put_done m given last s pri delay ttr body j accepts free is given_is ids adds after = grind (arith, common_steps)
+    → put_effect pri delay ttr body m s ≡ telling (answers.Inserted id) last
+put_done m given last s pri delay ttr id body shared j accepts free given_is id_is body_is is ids adds after = grind (arith, common_steps)
 
 -- what is asked by an addition or a removal that is the only search
 pub asked_in_all : (old between new : Kept) → Asks 0 old between → ComparesAtMost 4 between new → AsksAsChanged old new

@@ -31,13 +31,13 @@ pub(crate) struct NewTurn {
     pub(crate) delay: u32,
 }
 
-// Returns the job that a put makes; its time to run is at least one second.
-fn new_job(state: &CoreParts, tube: &Tube, new: NewJob, body: Body) -> Job
-    ensures { (s : SeatRecord) → s.used ≡ tube.now
-        → result ≡ job_of_put (machine_of state.now) s new.pri new.delay new.ttr body }
+// Returns the job that a put with this id makes; its time to run is at least one second.
+fn new_job(state: &CoreParts, id: JobId, tube: &Tube, new: NewJob, body: Body) -> Job
+    ensures { (s : SeatRecord) → s.used ≡ tube.now → result
+        ≡ record (job_of_put (machine_of state.now) s new.pri new.delay new.ttr body) { id = id } }
 {
     Job {
-        id: state.next_id,
+        id,
         tube: *tube.name(),
         pri: new.pri,
         delay: new.delay,
@@ -84,22 +84,24 @@ pub(crate) fn put(
         *answer = Answer::OutOfMemory;
         return Reply::Told;
     }
-    let Some(client) = seats::find(state.seats.as_slice(), seat) else {
-        return Reply::Silent;
-    };
     let Ok(shared) = body.share() else {
         return Reply::LeftOut;
     };
-    let tube = client.used();
-    let hint = tube.number();
-    let job = new_job(state, tube, new, shared);
     let Ok(()) = changes::make_room(state, alloc) else {
         return Reply::LeftOut;
     };
-    let id = job.id;
+    let id = state.next_id;
     next_is_free();
     adds_at_the_end();
     changes::count_put(state);
+    // The client asks, so it is found. Nothing changes between making the job and adding it:
+    // otherwise the tube's name would be copied twice.
+    let Some(client) = seats::find(state.seats.as_slice(), seat) else {
+        return Reply::Silent;
+    };
+    let tube = client.used();
+    let hint = tube.number();
+    let job = new_job(state, id, tube, new, shared);
     changes::add(state, job, hint);
     Reply::Inserted(id)
 }

@@ -1,6 +1,5 @@
 use Rattle.std.proofs.{Common.{ap, arith, sym, ◌∙◌, ◌≡◌}, lemmas.Grind.common_steps}
 use Rattle.bq_core.proofs.ActLemmas.{after_given, put_done, used_has_entry}
-use Rattle.bq_job.specs.machine.{new_job}
 use Rattle.bq_jobs.proofs.Changes.{low_below}
 use Rattle.bq_state.specs.CoreParts.{machine_held, machine_of}
 use Rattle.bq_core.proofs.job_acts.put.Goals as goal
@@ -14,8 +13,9 @@ add-requires c =
 pub returns-clause-reply : goal.returns-clause-reply
 returns-clause-reply c s found =
     let m = machine_of c.args.state.now in
+    let same = ap (λ h. h.seats) c.count_put.ensures ∙ c.in-Ok-make_room.ensures.seats in
     let used : s.used ≡ c.used-tube.result.now = let here = c.in-Some.ensures in cc in
-    let made = c.new_job-job.ensures s used ∙ ap (new_job m s c.args.new.pri c.args.new.delay c.args.new.ttr) c.in-Ok.ensures in
-    put_done m _ _ s _ _ _ _ _ c.if-state.false (sym c.if-is_full.ensures) made
-    (ap machine_held c.count_put.ensures ∙ ap after_given c.in-Ok-make_room.ensures.after) c.args.state.now.sound.ids
+    put_done m _ _ s _ _ _ _ _ _ _ c.if-state.false (sym c.if-is_full.ensures)
+    (ap machine_held c.count_put.ensures ∙ ap after_given c.in-Ok-make_room.ensures.after)
+    (ap (λ m. m.next_id) c.in-Ok-make_room.ensures.after) c.in-Ok.ensures (c.new_job-job.ensures s used) c.args.state.now.sound.ids
     (c.adds_at_the_end.ensures 1 _ _) c.add.ensures.after
