@@ -12,6 +12,7 @@ use Rattle.bq_line.specs.declared.clock.Notice.TheVariants as notices
 use Rattle.bq_host.specs.declared.notices.Concern.{Concern}
 use Rattle.bq_host.specs.declared.notices.Concern.TheVariants as concerns
 use Rattle.bq_host.specs.declared.notices.Notices.{Notices}
+use Rattle.bq_host.specs.declared.notices.Unlogged.{Unlogged}
 
 -- the kind of a step, as far as the log is concerned
 abbrev pub concern_of : Step → Concern
@@ -69,3 +70,15 @@ told_after concerns.Other outs at told = if is_refused outs then after_refusal t
 -- The new state of the log after a step with these answers, at this moment.
 abbrev pub HasLogged : Concern → Outbox → ℕ → Notices → Notices → Type 0
 HasLogged concern outs at told new = new ≡ (told_after concern outs at told).1
+
+-- Nothing is to be logged.
+abbrev pub none_unlogged : Unlogged
+none_unlogged = record { drain = false; refusal = false; full = false; below = false }
+
+-- what is to be logged, with one more notice if there is one
+abbrev pub noted : Option Notice → Unlogged → Unlogged
+noted None unlogged = unlogged
+noted (Some notices.Draining) unlogged = record unlogged { drain = true }
+noted (Some notices.MemoryRefused) unlogged = record unlogged { refusal = true }
+noted (Some notices.JobLimitReached) unlogged = record unlogged { full = true }
+noted (Some notices.BelowJobLimit) unlogged = record unlogged { below = true }

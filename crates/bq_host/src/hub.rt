@@ -7,10 +7,12 @@ ghost use Rattle.bq_job.specs.declared.answer.Answer.{Answer};
 ghost use Rattle.bq_job.specs.promise.Runs.{answers_to};
 ghost use Rattle.bq_host.specs.MailStates.{IsInOrder};
 ghost use Rattle.bq_host.specs.Hubs.{IsInOrderFor, WentAt, WentInOrder, state_of, with_pending};
+ghost use Rattle.bq_host.specs.Told.{concern_of, none_unlogged, noted, told_after};
 ghost use Rattle.bq_host.specs.WakeLists.{Wakes, none_waits, to_wake};
 
 use crate::fault::RunFault;
 use crate::mail::{Mail, new_mails};
+use crate::notices::Unlogged;
 use crate::timed_core::TimedCore;
 use crate::woken::Woken;
 use bq_core_api::{Config, QueueCore};
@@ -36,6 +38,9 @@ pub struct Hub<C, K> {
     pub woken: Woken,
     /// True if a step read the clock since time passed last.
     pub is_fresh: bool,
+    /// What the operator has to see of the steps since time passed last. It is not logged in the
+    /// step, since that may wait.
+    pub unlogged: Unlogged,
 }
 
 impl<C: Clock + Drop, K: QueueCore + Drop> Hub<C, K> {
@@ -70,21 +75,24 @@ impl<C: Clock + Drop, K: QueueCore + Drop> Hub<C, K> {
             is_sorted: true,
             woken: Woken::none(alloc),
             is_fresh: false,
+            unlogged: Unlogged::none(),
         })
     }
 
-    /// Returns the clock and the core. Answers that were not taken are dropped.
+    /// Logs what is still to be logged, and returns the clock and the core. Answers that were not
+    /// taken are dropped.
     pub fn into_parts(self) -> (C, K)
         ensures clock { result.0 ≡ self.timed.time.clock }
         ensures core { result.1 ≡ self.timed.core }
     {
+        self.unlogged.log(&self.timed.time.clock);
         let timed = self.timed;
         (timed.time.clock, timed.core)
     }
 
     /// Lets the core take this step of a seat, at the moment that the clock reads now. Returns
     /// false if it did not, because an answer of an earlier step waits for room in the mail of its
-    /// seat.
+    /// seat. What the operator has to see of the step is logged when time passes next.
     pub fn submit(&mut self, seat: Seat, step: &Step) -> bool
         requires order { IsInOrder (state_of K.machine K.comparisons self.old) }
         ensures order { IsInOrder (state_of K.machine K.comparisons self.new) }
@@ -98,15 +106,19 @@ impl<C: Clock + Drop, K: QueueCore + Drop> Hub<C, K> {
         true
     }
 
-    // Lets the core take a step at the moment that the clock reads now.
+    // Lets the core take a step at the moment that the clock reads now, and notes what has to be
+    // logged about it.
     fn take_step(&mut self, seat: Seat, what: &Step)
         requires order { IsInOrder (state_of K.machine K.comparisons self.old) }
         requires empty { (state_of K.machine K.comparisons self.old).pending ≡ [] }
         ensures went { WentInOrder K.machine K.comparisons C.given seat self.old (as_submitted what.now) [] self.new }
+        ensures noted { self.new.unlogged ≡ noted (told_after (concern_of what.now) self.new.timed.outs self.new.timed.time.moment
+            self.old.timed.notices).0 self.old.unlogged }
     {
         self.is_sorted = false;
         self.is_fresh = true;
-        self.timed.take_step(seat, what);
+        let notice = self.timed.take_step_quietly(seat, what);
+        self.unlogged.note(notice);
     }
 
     /// Takes the oldest answer to the seat, if there is one, and puts it into `place` as an action
@@ -274,8 +286,9 @@ impl<C: Clock + Drop, K: QueueCore + Drop> Hub<C, K> {
         self.woken.take_first()
     }
 
-    /// Takes a tick if something is due by now, and puts all answers into the mail. Returns in how
-    /// many milliseconds something is due next, or `None` if nothing is; 0 if something was due.
+    /// Takes a tick if something is due by now, puts all answers into the mail, and logs what is
+    /// still to be logged. Returns in how many milliseconds something is due next, or `None` if
+    /// nothing is; 0 if something was due.
     ///
     /// If a step read the clock since the last call, its reading is taken for the moment now. So a
     /// run must not wait between the step and this call.
@@ -286,10 +299,12 @@ impl<C: Clock + Drop, K: QueueCore + Drop> Hub<C, K> {
             then time_left (next_due (K.machine self.old.timed.core)) self.new.timed.time.moment else Some 0) }
         ensures within { IsLimit result (next_due (K.machine self.new.timed.core)) self.new.timed.time.moment }
         ensures read_again { self.new.is_fresh ≡ false }
+        ensures logged { self.new.unlogged ≡ none_unlogged }
     {
         let ticks = self.tick_if_due();
         let _all = self.sort(0);
         self.is_fresh = false;
+        self.unlogged.log_all(&self.timed.time.clock);
         self.rest(ticks)
     }
 

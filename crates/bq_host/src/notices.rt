@@ -1,11 +1,11 @@
 //! What is logged about the core's steps.
 ghost use Rattle.std.specs.Prelude.{◌≡◌, ◌||◌, None, false};
 ghost use Rattle.bq_host.specs.Told.{after_drain, after_full, after_put, after_refusal, after_stored};
-ghost use Rattle.bq_host.specs.Told.{calmed, concern_of, told_after};
+ghost use Rattle.bq_host.specs.Told.{calmed, concern_of, none_unlogged, noted, told_after};
 
 use bq_core_api::Outs;
 use bq_job::{Moment, Refusal, Request, Step};
-use bq_line::clock::Notice;
+use bq_line::clock::{Clock, Notice};
 
 /// A shortage of memory ends with a put that succeeds when no allocation has failed for this many
 /// milliseconds.
@@ -28,7 +28,7 @@ pub enum Concern {
     Other,
 }
 
-/// What was logged and is not logged again.
+/// What was reported and is not reported again.
 #[derive(Clone, Copy)]
 pub struct Notices {
     is_draining: bool,
@@ -134,6 +134,68 @@ impl Notices {
         match self.full.replace(at) {
             Some(_) => None,
             None => Some(Notice::JobLimitReached),
+        }
+    }
+}
+
+/// The notices that are still to be logged: each kind at most once.
+#[derive(Clone, Copy)]
+pub struct Unlogged {
+    drain: bool,
+    refusal: bool,
+    full: bool,
+    below: bool,
+}
+
+impl Unlogged {
+    /// Returns a state in which nothing is to be logged.
+    pub fn none() -> Unlogged
+        ensures { result ≡ none_unlogged }
+    {
+        Unlogged {
+            drain: false,
+            refusal: false,
+            full: false,
+            below: false,
+        }
+    }
+
+    /// Notes a notice, if there is one.
+    pub fn note(&mut self, notice: Option<Notice>)
+        ensures { self.new ≡ noted notice self.old }
+    {
+        match notice {
+            None => {}
+            Some(Notice::Draining) => self.drain = true,
+            Some(Notice::MemoryRefused) => self.refusal = true,
+            Some(Notice::JobLimitReached) => self.full = true,
+            Some(Notice::BelowJobLimit) => self.below = true,
+        }
+    }
+
+    /// Passes all of these notices to the clock. Nothing is then left to be logged.
+    pub fn log_all<C: Clock>(&mut self, clock: &C)
+        ensures { self.new ≡ none_unlogged }
+    {
+        self.log(clock);
+        *self = Unlogged::none();
+    }
+
+    /// Passes all of these notices to the clock, and keeps them.
+    pub fn log<C: Clock>(&self, clock: &C) {
+        if self.drain {
+            clock.tell(Notice::Draining);
+        }
+        if self.refusal {
+            clock.tell(Notice::MemoryRefused);
+        }
+        // The limit may be reached again right after the number of jobs fell below it. The other way
+        // round there is a minute between them.
+        if self.below {
+            clock.tell(Notice::BelowJobLimit);
+        }
+        if self.full {
+            clock.tell(Notice::JobLimitReached);
         }
     }
 }

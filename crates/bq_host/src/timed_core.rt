@@ -5,14 +5,14 @@ ghost use Rattle.bq_job.specs.machine.Machine.{new_machine};
 ghost use Rattle.bq_core_api.specs.Limits.{are_in_range};
 ghost use Rattle.bq_core_api.specs.Cost.{IsLookWithin};
 ghost use Rattle.bq_host.specs.Compared.{LooksOnce};
-ghost use Rattle.bq_host.specs.Told.{HasLogged, concern_of};
+ghost use Rattle.bq_host.specs.Told.{HasLogged, concern_of, told_after};
 ghost use Rattle.bq_host.specs.Timed.{HasHeard, HearsDue, IsNewTimed, IsReady, LooksAndSteps, OnlyHears, PassesOver, TakesStep};
 
 use crate::fault::RunFault;
-use crate::notices::{Concern, Notices, concern_of};
+use crate::notices::{Notices, concern_of};
 use bq_core_api::{Config, CoreFault, Outs, QueueCore};
 use bq_job::{Moment, Seat, Step};
-use bq_line::clock::{Clock, moment_heard};
+use bq_line::clock::{Clock, Notice, moment_heard};
 use std::alloc::Global;
 
 /// A clock, and the moment that its readings so far amount to.
@@ -55,7 +55,7 @@ pub struct TimedCore<C, K> {
     pub due: Option<Moment>,
     /// Whether `due` holds for the core as it is now: it was asked since its last step.
     pub is_due_known: bool,
-    /// What was logged about the core's steps.
+    /// What was logged about the core's steps, or returned to be logged.
     pub notices: Notices,
 }
 
@@ -130,9 +130,22 @@ impl<C: Clock + Drop, K: QueueCore + Drop> TimedCore<C, K> {
         ensures told { HasLogged (concern_of what.now) self.new.outs self.new.time.moment
             self.old.notices self.new.notices }
     {
+        let notice = self.take_step_quietly(seat, what);
+        self.log(notice);
+    }
+
+    /// Takes a step at the moment that the clock reads now, and returns what has to be logged about
+    /// it. It is up to the caller to log that: this call never waits.
+    pub fn take_step_quietly(&mut self, seat: Seat, what: &Step) -> Option<Notice>
+        requires ready { IsReady K.machine self.old }
+        ensures ready { IsReady K.machine self.new }
+        ensures taken { TakesStep C.given K.machine K.comparisons self.old seat what.now self.new }
+        ensures told { (result, self.new.notices) ≡ told_after (concern_of what.now) self.new.outs self.new.time.moment
+            self.old.notices }
+    {
         let concern = concern_of(what);
         self.step(seat, what);
-        self.tell(concern);
+        self.notices.after(concern, &self.outs, self.time.moment)
     }
 
     // Takes a step at the moment that the clock reads now.
@@ -148,13 +161,9 @@ impl<C: Clock + Drop, K: QueueCore + Drop> TimedCore<C, K> {
             .step_in_place(self.alloc, self.time.moment, seat, what, &mut self.outs);
     }
 
-    // Logs through the clock what has to be reported about the last step.
-    fn tell(&mut self, concern: Concern)
-        ensures rest { self.new ≡ record self.old { notices = self.new.notices } }
-        ensures told { HasLogged concern self.old.outs self.old.time.moment
-            self.old.notices self.new.notices }
-    {
-        if let Some(notice) = self.notices.after(concern, &self.outs, self.time.moment) {
+    // Logs a notice through the clock.
+    fn log(&self, notice: Option<Notice>) {
+        if let Some(notice) = notice {
             self.time.clock.tell(notice);
         }
     }

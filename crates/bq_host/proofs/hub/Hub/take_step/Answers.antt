@@ -1,23 +1,24 @@
-use Rattle.std.proofs.Common.{false, refl}
+use Rattle.std.proofs.Common.{◌∙◌, ap, false, refl}
 use Rattle.std.proofs.lemmas.Bool.{false≢true}
+use Rattle.bq_host.specs.Told.{noted}
 use Rattle.bq_host.proofs.TimedWentLemmas.{timed_step}
 use Rattle.bq_host.proofs.HubLemmas.{order_ready}
 use Rattle.bq_host.proofs.WakeLemmas.{wakes_none}
 use Rattle.bq_host.proofs.hub.Hub.take_step.Goals as goal
 
-pub returns : goal.returns
-returns g c =
-    let t = c.take_step in
-    let old = c.args.self.now in
-    record {
-      went = (
-        order_ready g.K.QueueCore.machine g.K.QueueCore.comparisons old
-            (record old { timed = t.new.self; is_sorted = false }) t.ensures.ready t.ensures.taken.settings refl
-            (λ sorted. absurd (false≢true sorted)) c.requires.order,
-        (
-          timed_step g.K.QueueCore.machine g.K.QueueCore.comparisons g.C.Clock.given c.args.seat c.args.what.now old.timed t.new.self
-              old.held old.mails.items old.is_sorted false t.ensures.taken c.requires.empty,
-          wakes_none old.mails.items old.woken,
-        ),
-      );
-    }
+pub returns-clause-went : goal.returns-clause-went
+returns-clause-went g c =
+    let t = c.take_step_quietly-notice in
+    let old = c.args.self.now in (
+      order_ready g.K.QueueCore.machine g.K.QueueCore.comparisons old
+          (record old { timed = t.new.self; is_sorted = false }) t.ensures.ready t.ensures.taken.settings refl
+          (λ sorted. absurd (false≢true sorted)) c.requires.order,
+      (
+        timed_step g.K.QueueCore.machine g.K.QueueCore.comparisons g.C.Clock.given c.args.seat c.args.what.now old.timed t.new.self
+            old.held old.mails.items old.is_sorted false t.ensures.taken c.requires.empty,
+        wakes_none old.mails.items old.woken,
+      ),
+    )
+
+pub returns-clause-noted : goal.returns-clause-noted
+returns-clause-noted g c = c.note.ensures ∙ ap (λ told. noted told.0 c.args.self.now.unlogged) c.take_step_quietly-notice.ensures.told
