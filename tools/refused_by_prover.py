@@ -279,20 +279,30 @@ class Crate:
         return "refused"
 
 
-def proved(log):
-    """Returns the crates that an `rt ci` has proved, by its log, and whether it has ended."""
-    lines = log.read_text(errors="replace").splitlines()
-    found = {it[1] for line in lines if (it := re.match(r"rt: (\w+) (proved$|is kept:)", line))}
-    return found, any(re.match(r"\d+ passed, \d+ failed", it) for it in lines)
+class Proved:
+    """The crates that an `rt ci` has proved so far, by its log. Many threads ask for most of its time, so the log is read when it has grown."""
 
+    def __init__(self, log):
+        self.log, self.lock, self.size, self.found, self.has_ended = log, threading.Lock(), -1, set(), False
 
-def awaited(names, log):
-    """Waits until the log says that these crates are proved, or `rt ci` has ended. Returns whether they are proved."""
-    while True:
-        found, has_ended = proved(log)
-        if found.issuperset(names) or has_ended:
-            return found.issuperset(names)
-        time.sleep(1)
+    def read(self):
+        """Returns the crates, and whether the `rt ci` has ended."""
+        with self.lock:
+            size = self.log.stat().st_size
+            if size != self.size:
+                lines = self.log.read_text(errors="replace").splitlines()
+                self.size = size
+                self.found = {it[1] for line in lines if (it := re.match(r"rt: (\w+) (proved$|is kept:)", line))}
+                self.has_ended = any(re.match(r"\d+ passed, \d+ failed", it) for it in lines)
+            return self.found, self.has_ended
+
+    def waits_for(self, names):
+        """Waits until these crates are proved, or the `rt ci` has ended. Returns whether they are proved."""
+        while True:
+            found, has_ended = self.read()
+            if found.issuperset(names) or has_ended:
+                return found.issuperset(names)
+            time.sleep(2)
 
 
 def tried(name, edits, words):
@@ -311,8 +321,8 @@ def tried(name, edits, words):
 
 
 def in_turn(lanes, beside, below, name, *given):
-    """Tries the edits of a crate when a lane is free and, if there is a log, once its `rt ci` has proved the crates below it."""
-    if beside and not awaited(below, beside):
+    """Tries the edits of a crate when a lane is free and, beside an `rt ci`, once that has proved the crates below it."""
+    if beside and not beside.waits_for(below):
         return {edit: "NOT TRIED: a crate below isn't proved" for edit in given[0]}, 0
     with lanes:
         while beside and free_memory() <= FOR_A_CHECK:
@@ -338,11 +348,11 @@ def main():
     parser.add_argument("--beside", type=pathlib.Path, metavar="LOG", help="the output of an rt ci that runs meanwhile")
     words = parser.parse_args()
     uses, pages, passed, failed = crates.listed(), pages_of(words.crates, words.gate), 0, 0
-    lanes = threading.Semaphore(words.lanes)
+    lanes, beside = threading.Semaphore(words.lanes), words.beside and Proved(words.beside)
     with concurrent.futures.ThreadPoolExecutor(len(pages) or 1) as pool:
         calls = {}
         for name, edits in pages.items():
-            calls[pool.submit(in_turn, lanes, words.beside, crates.below(name, uses), name, edits, check_of(name, uses))] = name
+            calls[pool.submit(in_turn, lanes, beside, crates.below(name, uses), name, edits, check_of(name, uses))] = name
         for call in concurrent.futures.as_completed(calls):
             verdicts, seconds = call.result()
             for edit, verdict in sorted(verdicts.items(), key=lambda it: it[0].name()):
