@@ -5,7 +5,8 @@ that isn't after the server's step, and the run reads all answers to the step wi
 begins with a step (a lease, a delay, a pause, a wait) ends at the server when it ends at the model, or less than SLACK
 later. The moments at which something happens by itself are more than SLACK apart, and no client sends while one of them
 is nearer than SLACK. A run can't be judged if an answer is read too late, even if it is the right one, or if statistics
-are received only after the moment that they depend on. If a client disconnects while its reserve waits, the server
+are received only after the moment that they depend on. An answer may be read as late as LATE if nothing near begins with
+its step, and nothing happens by itself before it is read. If a client disconnects while its reserve waits, the server
 notices within a second; the model takes that step when the run requested the last statistics that still counted the
 client. Ages and times left are in whole seconds, and may be off by one.
 """
@@ -22,9 +23,10 @@ from .machine import PLAIN, RESERVED
 from .reader import requests_of
 
 SLACK = 350  # milliseconds
+LATE = 900  # milliseconds: less than the second by which ages and times left may be off
 GONE = 1100  # milliseconds: how late a client that disconnected while its reserve waits may be noticed
 NEAR = 100000  # what is further ahead doesn't happen during a run
-GLANCE = 50  # milliseconds: how long a run waits for a client's answer before it requests statistics again
+GLANCE = 50  # milliseconds: how long a run waits at most before it requests statistics again
 TICKS_AHEAD = 8
 SHRINK_ANSWER_SECONDS = 2
 RUN_SECONDS = 60
@@ -131,7 +133,7 @@ class Run:
         self.server, self.settings, self.patience = server, settings, patience
         self.machine, self.clients = rules(settings), {}
         self.begun = time.monotonic()
-        self.looked_at = 0
+        self.looked_at, self.ahead = 0, []
         self.commands = 0
 
     def now(self):
@@ -144,12 +146,12 @@ class Run:
         """Returns the moments that are ahead and near, in order."""
         return sorted(it for it in machine.moments() if machine.now < it < machine.now + NEAR)
 
-    def is_spaced(self, trial):
+    def is_spaced(self, trial, apart=SLACK):
         """Returns true if the moments at which something may happen by itself are far enough apart, including those
         that result from the first of them. Advances `trial`."""
         for _ in range(TICKS_AHEAD):
             ahead = self.coming(trial)
-            if any(b - a <= SLACK for a, b in zip(ahead, ahead[1:])):
+            if any(b - a <= apart for a, b in zip(ahead, ahead[1:])):
                 return False
             if not ahead:
                 return True
@@ -161,7 +163,7 @@ class Run:
         out too long after its moment, the job's lease ends too late as well, so such a run can't be judged."""
         while True:
             now, ahead = self.now(), self.coming(self.machine)
-            self.looked_at = now
+            self.looked_at, self.ahead = now, ahead
             if not ahead or ahead[0] > now + SLACK:
                 return
             if any(it - ahead[0] <= SLACK for it in ahead[1:]):
@@ -184,8 +186,14 @@ class Run:
     def hold_to_be_in_time(self):
         """Checks that less time has passed since the last reading than there is before the next moment. One millisecond is
         left, because the server's milliseconds don't begin when ours do."""
-        if self.now() - self.looked_at >= SLACK:
+        late = self.now() - self.looked_at
+        if late >= SLACK and not (late < LATE and self.is_untimed()):
             raise Unclear("an answer took longer than %d ms" % SLACK)
+
+    def is_untimed(self):
+        """Returns true if no near moment was added since the last reading, and none has come."""
+        ahead = self.coming(self.machine)
+        return set(ahead) <= set(self.ahead) and self.ahead[:1] == ahead[:1] and (not ahead or ahead[0] > self.now())
 
     # -- actions ----------------------------------------------------------------------------------
 
@@ -215,11 +223,11 @@ class Run:
             raise Left()
         self.clients[number] = Client(number, self.server.connect())
         self.machine.step(self.now(), number, "connect")
-        self.exchange(number, [b"list-tube-used\r\n"])
+        self.exchange(number, [b"list-tube-used\r\n"], self.now())
 
     def hold_to_mean_something(self, action):
         """Checks that an action consists of complete requests, none of them after one that waits. It is tried on a copy
-        of the model."""
+        of the model. Returns the moment at which it was tried: at another one, moments might lie closer together."""
         if not self.is_asking(action.client):
             raise Left()
         requests, rest = requests_of(b"".join(action.pieces), self.settings.max_job_size)
@@ -235,16 +243,15 @@ class Run:
             trial.step(now, action.client, "close")
         if not self.is_spaced(trial):
             raise Left()
+        return now
 
     def do_ask(self, action):
-        self.hold_to_mean_something(action)
-        self.exchange(action.client, action.pieces)
+        self.exchange(action.client, action.pieces, self.hold_to_mean_something(action))
 
-    def exchange(self, number, pieces):
+    def exchange(self, number, pieces, began):
         """A client sends requests, and all clients read the answers."""
         requests, _ = requests_of(b"".join(pieces), self.settings.max_job_size)
         self.hold_to_be_in_time()
-        began = self.now()
         for place, piece in enumerate(pieces):
             if place:
                 time.sleep(0.002)
@@ -270,64 +277,75 @@ class Run:
         ahead = self.coming(self.machine)
         return not ahead or ahead[0] > self.now() + GONE + SLACK
 
-    def hold_to_leave(self, number, ends):
+    def may_leave(self, number):
+        """Returns true if what results from the client's leaving now will lie far enough from all other moments. If it
+        waits, that is so whenever the server notices."""
+        is_waiting = self.machine.seats[number].is_waiting()
+        if is_waiting and not self.is_calm():
+            return False
+        now = self.now()
+        for since in range(now, now + GONE + 1, SLACK) if is_waiting else (now,):
+            trial = self.machine.copy()
+            for event in ("end", "close") if is_waiting else ("close",):
+                trial.step(since, number, event)
+            if not self.is_spaced(trial, 3 * SLACK // 2 if is_waiting else SLACK):
+                return False
+        return True
+
+    def hold_to_leave(self, number):
         """Checks that it makes sense now for a client to leave."""
-        if number not in self.clients or number == STEADY:
-            raise Left()
-        if self.machine.seats[number].is_waiting() and not self.is_calm():
-            raise Left()
-        trial, now = self.machine.copy(), self.now()
-        for event in ends:
-            trial.step(now, number, event)
-        if not self.is_spaced(trial):
+        if number not in self.clients or number == STEADY or not self.may_leave(number):
             raise Left()
 
     def do_shut(self, action):
         number = action.client
-        is_waiting = number in self.clients and self.machine.seats[number].is_waiting()
-        self.hold_to_leave(number, ["end", "close"] if is_waiting else ["close"])
-        before = b"" if is_waiting else b"".join(action.pieces)
+        self.hold_to_leave(number)
+        before = b"" if self.machine.seats[number].is_waiting() else b"".join(action.pieces)
         if requests_of(before, self.settings.max_job_size)[0]:
             raise Left()
         began = self.now()
         self.clients[number].connection.sendall(before)
-        self.shut(number, began)
+        self.shut([number], began)
 
-    def shut(self, number, began):
-        """A client sends no more. If its reserve waits, the server notices that later, when something is due for it."""
-        connection = self.clients[number].connection
-        is_waiting = self.machine.seats[number].is_waiting()
-        connection.shutdown(socket.SHUT_WR)
+    def shut(self, numbers, began):
+        """Clients send no more: one, or several that wait and hold no job, so that nothing depends on their order. If
+        their reserves wait, the server notices that later, when something is due for them."""
+        connections = [self.clients[it].connection for it in numbers]
+        is_waiting = self.machine.seats[numbers[0]].is_waiting()
+        for it in connections:
+            it.shutdown(socket.SHUT_WR)
         if is_waiting:
-            began = self.noticed(began, connection)
-            self.gather(self.machine.step(began, number, "end"))
-        self.close(number, began)
+            began = self.noticed(began, len(numbers), connections)
+        for number in numbers:
+            if is_waiting:
+                self.gather(self.machine.step(began, number, "end"))
+            self.close(number, began)
 
-    def noticed(self, began, connection=None):
-        """Waits until the server has noticed that a client left at that moment while it waited. Returns the last moment at
-        which it is known that the server hadn't. The time counts from then."""
-        since = self.until_statistics(self.one_less_connected(), began, connection)
+    def noticed(self, began, many, connections=()):
+        """Waits until the server has noticed that this many clients left at that moment while they waited. Returns the
+        last moment at which it is known that the server hadn't noticed all. The time counts from then."""
+        since = self.until_statistics(self.fewer_connected(many), began, connections)
         if since - began > GONE:
             raise Unclear("a client that had gone was noticed after more than %d ms" % GONE)
         ahead = self.coming(self.machine)
         if ahead and ahead[0] <= since + SLACK:
             raise Unclear("a client that had gone was noticed too near to the next moment")
-        self.looked_at = since
+        self.looked_at, self.ahead = since, ahead
         return since
 
-    def one_less_connected(self):
-        """Returns a line of the statistics after one client has left."""
-        return b"current-connections: %d\n" % (len(self.machine.seats) - 1)
+    def fewer_connected(self, many):
+        """Returns a line of the statistics after this many clients have left."""
+        return b"current-connections: %d\n" % (len(self.machine.seats) - many)
 
     def do_drop(self, action):
         number = action.client
-        is_waiting = number in self.clients and self.machine.seats[number].is_waiting()
-        self.hold_to_leave(number, ["end", "close"] if is_waiting else ["close"])
+        self.hold_to_leave(number)
+        is_waiting = self.machine.seats[number].is_waiting()
         began = self.now()
         self.clients.pop(number).connection.close()
-        left = self.one_less_connected()
+        left = self.fewer_connected(1)
         if is_waiting:
-            began = self.noticed(began)
+            began = self.noticed(began, 1)
         answers = self.machine.step(began, number, "end") if is_waiting else []
         answers += self.machine.step(began, number, "close")
         # (its own last answer can't be read)
@@ -335,11 +353,11 @@ class Run:
         if not is_waiting:
             self.until_statistics(left)
 
-    def until_statistics(self, line, since=0, connection=None):
-        """The steady client requests statistics until they contain a line. With a connection, it requests them again as
-        soon as something arrives there. Returns when it requested the last ones without the line, or else `since`: the
-        server's step that led to the line came later."""
-        until = time.monotonic() + self.patience
+    def until_statistics(self, line, since=0, connections=()):
+        """The steady client requests statistics until they contain a line, each time after a longer pause, or as soon as
+        something arrives at one of the connections. Returns when it requested the last ones without the line, or else
+        `since`: the server's step that led to the line came later."""
+        until, pause = time.monotonic() + self.patience, 2
         ahead = self.coming(self.machine)
         while True:
             client, got, asked_at = self.clients[STEADY], None, self.now()
@@ -354,9 +372,11 @@ class Run:
             since = asked_at
             if ahead and self.now() >= ahead[0]:
                 raise Unclear("statistics came later than what they tell")
-            time.sleep(0.002)
-            if connection is not None:
-                select.select([connection], [], [], GLANCE / 1000)
+            if len(connections) == 1:
+                select.select(connections, [], [], pause / 1000)
+            else:
+                time.sleep(pause / 1000)
+            pause = min(2 * pause, GLANCE)
             if time.monotonic() > until:
                 raise Differs("statistics don't come to have %r: %s" % (line, report.told(got)))
 
@@ -375,26 +395,42 @@ class Run:
             self.machine.step(self.now(), STEADY, "drain")
             self.until_statistics(b"draining: true\n")
 
-    def leave(self, number):
-        """A client leaves. The steady one, which is the last, first asks what is left."""
+    def leave(self, numbers):
+        """Clients leave: one, or several as `shut` takes them. The steady one, which is the last, first asks what is
+        left."""
         began = self.now()
-        if number == STEADY:
-            self.exchange(STEADY, [b"stats\r\nlist-tubes\r\nstats-tube default\r\n"])
-        self.shut(number, began)
+        if numbers == [STEADY]:
+            self.exchange(STEADY, [b"stats\r\nlist-tubes\r\nstats-tube default\r\n"], began)
+        self.shut(numbers, began)
 
-    def calm_down(self):
-        """Lets pass what happens by itself before the server must have noticed a client that disconnects now while it
-        waits."""
+    def make_way(self, number):
+        """Lets pass what happens by itself until a client may leave."""
         self.pass_moments()
-        while not self.is_calm():
-            self.do_rest(None)
+        while not self.may_leave(number):
+            ahead = self.coming(self.machine)
+            if not ahead:
+                return
+            self.sleep_until(ahead[0] - SLACK)
+            self.pass_moments()
+
+    def next_to_leave(self):
+        """Returns the clients that leave next: those together that wait and hold no job, then one by one the others that
+        wait, and last the steady one. Those that hold jobs come late, since their jobs may become due soon."""
+        def place(number):
+            seat = self.machine.seats[number]
+            return number == STEADY, not seat.is_waiting(), bool(self.machine.held_by(seat)), number
+
+        first, *others = sorted(self.clients, key=place)
+        is_idle = place(first)[:3] == (False, False, False)
+        return [first] + [it for it in others if is_idle and place(it)[:3] == (False, False, False)]
 
     def finish(self):
-        """All clients leave, first those that wait, and last the steady one. Then everything that the clients received
-        is known."""
-        for number in sorted(self.clients, key=lambda it: (it == STEADY, not self.machine.seats[it].is_waiting())):
-            self.judged(self.calm_down if self.machine.seats[number].is_waiting() else self.pass_moments)
-            self.judged(self.leave, number)
+        """All clients leave. Then everything that the clients received is known."""
+        while self.clients:
+            numbers = self.next_to_leave()
+            self.judged(self.make_way, numbers[0])
+            if self.next_to_leave() == numbers:
+                self.judged(self.leave, numbers)
         if not self.server.is_running():
             raise Differs("the server ended")
 

@@ -29,9 +29,10 @@ def raised(count):
 
 
 class Job:
-    """A job. `until` is the due moment or the deadline, `burial` the number of a buried job."""
+    """A job. `until` is the due moment or the deadline, `burial` the number of a buried job. Jobs of one `due` become
+    ready in the same step, since one step made them delayed for equally long."""
 
-    __slots__ = ("id", "tube", "pri", "delay", "ttr", "body", "put_at", "state", "until", "holder", "burial",
+    __slots__ = ("id", "tube", "pri", "delay", "ttr", "body", "put_at", "state", "until", "due", "holder", "burial",
                  "reserves", "timeouts", "releases", "buries", "kicks")
 
     def __init__(self, number, tube, pri, delay, ttr, body, now):
@@ -48,7 +49,7 @@ class Job:
         return other
 
     def _set(self, state, until=None, holder=None, burial=None):
-        self.state, self.until, self.holder, self.burial = state, until, holder, burial
+        self.state, self.until, self.holder, self.burial, self.due = state, until, holder, burial, self.id
 
     def make_ready(self):
         self._set(READY)
@@ -215,8 +216,10 @@ class Machine:
 
     def give_back(self, seat):
         """Makes the jobs of a closed connection ready or delayed."""
-        for job in self.held_by(seat):
+        held = self.held_by(seat)
+        for job in held:
             job.make_ready_after(self.now, self.settings.requeue_delay)
+            job.due = held[0].id
 
     # -- what holds of the model now ------------------------------------------------------------
 
@@ -281,7 +284,7 @@ class Machine:
 
     def moments(self):
         """All moments at which something may happen by itself, or an answer may change."""
-        found = [job.until for job in self.jobs.values() if job.until is not None]
+        found = [*{job.due: job.until for job in self.jobs.values() if job.until is not None}.values()]
         found += [job.until - SOON for job in self.jobs.values() if job.state == RESERVED]
         found += [seat.until for seat in self.seats.values() if seat.until is not None]
         return found + [tube.pause_end for tube in self.tubes.values() if tube.pause_end is not None]
