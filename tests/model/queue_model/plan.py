@@ -16,52 +16,60 @@ HUNDRED, HUNDRED_ACTIONS = 2, 600
 BESIDE, BESIDE_CLIENTS = 3, 64
 SOAKS, SOAK_SECONDS = 2, 10
 TUBES = 10_000
-PROCESSES = 5
+WAITING, COMPUTING = 14, 2  # how many runs that mostly wait for moments go side by side, and how many of the other calls
 LATE_TRIES = 4  # for runs that couldn't be judged, after all others: a computer is slow for a minute, not for ever
 
 
 def pool():
-    """Returns a pool of processes. They mostly wait, so there are more than processors."""
-    return concurrent.futures.ProcessPoolExecutor(PROCESSES, mp_context=multiprocessing.get_context("fork"))
+    """Returns a pool of processes. Most of them wait, so there are more than processors."""
+    return concurrent.futures.ProcessPoolExecutor(WAITING + COMPUTING, mp_context=multiprocessing.get_context("fork"))
 
 
 def round_of(bq, bqds, known, rules, seed, one_in=1):
-    """Returns the calls of a round, or one in so many of each kind, those of bqd with each of its engines. The longest
-    come first."""
+    """Returns the calls of a round, or one in so many of each kind, those of bqd with each of its engines. They are in
+    groups, which go side by side: some of calls that compute, then each run that waits, the longest first."""
     def some(many):
         return range(-(-many // one_in))
 
-    calls = []
+    computing = [(sessions.tubes_in_turn, bq, rules, TUBES // one_in)]
+    computing += [(soak.soak, bqd, "%s/soak/%d" % (seed, at), SOAK_SECONDS) for at in some(SOAKS) for bqd in bqds]
+    computing += [(beside.beside, bqd, rules, "%s/beside/%d" % (seed, at), BESIDE_CLIENTS) for at in some(BESIDE) for bqd in bqds]
+    computing += [(sessions.batch, bq, known["bq"], rules, "%s/sessions/%d" % (seed, at), SESSIONS) for at in some(BATCHES)]
+    waiting = []
     for clients, actions, many, kind in [(100, HUNDRED_ACTIONS, HUNDRED, "hundred"), (60, SIXTY_ACTIONS, SIXTY, "sixty"), (8, EIGHT_ACTIONS, EIGHT, "eight")]:
-        calls += [(lockstep.lockstep, bqd, known["bqd"], rules, "%s/%s/%d" % (seed, kind, at), clients, actions) for at in some(many) for bqd in bqds]
-    calls += [(beside.beside, bqd, rules, "%s/beside/%d" % (seed, at), BESIDE_CLIENTS) for at in some(BESIDE) for bqd in bqds]
-    calls += [(sessions.tubes_in_turn, bq, rules, TUBES // one_in)]
-    calls += [(soak.soak, bqd, "%s/soak/%d" % (seed, at), SOAK_SECONDS) for at in some(SOAKS) for bqd in bqds]
-    return calls + [(sessions.batch, bq, known["bq"], rules, "%s/sessions/%d" % (seed, at), SESSIONS) for at in some(BATCHES)]
+        waiting += [(lockstep.lockstep, bqd, known["bqd"], rules, "%s/%s/%d" % (seed, kind, at), clients, actions) for at in some(many) for bqd in bqds]
+    return [computing[at::COMPUTING] for at in range(COMPUTING)] + [[it] for it in waiting]
 
 
 def is_unjudged(report):
     return report.passed + report.failed == 0
 
 
-def made(processes, calls, keep):
-    """Makes these calls. Keeps their reports, except those of runs that couldn't be judged, whose calls it returns."""
-    started = {processes.submit(*it): it for it in calls}
+def in_turn(calls):
+    """Makes calls one after another."""
+    return [call(*given) for call, *given in calls]
+
+
+def made(processes, groups, keep):
+    """Makes these groups of calls. Keeps their reports, except those of runs that couldn't be judged, which it returns
+    with their calls."""
+    started = {processes.submit(in_turn, it): it for it in groups}
     left = []
     for ended in concurrent.futures.as_completed(started):
-        if is_unjudged(ended.result()):
-            left.append((started[ended], ended.result()))
-        else:
-            keep(ended.result())
+        for call, report in zip(started[ended], ended.result()):
+            if is_unjudged(report):
+                left.append((call, report))
+            else:
+                keep(report)
     return left
 
 
-def made_with_patience(processes, calls, keep):
-    """Makes these calls, and repeats those whose runs couldn't be judged."""
-    left = made(processes, calls, keep)
+def made_with_patience(processes, groups, keep):
+    """Makes these groups of calls, and repeats the runs that couldn't be judged."""
+    left = made(processes, groups, keep)
     for _ in range(LATE_TRIES):
         if left:
-            left = made(processes, [call for call, _ in left], keep)
+            left = made(processes, [[call] for call, _ in left], keep)
     for _, report in left:
         keep(report)
 
