@@ -146,7 +146,8 @@ class Machine:
         answers = []
         for part in (self.ripen, self.settle, self.lapse, lambda: self.act(seat, event, request), self.settle, self.lapse):
             answers += part()
-            self.forget_tubes()
+        # (only the event itself removes jobs, and changes what clients use and watch)
+        self.forget_tubes()
         return answers
 
     def ripen(self):

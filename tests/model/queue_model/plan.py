@@ -16,7 +16,7 @@ HUNDRED, HUNDRED_ACTIONS = 2, 600
 BESIDE, BESIDE_CLIENTS = 3, 64
 SOAKS, SOAK_SECONDS = 2, 10
 TUBES = 10_000
-WAITING, COMPUTING = 14, 2  # how many runs that mostly wait for moments go side by side, and how many of the other calls
+WAITING, COMPUTING = 13, 3  # how many runs that mostly wait for moments go side by side, and how many of the other calls
 LATE_TRIES = 4  # for runs that couldn't be judged, after all others: a computer is slow for a minute, not for ever
 
 
