@@ -117,8 +117,6 @@ pub enum Group {
     Drained,
     /// One client, with each of the configurations.
     Refused,
-    /// One client, and a journal for which there is no memory.
-    NoJournal,
 }
 
 static BOTH: &str = "reserve~ + after 19 > RESERVED 1 3~abc~
@@ -138,7 +136,7 @@ pub fn table_of(alloc: Global, group: Group) -> Table {
         Group::CutOff => Table::of_text(alloc, BOTH),
         Group::Broken => Table::of_text(alloc, BROKEN),
         Group::Drained => Table::of_text(alloc, "no clients"),
-        Group::Refused | Group::NoJournal => Table::of_text(alloc, ONE),
+        Group::Refused => Table::of_text(alloc, ONE),
     }
 }
 
@@ -159,7 +157,6 @@ pub fn case_of(table: &Table, group: Group, number: usize) -> Option<Case<'_>> {
         Group::Broken if number == 0 => Case::new(table, 0),
         Group::Drained => drained(table, number),
         Group::Refused => refused(table, number),
-        Group::NoJournal if number == 0 => without_journal(table),
         _ => None,
     }
 }
@@ -190,13 +187,5 @@ fn refused(table: &Table, number: usize) -> Option<Case<'_>> {
     case.config = config(*seats, *max_job_size);
     case.fault = *fault;
     case.is_replayed = false;
-    Some(case)
-}
-
-// Only the journal needs this much memory.
-fn without_journal(table: &Table) -> Option<Case<'_>> {
-    let mut case = Case::new(table, 0)?;
-    case.journal = usize::MAX;
-    case.fault = Some(RunFault::NoMemory);
     Some(case)
 }

@@ -63,7 +63,6 @@ fn all_groups_come_out<R: Threads + Wait + Sync>(rt: &R, alloc: Global) -> bool 
         && both_come_out(rt, alloc, Group::Broken)
         && both_come_out(rt, alloc, Group::Drained)
         && both_come_out(rt, alloc, Group::Refused)
-        && all_come_out(rt, alloc, Group::NoJournal, Engine::Lock)
 }
 
 #[test]

@@ -1,5 +1,4 @@
 //! Tests of the run around a lock and of its journal, by public functions alone.
 
-mod copies;
 mod journal;
 pub mod runs;
