@@ -7,30 +7,22 @@ use bq_scenes::control::Gives;
 use bq_scenes::drains::examples;
 use std::alloc::Global;
 
-fn at_once(drains: bool) -> &'static str {
-    if drains {
-        "put 0 0 9 1~x~ > DRAINING~"
-    } else {
-        "put 0 0 9 1~x~ > INSERTED 1~"
-    }
-}
+// A client if the control line drains: the line is read before it comes, or while it waits.
+const DRAINED: (&str, &str) = (
+    "put 0 0 9 1~x~ > DRAINING~",
+    "reserve-with-timeout 8~put 0 0 9 1~x~ > TIMED_OUT~DRAINING~",
+);
 
-fn later(drains: bool) -> &'static str {
-    if drains {
-        "reserve-with-timeout 8~put 0 0 9 1~x~ > TIMED_OUT~DRAINING~"
-    } else {
-        "reserve-with-timeout 8~put 0 0 9 1~x~ > TIMED_OUT~INSERTED 1~"
-    }
-}
+const OPEN: (&str, &str) = (
+    "put 0 0 9 1~x~ > INSERTED 1~",
+    "reserve-with-timeout 8~put 0 0 9 1~x~ > TIMED_OUT~INSERTED 1~",
+);
 
-// Returns true if a put is rejected exactly if the control line drains, whether it is read to its
-// end first, or while the client waits before its put.
+// Returns true if a put is rejected exactly if the control line drains.
 fn puts(alloc: Global, gives: &'static [Gives], drains: bool) -> bool {
-    let (first, between) = (
-        Series::Control(gives, ControlReads::ToEnd),
-        Series::Control(gives, ControlReads::Once),
-    );
-    come_out(alloc, at_once(drains), first) && come_out(alloc, later(drains), between)
+    let (first, later) = if drains { DRAINED } else { OPEN };
+    come_out(alloc, first, Series::Control(gives, ControlReads::ToEnd))
+        && come_out(alloc, later, Series::Control(gives, ControlReads::Once))
 }
 
 fn all_put(alloc: Global) -> bool {

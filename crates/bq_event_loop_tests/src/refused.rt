@@ -26,28 +26,16 @@ fn is_refused(alloc: Global, table: &Table, row: &Refused, fault: Option<TurnsFa
     }
 }
 
-// Configurations, and turns that could not be prepared. The configuration is checked first.
+// Configurations, and turns that could not be prepared.
 fn are_refused(alloc: Global, table: &Table) -> bool {
     for row in rows() {
         if !is_refused(alloc, table, row, None) {
             return false;
         }
     }
-    let no_memory = Some(TurnsFault::NoMemory);
-    let refused = Some(TurnsFault::Refused);
-    is_refused(alloc, table, &(1, 1, Some(RunFault::NoMemory)), no_memory)
-        && is_refused(
-            alloc,
-            table,
-            &(1, 1, Some(RunFault::ThreadRefused)),
-            refused,
-        )
-        && is_refused(
-            alloc,
-            table,
-            &(2, 1, Some(RunFault::BadConfiguration)),
-            refused,
-        )
+    let (no_memory, refused) = (Some(RunFault::NoMemory), Some(RunFault::ThreadRefused));
+    is_refused(alloc, table, &(1, 1, no_memory), Some(TurnsFault::NoMemory))
+        && is_refused(alloc, table, &(1, 1, refused), Some(TurnsFault::Refused))
 }
 
 #[test]
