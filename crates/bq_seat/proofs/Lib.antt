@@ -1,12 +1,7 @@
-pub mod FindLemmas
-pub mod GoingLemmas
-pub mod InTurnLemmas
 pub mod LooksLemmas
 pub mod MoveLemmas
 pub mod OpenLemmas
 pub mod OrderlyLemmas
-pub mod OutstandingLemmas
 pub mod PieceLemmas
-pub mod ReadingLemmas
 pub mod StepLemmas
 pub mod StepsSoFarLemmas

@@ -1,22 +1,27 @@
 -- What the steps and the mail of a connection imply for the machine's next action.
-use Rattle.std.proofs.Common.{◌≡◌, ℕ, ◌+◌, ◌<◌, Bool, true, false, ◌&&◌, ◌==◌, not, List, []}
-use Rattle.std.proofs.Common.{◌∷◌, ◌++◌, Some, map, length, refl, sym, ap, ◌∙◌, arith, subst}
-use Rattle.std.proofs.lemmas.{Bool.Decides.nat_tests, Grind.common_steps}
+use Rattle.std.proofs.Common.{◌≡◌, ℕ, ◌+◌, ◌<◌, Bool, true, false, ◌&&◌, ◌==◌, not, List, [], ◌∷◌, ◌++◌, Some, map, length, refl, sym, ap}
+use Rattle.std.proofs.Common.{◌∙◌, arith, subst, append-nil}
+use Rattle.std.proofs.lemmas.Bool.Decides.{nat_tests}
+use Rattle.std.proofs.lemmas.Grind.{common_steps}
+use Rattle.std.proofs.lemmas.List.{length-map}
 use Rattle.bq_job.specs.declared.request.Request.{Request}
-use Rattle.bq_job.specs.declared.request.Request.TheVariants as requests
 use Rattle.bq_job.specs.declared.step.Step.{Step}
-use Rattle.bq_job.specs.declared.step.Step.TheVariants as steps
 use Rattle.bq_job.specs.reading.Reading.{is_quit}
 use Rattle.bq_job.specs.promise.LineSteps.{ends_by_wait, wanted}
 use Rattle.bq_job.specs.declared.line_end.LineEnd.{LineEnd}
+use Rattle.bq_job.specs.declared.request.Request.TheVariants as requests
+use Rattle.bq_job.specs.declared.step.Step.TheVariants as steps
 use Rattle.bq_wire.specs.declared.reader.ReaderState.{ReaderState}
 use Rattle.bq_seat.specs.Looks.{GoesFurther, LooksBehindStep, asked_in, is_read_on, is_unanswered, last_step}
-use Rattle.bq_seat.specs.Past.{Past}
-use Rattle.bq_seat.specs.SeatStands.{HasAskedQuit, IsClosing, IsOpen, IsWaiting, end_if, has_quit}
+use Rattle.bq_seat.specs.Past.{Past, Awaited}
+use Rattle.bq_seat.specs.SeatStands.{HasAskedQuit, IsClosing, IsOpen, IsWaiting, end_if, has_quit, StandsFor, StandsInStage, awaited_at}
 use Rattle.bq_seat.specs.declared.machine.Action.{Action}
+use Rattle.bq_seat.specs.Outstanding.{ReadsWith}
+use Rattle.bq_seat.specs.declared.machine.SeatMachine.{SeatMachine}
+use Rattle.bq_seat.specs.declared.machine.Stage.{Stage}
 use Rattle.bq_seat.specs.declared.machine.Action.TheVariants as actions
-use Rattle.bq_seat.proofs.InTurnLemmas.{ends_by, wanted_joined}
-use Rattle.bq_seat.proofs.StepLemmas.{answered_count-asked, has_quit-last, map-asked}
+use Rattle.bq_seat.specs.declared.machine.Stage.TheVariants as stages
+use Rattle.bq_seat.proofs.StepLemmas.{ends_by, wanted_joined, answered_count-asked, has_quit-last, map-asked}
 
 last_step-append : (taken : List Step) (step : Step) → last_step (taken ++ step ∷ []) ≡ Some step
 last_step-append [] step = refl
@@ -101,3 +106,31 @@ read_on_is {told = told} [] w =
     let may_wait = ap (λ s. ends_by_wait (asked_in s)) o.stepped.steps_are ∙ ap ends_by_wait (asked_in-ends o.asked told) ∙ w.1 in
     rw (may_wait, o.stepped.ended_is) (grind (arith, common_steps, nat_tests))
 read_on_is (b ∷ kept) w = grind (arith, common_steps, nat_tests)
+
+-- ---- how many answers are outstanding while a connection is read
+
+-- an open connection whose end of input was not submitted
+many_steps : (reader : ReaderState) (kept : List ℕ) (told : Bool) (outstanding : ℕ) (p : Past) → told ≡ false
+    → IsOpen reader kept told outstanding p → length p.steps ≡ length p.mail + (outstanding + 1)
+many_steps reader kept told outstanding p none o =
+    let steps_are : p.steps ≡ steps.Connect ∷ map steps.Ask o.asked =
+    o.stepped.steps_are ∙ ap (λ (t : Bool). (steps.Connect ∷ map steps.Ask o.asked) ++ end_if t) none
+    ∙ append-nil (steps.Connect ∷ map steps.Ask o.asked) in
+    let many : length p.steps ≡ length (map steps.Ask o.asked) + 1 = omega (arith, ap length steps_are) in
+    omega (arith, many, length-map o.asked steps.Ask, o.handed.answered)
+
+in_stage_reads : (stage : Stage) (reader : ReaderState) (kept : List ℕ) (told : Bool) (p : Past) → (stage ≡ stages.ReadingOn → ⊥)
+    → awaited_at stage ≡ Awaited.AReading
+    → StandsInStage stage reader kept told p → length p.steps ≡ length p.mail + 1
+in_stage_reads stages.Reading reader kept told p other reads s = many_steps reader kept told 0 p s.2 s.0
+in_stage_reads stages.ReadingOn reader kept told p other reads s = absurd (other refl)
+in_stage_reads _ reader kept told p other reads s = absurd cc
+
+pub reads_alone : (m : SeatMachine) → (m.stage ≡ stages.ReadingOn → ⊥) → ReadsWith false m
+unfolding StandsFor
+reads_alone m other reads p s = in_stage_reads m.stage m.reader m.kept m.end_told p other reads s.0
+
+pub reads_with_one : (m : SeatMachine) → m.stage ≡ stages.ReadingOn → ReadsWith true m
+unfolding StandsFor
+reads_with_one m is reads p s =
+    let h = subst (λ t. StandsInStage t m.reader m.kept m.end_told p) is s.0 in many_steps m.reader m.kept m.end_told 1 p h.2 h.0.0

@@ -1,42 +1,162 @@
--- The moves of a seat machine, stage by stage.
-use Rattle.std.proofs.Common.{◌≡◌, ℕ, Bool, true, false, not, ◌&&◌, ◌==◌, List, [], Some, inl}
-use Rattle.std.proofs.Common.{inr, refl, sym, ap, subst, ◌∙◌, length, if◌then◌else◌, Bor, rules}
-use Rattle.bq_job.specs.beside.ComputedReading.{reading}
+-- The moves of a seat machine: what holds in the pasts that it represents, and how they continue.
+use Rattle.std.proofs.Common.{◌≡◌, ◌≤◌, ◌+◌, Bool, true, false, ◌||◌, List, [], ◌∷◌, ◌++◌, Some, is_some, map, length, inl, inr, refl}
+use Rattle.std.proofs.Common.{sym, ap, ◌∙◌, arith, subst, append_assoc, append-nil, ℕ, if◌then◌else◌, not, ◌&&◌, ◌==◌}
+use Rattle.std.proofs.lemmas.Bool.{or_parts}
+use Rattle.std.proofs.lemmas.Grind.{common_steps}
+use Rattle.std.proofs.lemmas.List.Folds.{list_any-append}
 use Rattle.bq_job.specs.declared.answer.Answer.{Answer}
 use Rattle.bq_job.specs.declared.line_end.LineEnd.{LineEnd}
-use Rattle.bq_job.specs.declared.line_end.LineEnd.TheVariants as ends
-use Rattle.bq_job.specs.declared.step.Step.TheVariants as steps
+use Rattle.bq_job.specs.declared.line_end.LineFault.{LineFault}
+use Rattle.bq_job.specs.declared.step.Step.{Step}
+use Rattle.bq_job.specs.promise.LineSteps.{wanted}
 use Rattle.bq_job.specs.machine.OneClient.{is_closed_answer}
-use Rattle.bq_seat.specs.Looks.{GoesFurther, LooksOn, is_read_on}
-use Rattle.bq_seat.specs.Past.{Awaited, Past, answers, awaited_by, first_past, is_stray, with_action, with_event}
-use Rattle.bq_seat.specs.SeatMoves.{IsMove}
-use Rattle.bq_seat.specs.SeatParts.{GoesOn, IfLineOver, IsStagedMove, OpensLine, ServesAll, between, holding, in_stage, reads_on}
+use Rattle.bq_job.specs.declared.step.Step.TheVariants as steps
+use Rattle.bq_job.specs.declared.line_end.LineEnd.TheVariants as ends
+use Rattle.bq_seat.specs.Finds.{Finds}
+use Rattle.bq_seat.specs.Past.{IsOrderly, Past, awaited_by, has_close, is_close, is_stray, past_after, with_action, with_event}
+use Rattle.bq_seat.specs.Past.{with_fault, with_mail, Awaited, answers, first_past}
+use Rattle.bq_seat.specs.SeatMoves.{IsMove, OpensPast}
+use Rattle.bq_seat.specs.SeatParts.{IfLineOver, IsStagedMove, OpensLine, GoesOn, ServesAll, between, in_stage, reads_on}
+use Rattle.bq_seat.specs.SeatStands.{AgreesWith, IsClosing, StandsInStage, StandsFor, awaited_at, end_if, IsOpen, awaited}
 use Rattle.bq_seat.specs.Served.{IsServed}
-use Rattle.bq_seat.specs.SeatStands.{AgreesWith, IsOpen, StandsInStage, awaited, awaited_at}
-use Rattle.bq_wire.specs.Standing.{Stands}
 use Rattle.bq_wire.specs.declared.reader.ReaderState.{ReaderState}
 use Rattle.bq_seat.specs.declared.machine.Action.{Action}
-use Rattle.bq_seat.specs.declared.machine.Action.TheVariants as actions
 use Rattle.bq_seat.specs.declared.machine.Event.{Event}
-use Rattle.bq_seat.specs.declared.machine.Event.TheVariants as events
 use Rattle.bq_seat.specs.declared.machine.SeatMachine.{SeatMachine}
 use Rattle.bq_seat.specs.declared.machine.Stage.{Stage}
+use Rattle.bq_seat.specs.Looks.{GoesFurther, LooksOn, is_read_on}
+use Rattle.bq_wire.specs.Standing.{Stands}
+use Rattle.bq_seat.specs.declared.machine.Action.TheVariants as actions
+use Rattle.bq_seat.specs.declared.machine.Event.TheVariants as events
 use Rattle.bq_seat.specs.declared.machine.Stage.TheVariants as stages
-use Rattle.bq_job.proofs.ReadsLemmas.{reading-Reads}
-use Rattle.bq_seat.proofs.FindLemmas.{is_move}
-use Rattle.bq_seat.proofs.ReadingLemmas.{none_kept}
-use Rattle.bq_seat.proofs.LooksLemmas.{answered_all, behind_close, behind_connect, behind_end}
-use Rattle.bq_seat.proofs.LooksLemmas.{behind_quit, behind_request, one_unanswered, read_on_is}
-use Rattle.bq_seat.proofs.OpenLemmas.{answered, ends_line, handed_in, handed_in_waiting, opened}
-use Rattle.bq_seat.proofs.OpenLemmas.{read_fails, served_now, still_closing, tells_end, write_fails}
+use Rattle.bq_seat.proofs.StepLemmas.{asks_at, closes_at, connects, few_missing, quits_at, tells_at, wanted_joined, none_kept}
+use Rattle.bq_seat.proofs.LooksLemmas.{wanted_open, read_on_is}
+use Rattle.bq_seat.proofs.OpenLemmas.{answered, opened, served_now, still_closing}
 
--- What a stage, an event, an action and the machine after it determine by computing.
-record Turns (s : Stage) (event : Event) (action : Action) (old next : SeatMachine) : Type 0 where
-  awaited_now : answers event (awaited_at s) ≡ true
-  awaits : awaited_by action ≡ Some (awaited next)
-  limit : next.reader.max_job_size ≡ old.reader.max_job_size
-  opened : OpensLine event action next
-  over : IfLineOver action (ServesAll (in_stage s old) event action)
+-- a connection that is being closed lacks one answer at most
+few_at_close : (end : LineEnd) (p : Past) {size : ℕ} → IsClosing size end p → wanted p.steps ≤ length p.mail + 1
+few_at_close end p h =
+    let served = h.served [] in
+    let line = served.line in
+    let few = few_missing end line.asked p.mail served.answered in
+    let more : List Step = line.end_steps ++ steps.Close ∷ [] in
+    let none : wanted more ≡ 0 = elim line.ends
+    [ inl none ↦ ap (λ t. wanted (t ++ steps.Close ∷ [])) none | inr one ↦ ap (λ t. wanted (t ++ steps.Close ∷ [])) one.0 ] in
+    let same = ap wanted (line.steps_are ∙ append_assoc (steps.Connect ∷ map steps.Ask line.asked) line.end_steps (steps.Close ∷ [])) in
+    let joined = wanted_joined (map steps.Ask line.asked) more in
+    omega arith
+
+-- The past with the event justifies the action, in the stage after it.
+found : (size : ℕ) (stage : Stage) (action : Action) (reader : ReaderState) (kept : List ℕ) (told : Bool) (q : Past)
+    → awaited_by action ≡ Some (awaited_at stage) → StandsInStage stage reader kept told (with_action action q)
+    → IfLineOver action (λ end. (written : List ℕ) → IsServed size written end q) → Finds size action q
+found size stages.Connecting (actions.Submit step) reader kept told q e h over = connects q.steps q.mail step h.2
+found size (stages.Asking waits) (actions.Submit step) reader kept told q e h over =
+    let o = h.0.0 in
+    asks_at o.asked q.steps q.mail step (o.stepped.steps_are ∙ ap (λ t. (steps.Connect ∷ map steps.Ask o.asked) ++ end_if t) h.1
+    ∙ append-nil (steps.Connect ∷ map steps.Ask o.asked)) o.handed.answered o.stepped.no_quit
+found size stages.TellingEnd (actions.Submit step) reader kept told q e h over =
+    let o = h.0.0 in
+    tells_at o.asked q.steps q.mail step (o.stepped.steps_are ∙ ap (λ t. (steps.Connect ∷ map steps.Ask o.asked) ++ end_if t) h.1)
+    o.stepped.no_quit o.handed.answered
+found size stages.AskingQuit (actions.Submit step) reader kept told q e h over = quits_at q.steps q.mail step h.2 refl refl
+found size (stages.Closing end) (actions.Submit step) reader kept told q e h over =
+    let line = (h.served []).line in
+    closes_at line.asked line.end_steps q.steps q.mail step line.steps_are
+    (elim line.ends [ inl none ↦ inl none | inr one ↦ inr one.0 ]) (few_missing end line.asked q.mail (h.served []).answered)
+found size stages.Reading actions.Read reader kept told q e h over =
+    (h.0.stepped.closing_is, h.0.stepped.ended_is ∙ h.2, h.0.handed.fault_is)
+found size stages.ReadingOn actions.Read reader kept told q e h over =
+    (h.0.0.stepped.closing_is, h.0.0.stepped.ended_is ∙ h.2, h.0.0.handed.fault_is)
+found size (stages.Polling waits) actions.PollMail reader kept told q e h over = let w = wanted_open h.0 in omega arith
+found size (stages.Leaving end) actions.PollMail reader kept told q e h over = few_at_close end q h
+found size stages.Writing (actions.Write answer) reader kept told q e h over = (h.0.stepped.closing_is, h.0.handed.fault_is)
+found size stage (actions.LineOver end) reader kept told q e h over = over
+found size stage actions.Stray reader kept told q e h over = tt
+found size _ _ reader kept told q e h over = absurd cc
+
+-- ---- pasts stay orderly
+
+closes_joined : (taken : List Step) (step : Step) → has_close (taken ++ step ∷ []) ≡ (has_close taken || is_close step)
+closes_joined taken step = grind (arith, common_steps, list_any-append)
+
+orderly_with_mail : (answer : Answer) (p : Past) → IsOrderly p → IsOrderly (with_mail answer p)
+orderly_with_mail answer p o = go p.closing refl
+  where
+    go : (b : Bool) → p.closing ≡ b → IsOrderly
+        (if b then record p { late_mail = p.late_mail ++ answer ∷ [] } else record p { mail = p.mail ++ answer ∷ [] })
+    go true e = record { closing = o.closing; late = λ f. absurd (let g : true ≡ false = sym e ∙ f in cc) }
+    go false e = record { closing = o.closing; late = o.late }
+
+orderly_with_fault : (fault : LineFault) (p : Past) → IsOrderly p → IsOrderly (with_fault fault p)
+orderly_with_fault fault p o = go (is_some p.fault)
+  where
+    go : (b : Bool) → IsOrderly (if b then p else record p { fault = Some fault; written_at_fault = length p.written })
+    go true = o
+    go false = record { closing = o.closing; late = o.late }
+
+orderly_with_event : (event : Event) (p : Past) → IsOrderly p → IsOrderly (with_event event p)
+orderly_with_event events.Opened p o = record { closing = refl; late = λ e. refl }
+orderly_with_event events.ReadFault p o = orderly_with_fault _ p o
+orderly_with_event (events.Mail answer) p o = orderly_with_mail answer p o
+orderly_with_event events.WriteFault p o = orderly_with_fault _ p o
+orderly_with_event _ p o = record { closing = o.closing; late = o.late }
+
+orderly_with_action : (action : Action) (p : Past) → IsOrderly p → IsOrderly (with_action action p)
+orderly_with_action (actions.Submit step) p o = record {
+  closing = ap (λ b. b || is_close step) o.closing ∙ sym (closes_joined p.steps step);
+  late = λ e. o.late (or_parts p.closing (is_close step) e).0;
+}
+orderly_with_action _ p o = record { closing = o.closing; late = o.late }
+
+orderly_after : (event : Event) (action : Action) (p : Past) → IsOrderly p → IsOrderly (past_after event action p)
+orderly_after event action p o = go (is_stray action)
+  where
+    go : (b : Bool) → IsOrderly (if b then p else with_action action (with_event event p))
+    go true = o
+    go false = orderly_with_action action (with_event event p) (orderly_with_event event p o)
+
+opens_past : (event : Event) (action : Action) (new : SeatMachine) → OpensLine event action new → OpensPast event action new
+unfolding StandsFor
+opens_past events.Opened action new h = λ e. ((h e).0, ((h e).1, record { closing = refl; late = λ f. refl }))
+opens_past _ action new h = tt
+
+over_at : (old : SeatMachine) (event : Event) (action : Action) (p : Past) → AgreesWith old p
+    → IfLineOver action (λ end. (q : Past) → AgreesWith old q → (written : List ℕ)
+    → IsServed old.reader.max_job_size written end (past_after event action q))
+    → IfLineOver action (λ end. (written : List ℕ) → IsServed old.reader.max_job_size written end (with_event event p))
+over_at old event (actions.LineOver end) p h over = over p h
+over_at old event _ p h over = tt
+
+pub is_move : (old : SeatMachine) (event : Event) (action : Action) (new : SeatMachine) → IsStagedMove old event action new
+    → IsMove old event action new
+unfolding StandsFor
+is_move old event action new m = record {
+  stray = m.stray;
+  unchanged = m.unchanged;
+  awaits = m.awaits;
+  limit = m.limit;
+  opened = opens_past event action new m.opened;
+  past = λ p h. (m.past p h.0, orderly_after event action p h.1);
+  finds = λ e p h. found old.reader.max_job_size new.stage action new.reader new.kept new.end_told (with_event event p) (m.awaits e)
+      (subst (λ b. AgreesWith new (if b then p else with_action action (with_event event p))) e (m.past p h.0))
+      (over_at old event action p h.0 m.over);
+  looks = λ e p h. m.looks e p h.0;
+}
+
+-- A move by an event is one by an equal event.
+pub moves_by : (old : SeatMachine) (event same : Event) (action : Action) (new : SeatMachine) → event ≡ same
+    → IsMove old same action new → IsMove old event action new
+moves_by old event same action new e m = subst (λ (v : Event). IsMove old v action new) (sym e) m
+
+-- ---- the move of a machine in a stage
+
+-- What computing shows of a move in this stage: the event is awaited, what is awaited next answers the action, the limit on bodies
+-- stays, and how a connection is opened or ends.
+abbrev pub Turns : Stage → Event → Action → SeatMachine → SeatMachine → Type 0
+Turns s event action old next = (answers event (awaited_at s) ≡ true) × (awaited_by action ≡ Some (awaited next))
+    × (next.reader.max_job_size ≡ old.reader.max_job_size)
+    × OpensLine event action next × IfLineOver action (ServesAll (in_stage s old) event action)
 
 is_not_stray : (action : Action) (what : Awaited) → awaited_by action ≡ Some what → is_stray action ≡ false
 is_not_stray actions.Stray what e = cc
@@ -44,22 +164,22 @@ is_not_stray _ what e = refl
 
 -- The move of a machine in this stage. It remains to show how the connection's past goes on, and
 -- why the machine does this next.
-turn : {s : Stage} {event : Event} {action other : Action} {old new next : SeatMachine} → old.stage ≡ s → action ≡ other → new ≡ next
+pub turn : {s : Stage} {event : Event} {action other : Action} {old new next : SeatMachine} → old.stage ≡ s → action ≡ other → new ≡ next
     → Turns s event other old next
     → ((p : Past) → StandsInStage s old.reader old.kept old.end_told p → AgreesWith next (with_action other (with_event event p)))
     → ((p : Past) → StandsInStage s old.reader old.kept old.end_told p → LooksOn (awaited_at s) old.kept event p other)
     → IsMove old event action new
 turn {s} {event} {action} {other} {old} {new} {next} at does is t past looks =
-    let plain = is_not_stray other (awaited next) t.awaits in
+    let plain = is_not_stray other (awaited next) t.1 in
     let P : Stage → Type 0 = λ x. IsStagedMove (in_stage x old) event other next in
     rw (does, is) (is_move old event other next (subst P (sym at) (record {
-      stray = plain ∙ sym (ap not t.awaited_now);
+      stray = plain ∙ sym (ap not t.0);
       unchanged = λ e. cc;
-      awaits = λ e. t.awaits;
-      limit = t.limit;
-      opened = t.opened;
+      awaits = λ e. t.1;
+      limit = t.2;
+      opened = t.3;
       past = λ p h. subst (λ b. AgreesWith next (if b then p else with_action other (with_event event p))) (sym plain) (past p h);
-      over = t.over;
+      over = t.4;
       looks = λ e. looks;
     })))
 
@@ -74,151 +194,60 @@ all_three true false kept e = (refl, refl, none_kept kept e)
 all_three true true kept e = cc
 all_three false told kept e = cc
 
-module _ (m new : SeatMachine) (action : Action) where
-  -- No answer is outstanding after the event, and the machine continues after it from `mid`.
-  goes_on : (mid : SeatMachine) (event : Event) (s : Stage) → m.stage ≡ s → answers event (awaited_at s) ≡ true
-      → OpensLine event action new → mid.reader.max_job_size ≡ m.reader.max_job_size
-      → ((p : Past) → StandsInStage s m.reader m.kept m.end_told p → IsOpen mid.reader mid.kept mid.end_told 0 (with_event event p))
-      → ((p : Past) → StandsInStage s m.reader m.kept m.end_told p → LooksOn (awaited_at s) m.kept event p action)
-      → GoesOn mid action new → IsMove m event action new
-  goes_on mid event s at answered opened same begins looks g = turn at refl refl (record {
-    awaited_now = answered;
-    awaits = g.awaits;
-    limit = g.limit ∙ same;
-    opened = opened;
-    over = going_not_over action _ g.further;
-  }) (λ p h. g.past (with_event event p) (begins p h)) looks
+-- No answer is outstanding after the event, and the machine continues after it from `mid`.
+pub goes_on : {s : Stage} {event : Event} {action : Action} {old new : SeatMachine} (mid : SeatMachine) → old.stage ≡ s
+    → answers event (awaited_at s) ≡ true → OpensLine event action new → mid.reader.max_job_size ≡ old.reader.max_job_size
+    → ((p : Past) → StandsInStage s old.reader old.kept old.end_told p → IsOpen mid.reader mid.kept mid.end_told 0 (with_event event p))
+    → ((p : Past) → StandsInStage s old.reader old.kept old.end_told p → LooksOn (awaited_at s) old.kept event p action)
+    → GoesOn mid action new → IsMove old event action new
+goes_on {event = event} {action = action} mid at answered opened same begins looks g =
+    turn at refl refl (answered, g.awaits, g.limit ∙ same, opened, going_not_over action _ g.further)
+    (λ p h. g.past (with_event event p) (begins p h)) looks
 
-  -- the connect was submitted
-  pub submitted_connect : m.stage ≡ stages.Connecting → GoesOn m action new → IsMove m events.Submitted action new
-  submitted_connect at g = goes_on m events.Submitted stages.Connecting at refl tt refl (λ p h. h.0)
-      (λ p h. behind_connect p action h.2 g.further) g
+-- the machine itself, in the stage that it is in
+pub stays : {m new : SeatMachine} {s : Stage} → m.stage ≡ s → new ≡ m → new ≡ in_stage s m
+stays {m} at is = is ∙ ap (λ s. in_stage s m) at
 
-  -- a request was submitted, and its answer is awaited
-  pub submitted_asking : (waits : Bool) → m.stage ≡ stages.Asking waits → action ≡ actions.PollMail
-      → new ≡ in_stage (stages.Polling waits) m → IsMove m events.Submitted action new
-  submitted_asking waits at does is = turn at does is (search rules) (λ p h. h.0) (λ p h. behind_request h.0.0 h.1)
+-- No answer has come. The connection is read if a reserve waits.
+pub nothing_in_polling : (m new : SeatMachine) (action : Action) (waits : Bool) → m.stage ≡ stages.Polling waits
+    → action ≡ (if reads_on waits m then actions.Read else actions.PollMail)
+    → new ≡ (if reads_on waits m then in_stage stages.ReadingOn m else m) → IsMove m events.NothingYet action new
+nothing_in_polling m new action waits at = go (reads_on waits m) refl
+  where
+    looks : (p : Past) → StandsInStage (stages.Polling waits) m.reader m.kept m.end_told p
+        → (not p.closing && is_read_on m.kept p) ≡ reads_on waits m
+    looks p h = ap (λ b. not b && is_read_on m.kept p) h.0.stepped.closing_is ∙ read_on_is m.kept h
 
-  pub submitted_end : m.stage ≡ stages.TellingEnd → action ≡ actions.PollMail → new ≡ in_stage (stages.Polling true) m
-      → IsMove m events.Submitted action new
-  submitted_end at does is = turn at does is (search rules) (λ p h. h.0) (λ p h. behind_end h.0.0 h.1)
+    go : (on : Bool) → reads_on waits m ≡ on → action ≡ (if on then actions.Read else actions.PollMail)
+        → new ≡ (if on then in_stage stages.ReadingOn m else m) → IsMove m events.NothingYet action new
+    go true e does is = let all = all_three waits m.end_told m.kept e in
+        turn at does is (refl, refl, refl, tt, tt) (λ p h. ((h.0, h.1 ∙ all.0), all.2, all.1)) (λ p h. rw (looks p h, e) refl)
+    go false e does is = turn at does (stays at is) (refl, refl, refl, tt, tt) (λ p h. h) (λ p h. rw (looks p h, e) refl)
 
-  pub submitted_quit : m.stage ≡ stages.AskingQuit → action ≡ actions.Submit steps.Close → new ≡ in_stage (stages.Closing ends.Quit) m
-      → IsMove m events.Submitted action new
-  submitted_quit at does is = turn at does is (search rules) (λ p h. h.1) (λ p h. behind_quit p h.2)
+-- An answer comes after the close: the close's own answer ends the connection, and the reader is
+-- restarted.
+pub mail_in_leaving : (m new : SeatMachine) (action : Action) (next : ReaderState) (end : LineEnd) (answer : Answer)
+    → m.stage ≡ stages.Leaving end → next.max_job_size ≡ m.reader.max_job_size
+    → action ≡ (if is_closed_answer answer then actions.LineOver end else actions.PollMail)
+    → new ≡ (if is_closed_answer answer then between next m else m) → IsMove m (events.Mail answer) action new
+mail_in_leaving m new action next end answer at same = go (is_closed_answer answer) refl
+  where
+    served : is_closed_answer answer ≡ true → (size : ℕ) → size ≡ m.reader.max_job_size → (p : Past)
+        → StandsInStage (stages.Leaving end) m.reader m.kept m.end_told p → (written : List ℕ)
+        → IsServed size written end (with_event (events.Mail answer) p)
+    served own size is p h written = rw is (served_now m.reader.max_job_size end p answer h own written)
 
-  pub submitted_close : (end : LineEnd) → m.stage ≡ stages.Closing end → action ≡ actions.PollMail → new ≡ in_stage (stages.Leaving end) m
-      → IsMove m events.Submitted action new
-  submitted_close end at does is = turn at does is (search rules) (λ p h. h) (λ p h. behind_close m.reader.max_job_size end p h)
-
-  -- bytes come while the connection is read and no answer is outstanding
-  pub bytes_in_reading : (bytes : Bor (List ℕ)) → m.stage ≡ stages.Reading → GoesOn (holding bytes.now m) action new
-      → IsMove m (events.Bytes bytes) action new
-  bytes_in_reading bytes at g = goes_on (holding bytes.now m) (events.Bytes bytes) stages.Reading at refl tt refl
-      (λ p h. handed_in bytes.now h.0 h.1 h.2) (λ p h. rw (answered_all h.0) g.further) g
-
-  -- bytes come while a reserve waits
-  pub bytes_in_reading_on : (bytes : Bor (List ℕ)) (kept : List ℕ) → m.stage ≡ stages.ReadingOn → kept ≡ bytes.now
-      → action ≡ actions.PollMail → new ≡ in_stage (stages.Polling true) (holding kept m) → IsMove m (events.Bytes bytes) action new
-  bytes_in_reading_on bytes kept at same does is = turn at does is (search rules)
-      (λ p h. rw same (handed_in_waiting bytes.now h.0 h.1 h.2)) (λ p h. rw (one_unanswered h.0.0) refl)
-
-  -- there was nothing to read, and no answer is outstanding
-  pub nothing_in_reading : m.stage ≡ stages.Reading → action ≡ actions.Read → new ≡ m → IsMove m events.NothingYet action new
-  nothing_in_reading at does is = turn at does (is ∙ ap (λ s. in_stage s m) at) (search rules) (λ p h. h)
-      (λ p h. rw (answered_all h.0) refl)
-
-  -- there was nothing to read while a reserve waits
-  pub nothing_in_reading_on : m.stage ≡ stages.ReadingOn → action ≡ actions.PollMail → new ≡ in_stage (stages.Polling true) m
-      → IsMove m events.NothingYet action new
-  nothing_in_reading_on at does is = turn at does is (search rules) (λ p h. h.0) (λ p h. rw (one_unanswered h.0.0) refl)
-
-  -- No answer has come. The connection is read if a reserve waits.
-  pub nothing_in_polling : (waits : Bool) → m.stage ≡ stages.Polling waits
-      → action ≡ (if reads_on waits m then actions.Read else actions.PollMail)
-      → new ≡ (if reads_on waits m then in_stage stages.ReadingOn m else m) → IsMove m events.NothingYet action new
-  nothing_in_polling waits at = go (reads_on waits m) refl
-    where
-      looks : (p : Past) → StandsInStage (stages.Polling waits) m.reader m.kept m.end_told p
-          → (not p.closing && is_read_on m.kept p) ≡ reads_on waits m
-      looks p h = ap (λ b. not b && is_read_on m.kept p) h.0.stepped.closing_is ∙ read_on_is m.kept h
-
-      go : (on : Bool) → reads_on waits m ≡ on → action ≡ (if on then actions.Read else actions.PollMail)
-          → new ≡ (if on then in_stage stages.ReadingOn m else m) → IsMove m events.NothingYet action new
-      go true e does is = let all = all_three waits m.end_told m.kept e in
-          turn at does is (search rules) (λ p h. ((h.0, h.1 ∙ all.0), all.2, all.1)) (λ p h. rw (looks p h, e) refl)
-      go false e does is = turn at does (is ∙ ap (λ s. in_stage s m) at) (search rules) (λ p h. h) (λ p h. rw (looks p h, e) refl)
-
-  -- no mail has come since the close
-  pub nothing_in_leaving : (end : LineEnd) → m.stage ≡ stages.Leaving end → action ≡ actions.PollMail → new ≡ m
-      → IsMove m events.NothingYet action new
-  nothing_in_leaving end at does is = turn at does (is ∙ ap (λ s. in_stage s m) at) (search rules) (λ p h. h)
-      (λ p h. rw h.closing_is refl)
-
-  -- the end of input while the connection is read and no answer is outstanding
-  pub end_in_reading : m.stage ≡ stages.Reading → action ≡ actions.Submit steps.Close
-      → new ≡ in_stage (stages.Closing ends.EndOfInput) m → IsMove m events.EndOfInput action new
-  end_in_reading at does is = turn at does is (search rules) (λ p h. ends_line h.0 true refl h.1 refl) (λ p h. rw (answered_all h.0) refl)
-
-  -- the end of input while a reserve waits
-  pub end_in_reading_on : m.stage ≡ stages.ReadingOn → action ≡ actions.Submit steps.End
-      → new ≡ record m { stage = stages.TellingEnd; end_told = true } → IsMove m events.EndOfInput action new
-  end_in_reading_on at does is = turn at does is (search rules) (λ p h. (tells_end h.0 h.1 h.2, refl))
-      (λ p h. rw (one_unanswered h.0.0) refl)
-
-  -- a read fails
-  pub fault_in_reading : m.stage ≡ stages.Reading → action ≡ actions.Submit steps.Close
-      → new ≡ in_stage (stages.Closing ends.ReadFault) m → IsMove m events.ReadFault action new
-  fault_in_reading at does is = turn at does is (search rules) (λ p h. read_fails h.0 h.1 (inl refl)) (λ p h. refl)
-
-  pub fault_in_reading_on : m.stage ≡ stages.ReadingOn → action ≡ actions.Submit steps.Close
-      → new ≡ in_stage (stages.Closing ends.ReadFault) m → IsMove m events.ReadFault action new
-  fault_in_reading_on at does is = turn at does is (search rules) (λ p h. read_fails h.0.0 h.1 (inr (refl, h.0.1))) (λ p h. refl)
-
-  -- the outstanding answer came
-  pub mail_in_polling : (waits : Bool) (answer : Answer) → m.stage ≡ stages.Polling waits → action ≡ actions.Write answer
-      → new ≡ in_stage stages.Writing m → IsMove m (events.Mail answer) action new
-  mail_in_polling waits answer at does is = turn at does is (search rules) (λ p h. answered answer h)
-      (λ p h. rw h.0.stepped.closing_is refl)
-
-  -- An answer comes after the close: the close's own answer ends the connection, and the reader is
-  -- restarted.
-  pub mail_in_leaving : (next : ReaderState) (end : LineEnd) (answer : Answer) → m.stage ≡ stages.Leaving end
-      → next.max_job_size ≡ m.reader.max_job_size
-      → action ≡ (if is_closed_answer answer then actions.LineOver end else actions.PollMail)
-      → new ≡ (if is_closed_answer answer then between next m else m) → IsMove m (events.Mail answer) action new
-  mail_in_leaving next end answer at same = go (is_closed_answer answer) refl
-    where
-      served : is_closed_answer answer ≡ true → (size : ℕ) → size ≡ m.reader.max_job_size → (p : Past)
-          → StandsInStage (stages.Leaving end) m.reader m.kept m.end_told p → (written : List ℕ)
-          → IsServed size written end (with_event (events.Mail answer) p)
-      served own size is p h written = rw is (served_now m.reader.max_job_size end p answer h own written)
-
-      go : (own : Bool) → is_closed_answer answer ≡ own → action ≡ (if own then actions.LineOver end else actions.PollMail)
-          → new ≡ (if own then between next m else m) → IsMove m (events.Mail answer) action new
-      go true e does is = turn at does is
-          (record { awaited_now = refl; awaits = refl; limit = same; opened = tt; over = served e m.reader.max_job_size refl })
-          (λ p h. (end, served e next.max_job_size same p h)) (λ p h. rw (h.closing_is, e) tt)
-      go false e does is = turn at does (is ∙ ap (λ s. in_stage s m) at) (search rules)
-          (λ p h. still_closing m.reader.max_job_size end p answer h e) (λ p h. rw (h.closing_is, e) refl)
-
-  -- an answer was written
-  pub wrote : m.stage ≡ stages.Writing → GoesOn m action new → IsMove m events.WriteDone action new
-  wrote at g = goes_on m events.WriteDone stages.Writing at refl tt refl (λ p h. h.0) (λ p h. g.further) g
-
-  -- A write fails. The unsubmitted rest of the text has a reading too.
-  pub fault_in_writing : m.stage ≡ stages.Writing → action ≡ actions.Submit steps.Close
-      → new ≡ in_stage (stages.Closing ends.WriteFault) m → IsMove m events.WriteFault action new
-  fault_in_writing at does is = turn at does is (search rules)
-      (λ p h. write_fails h.0 refl h.1
-      (λ text. let all = reading m.reader.max_job_size text in (all.0, all.1, reading-Reads m.reader.max_job_size text)))
-      (λ p h. refl)
+    go : (own : Bool) → is_closed_answer answer ≡ own → action ≡ (if own then actions.LineOver end else actions.PollMail)
+        → new ≡ (if own then between next m else m) → IsMove m (events.Mail answer) action new
+    go true e does is = turn at does is (refl, refl, same, tt, served e m.reader.max_job_size refl)
+        (λ p h. (end, served e next.max_job_size same p h)) (λ p h. rw (h.closing_is, e) tt)
+    go false e does is = turn at does (stays at is) (refl, refl, refl, tt, tt)
+        (λ p h. still_closing m.reader.max_job_size end p answer h e) (λ p h. rw (h.closing_is, e) refl)
 
 -- a connection is opened
-pub opens : (m new : SeatMachine) → m.stage ≡ stages.Between → new.stage ≡ stages.Connecting → new.end_told ≡ false
-    → Stands new.reader [] → new.reader.max_job_size ≡ m.reader.max_job_size → new.kept ≡ []
-    → IsMove m events.Opened (actions.Submit steps.Connect) new
-opens m new at connects untold stands same none =
+pub opens : (m new : SeatMachine) (action : Action) → m.stage ≡ stages.Between → action ≡ actions.Submit steps.Connect
+    → new.stage ≡ stages.Connecting → new.end_told ≡ false → Stands new.reader [] → new.reader.max_job_size ≡ m.reader.max_job_size
+    → new.kept ≡ [] → IsMove m events.Opened action new
+opens m new action at does connects untold stands same none =
     let begun : AgreesWith new first_past = rw (connects, untold, none) (opened new.reader stands) in
-    turn at refl refl (record { awaited_now = refl; awaits = rw connects refl; limit = same; opened = λ e. (refl, begun); over = tt })
-    (λ p h. begun) (λ p h. refl)
+    turn at does refl (refl, rw connects refl, same, (λ e. (refl, begun)), tt) (λ p h. begun) (λ p h. refl)

@@ -1,32 +1,38 @@
 -- What happens to a connection that is open.
-use Rattle.std.proofs.Common.{◌≡◌, ℕ, ◌<◌, Bool, true, false, ◌||◌, List, []}
-use Rattle.std.proofs.Common.{◌∷◌, ◌++◌, ◌⊎◌, inl, inr, Option, Some, refl, sym, ap}
-use Rattle.std.proofs.Common.{subst, ◌∙◌, append_assoc, append-nil, map, length, arith, length-append, rules, take, drop, take-append-drop}
-use Rattle.std.proofs.lemmas.{Grind.common_steps, List.Folds.list_any-append}
+use Rattle.std.proofs.Common.{◌≡◌, ℕ, ◌<◌, Bool, true, false, ◌||◌, List, [], ◌∷◌, ◌++◌, ◌⊎◌, inl, inr, Option, Some, refl, sym, ap}
+use Rattle.std.proofs.Common.{subst, ◌∙◌, append_assoc, append-nil, map, length, arith, length-append, rules, take, drop}
+use Rattle.std.proofs.Common.{take-append-drop, ◌==◌}
+use Rattle.std.proofs.lemmas.Grind.{common_steps}
+use Rattle.std.proofs.lemmas.List.Folds.{list_any-append}
 use Rattle.std.proofs.Math.Bool.{or-true}
+use Rattle.std.proofs.lemmas.List.{drop_all}
 use Rattle.bq_job.specs.declared.answer.Answer.{Answer}
 use Rattle.bq_job.specs.declared.answer.Answer.TheVariants.{Closed}
 use Rattle.bq_job.specs.declared.line_end.LineEnd.{LineEnd}
-use Rattle.bq_job.specs.declared.line_end.LineEnd.TheVariants as ends
 use Rattle.bq_job.specs.declared.line_end.LineFault.{LineFault}
-use Rattle.bq_job.specs.declared.line_end.LineFault.TheVariants as faults
 use Rattle.bq_job.specs.declared.request.Request.{Request}
-use Rattle.bq_job.specs.declared.request.Request.TheVariants as requests
-use Rattle.bq_job.specs.declared.step.Step.TheVariants as steps
 use Rattle.bq_job.specs.reading.Reading.{Reads, AreUnits, IsUnit, is_quit}
 use Rattle.bq_job.specs.promise.LineSteps.{AreAllAnswered, IsOverBy, MayTellEnd, answered_count, is_waiting_request, ends_by_wait}
 use Rattle.bq_job.specs.machine.OneClient.{has_closed, is_closed_answer}
-use Rattle.bq_seat.specs.Past.{Past, with_action, with_mail, with_fault, first_past}
+use Rattle.bq_job.specs.declared.line_end.LineEnd.TheVariants as ends
+use Rattle.bq_job.specs.declared.line_end.LineFault.TheVariants as faults
+use Rattle.bq_job.specs.declared.request.Request.TheVariants as requests
+use Rattle.bq_job.specs.declared.step.Step.TheVariants as steps
+use Rattle.bq_job.proofs.ReadsLemmas.{Reads-quit}
+use Rattle.bq_job.proofs.UnitsLemmas.{AreUnits-append, ends_by_quit-append}
+use Rattle.bq_seat.specs.Past.{Past, with_action, with_mail, with_fault, first_past, Awaited}
 use Rattle.bq_seat.specs.Served.{IsFaultOf, IsLastBroken, IsServed, IsServedToClose}
-use Rattle.bq_seat.specs.SeatStands.{IsClosing, IsOpen, IsWaiting, StandsInStage, end_if}
-use Rattle.bq_wire.specs.Standing.{Stands, Waits}
+use Rattle.bq_seat.specs.SeatStands.{IsClosing, IsOpen, IsWaiting, StandsInStage, end_if, awaited_at}
+use Rattle.bq_wire.specs.Standing.{Stands, Waits, HandsRequest}
 use Rattle.bq_wire.specs.declared.reader.ReaderState.{ReaderState}
+use Rattle.bq_seat.specs.SeatParts.{AsksOrReads, GoesOn, IsTaken, asking_stage, holding, in_stage}
+use Rattle.bq_wire.specs.declared.reader.Taken.{Taken}
+use Rattle.bq_seat.specs.declared.machine.Action.{Action}
+use Rattle.bq_seat.specs.declared.machine.SeatMachine.{SeatMachine}
 use Rattle.bq_seat.specs.declared.machine.Action.TheVariants as actions
 use Rattle.bq_seat.specs.declared.machine.Stage.TheVariants as stages
-use Rattle.bq_job.proofs.{ReadsLemmas.Reads-quit, UnitsLemmas.{AreUnits-append, ends_by_quit-append}}
-use Rattle.bq_seat.proofs.ReadingLemmas.{BeginsNoUnit-[], Reads-after, Reads-begun}
-use Rattle.bq_seat.proofs.StepLemmas.{answered_count-asked, answered_count-quit, ends_by_wait-asked, has_quit-asked}
-use Rattle.bq_seat.proofs.StepLemmas.{map-asked, no_quit_last, some_asked}
+use Rattle.bq_seat.proofs.StepLemmas.{BeginsNoUnit-[], Reads-after, Reads-begun, none_kept, answered_count-asked, answered_count-quit}
+use Rattle.bq_seat.proofs.StepLemmas.{ends_by_wait-asked, has_quit-asked, map-asked, no_quit_last, some_asked}
 
 -- a connection is opened
 pub opened : (r : ReaderState) → Stands r [] → StandsInStage stages.Connecting r [] false first_past
@@ -287,3 +293,65 @@ module _ (size : ℕ) (end : LineEnd) (p : Past) (a : Answer) (c : IsClosing siz
     to_close = served_still written;
     late = record { others = p.late_mail; late_is = ap (λ x. p.late_mail ++ x ∷ []) (closed_itself a own); none_closed = c.unclosed };
   })
+
+-- ---- a machine that continues while no answer is outstanding
+
+-- the end of the input was submitted, so the connection is closed, whatever is kept
+pub goes_told : (m new : SeatMachine) (action : Action) (kept : List ℕ) → m.end_told ≡ true → action ≡ actions.Submit steps.Close
+    → new ≡ in_stage (stages.Closing ends.EndOfInput) m → GoesOn (holding kept m) action new
+goes_told m new action kept told does is = rw (does, is) (record {
+  further = tt;
+  awaits = refl;
+  limit = refl;
+  past = λ p o. ends_line o p.ended refl (o.stepped.told_well told).1 (o.stepped.ended_is ∙ told);
+})
+
+-- nothing is kept, so the connection is read
+pub goes_reading : (m new : SeatMachine) (action : Action) → m.end_told ≡ false → (length m.kept == 0) ≡ true → action ≡ actions.Read
+    → new ≡ in_stage stages.Reading m → GoesOn m action new
+goes_reading m new action untold empty does is = rw (does, is) (record {
+  further = tt;
+  awaits = refl;
+  limit = refl;
+  past = λ p o. (o, none_kept m.kept empty, untold);
+})
+
+-- The reader has returned a request from these bytes, and it is submitted.
+asking : (m : SeatMachine) (bytes : List ℕ) (next : ReaderState) (n : ℕ) (q : Request) → next.max_job_size ≡ m.reader.max_job_size
+    → ((text : List ℕ) → Stands m.reader text → HandsRequest next text bytes n q) → (p : Past) → IsOpen m.reader bytes false 0 p
+    → StandsInStage (asking_stage q) next (drop n bytes) false (with_action (actions.Submit (steps.Ask q)) p)
+asking m bytes next n requests.Quit same fed p o = quits m.reader next bytes n p o same (fed o.read.begun o.read.stands).unit
+asking m bytes next n q same fed p o = let out = fed o.read.begun o.read.stands in
+    (asks m.reader next bytes n q p o same out.unit out.next refl, refl)
+
+submits : (q : Request) → Some Awaited.ASubmission ≡ Some (awaited_at (asking_stage q))
+submits requests.Quit = refl
+submits _ = refl
+
+-- The reader has taken these bytes. Its request is submitted if there is one; otherwise the connection is read.
+pub goes_taken : (m new : SeatMachine) (bytes : List ℕ) (next : ReaderState) (taken : Taken) (kept : List ℕ) (q : Request) (action : Action)
+    → m.end_told ≡ false → kept ≡ drop taken.count bytes → IsTaken m.reader next bytes taken q
+    → AsksOrReads taken.is_request q (record m { reader = next; kept = kept }) action new → GoesOn (holding bytes m) action new
+goes_taken m new bytes next taken kept q action untold kept_is t further = go taken.is_request refl further
+  where
+    go : (b : Bool) → taken.is_request ≡ b → AsksOrReads b q (record m { reader = next; kept = kept }) action new
+        → GoesOn (holding bytes m) action new
+    go true e f = rw (f.0, f.1) (record {
+      further = tt;
+      awaits = submits q;
+      limit = t.limit;
+      past = λ p o. rw (kept_is, untold)
+          (asking m bytes next taken.count q t.limit (rw e at t.hands_out) p (subst (λ t. IsOpen m.reader bytes t 0 p) untold o));
+    })
+    go false e f = rw (f.0, f.1) (record {
+      further = tt;
+      awaits = refl;
+      limit = t.limit;
+      past = λ p o.
+          let waits = t.waits (rw e refl) in
+          let none : kept ≡ [] = kept_is ∙ drop_all taken.count bytes (omega (arith, (waits o.read.begun o.read.stands).all)) in (
+            rw (none, untold) (waited m.reader next bytes taken.count p (subst (λ t. IsOpen m.reader bytes t 0 p) untold o) t.limit waits),
+            none,
+            untold,
+          );
+    })

@@ -1,11 +1,11 @@
 -- The room for a piece of bytes.
-use Rattle.std.proofs.Common.{◌≡◌, ◌≤◌, ◌+◌, ℕ, List, ◌⊎◌, inl, inr, arith, length}
-use Rattle.bq_seat.specs.Pieces.{HasRoomFor, HasRoomIn, missing_if}
+use Rattle.std.proofs.Common.{◌≡◌, ◌≤◌, ◌+◌, ℕ, List, inl, inr, arith, length}
+use Rattle.bq_seat.specs.Pieces.{HasRoomFor, HasRoomIn}
 use Rattle.bq_seat.specs.declared.machine.SeatMachine.{SeatMachine}
-use Rattle.bq_seat.specs.declared.machine.Stage.TheVariants as stages
 use Rattle.bq_seat.specs.declared.machine.TheConstants.{PIECE_ROOM}
 use Rattle.bq_wire.specs.Standing.{TakesMissing}
 use Rattle.bq_wire.specs.declared.reader.ReaderPlace.{ReaderPlace}
+use Rattle.bq_seat.specs.declared.machine.Stage.TheVariants as stages
 
 -- while the connection is read, the reader's body counts
 pub room_to_read : (m : SeatMachine) (count : ℕ) → m.stage ≡ stages.Reading → HasRoomFor m count → HasRoomIn m.reader.place count

@@ -1,12 +1,24 @@
 -- The steps of a connection, as requests are submitted one after another.
-use Rattle.std.proofs.Common.{◌≡◌, ◌≢◌, ◌+◌, ◌<◌, false, List, [], ◌∷◌, ◌++◌, refl, ap, ◌∙◌, map, length, arith, not, IsTrue}
-use Rattle.std.proofs.lemmas.{Bool.or_parts, Grind.common_steps, List.Folds.list_any-append}
-use Rattle.bq_job.specs.reading.Reading.{is_quit, ends_by_quit}
-use Rattle.bq_job.specs.promise.LineSteps.{answered_count, is_waiting_request, ends_by_wait}
+use Rattle.std.proofs.Common.{◌≡◌, ◌≢◌, ◌+◌, ◌<◌, false, List, [], ◌∷◌, ◌++◌, refl, ap, ◌∙◌, map, length, arith, not, IsTrue, ◌==◌, ℕ}
+use Rattle.std.proofs.Common.{true, inr, append_assoc, append-nil, subst, sym, inl, ◌⊎◌, ◌≤◌}
+use Rattle.std.proofs.lemmas.Bool.{or_parts}
+use Rattle.std.proofs.lemmas.Grind.{common_steps}
+use Rattle.std.proofs.lemmas.List.Folds.{list_any-append}
+use Rattle.std.proofs.lemmas.Bool.Decides.{nat_tests}
+use Rattle.std.proofs.lemmas.List.{length-append}
+use Rattle.bq_job.specs.reading.Reading.{is_quit, ends_by_quit, Reads, AreUnits, BeginsNoUnit}
+use Rattle.bq_job.specs.promise.LineSteps.{answered_count, is_waiting_request, ends_by_wait, AreAllAnswered, wanted}
 use Rattle.bq_job.specs.declared.request.Request.{Request}
+use Rattle.bq_job.specs.declared.line_end.LineEnd.{LineEnd}
+use Rattle.bq_job.specs.declared.step.Step.{Step}
+use Rattle.bq_job.specs.declared.answer.Answer.{Answer}
 use Rattle.bq_job.specs.declared.request.Request.TheVariants as requests
 use Rattle.bq_job.specs.declared.step.Step.TheVariants as steps
-use Rattle.bq_seat.specs.SeatStands.{has_quit}
+use Rattle.bq_job.specs.declared.line_end.LineEnd.TheVariants as ends
+use Rattle.bq_job.proofs.ReadsLemmas.{Reads-onto}
+use Rattle.bq_seat.specs.SeatStands.{has_quit, HasAskedQuit}
+use Rattle.bq_seat.specs.InTurn.{IsInTurn}
+use Rattle.bq_seat.specs.Past.{Past}
 
 answered_count-one : (r : Request) (asked : List Request) → is_quit r ≡ false → answered_count (r ∷ asked) ≡ answered_count asked + 1
 answered_count-one requests.Quit asked q = cc
@@ -53,3 +65,124 @@ map-asked (r ∷ asked) q = ap (λ x. steps.Ask r ∷ x) (map-asked asked q)
 pub some_asked : (asked : List Request) → 0 < length asked → asked ≢ []
 some_asked [] h e = absurd (omega arith)
 some_asked (r ∷ asked) h e = cc
+
+-- ---- readings that continue after submitted requests
+
+-- the empty text does not begin with a complete request
+pub BeginsNoUnit-[] : (size : ℕ) → BeginsNoUnit size []
+BeginsNoUnit-[] size [] more request e u = u
+BeginsNoUnit-[] size (b ∷ first) more request e u = cc
+
+pub none_kept : (kept : List ℕ) → (length kept == 0) ≡ true → kept ≡ []
+none_kept [] e = refl
+none_kept (b ∷ kept) e = absurd (grind (arith, nat_tests))
+
+-- submitted requests, none of them quit, and then a reading of what comes after them
+pub Reads-after : (size : ℕ) (text units after rest : List ℕ) (asked next : List Request)
+    → text ≡ units ++ after → AreUnits size units asked → has_quit asked ≡ false → Reads size after next rest
+    → Reads size text (asked ++ next) rest
+Reads-after size text units after rest [] next is u q more = rw (is, u) more
+Reads-after size text units after rest (r ∷ asked) next is u q more =
+    let both = or_parts (is_quit r) (has_quit asked) q in
+    Reads-onto size text u.0 (u.1 ++ after) rest r (asked ++ next) (is ∙ rw u.2 (append_assoc u.0 u.1 after)) u.3 both.0
+    (Reads-after size (u.1 ++ after) u.1 after rest asked next refl u.4 both.1 more)
+
+-- a reading whose rest is an unfinished request
+pub Reads-begun : (size : ℕ) (text units begun : List ℕ) (asked : List Request)
+    → text ≡ units ++ begun → AreUnits size units asked → has_quit asked ≡ false → BeginsNoUnit size begun → Reads size text asked begun
+Reads-begun size text units begun asked is u q none =
+    subst (λ rs. Reads size text rs begun) (append-nil asked) (Reads-after size text units begun begun asked [] is u q
+    (record { units = []; text_is = refl; are_units = refl; last_quits = refl; ended = inr none }))
+
+-- ---- each step is submitted in its turn
+
+-- lists with a last element
+pub last_same : {A : Type 0} (xs ys : List A) (x y : A) → xs ++ x ∷ [] ≡ ys ++ y ∷ [] → (xs ≡ ys) × (x ≡ y)
+last_same [] [] x y e = (refl, cc)
+last_same [] (b ∷ []) x y e = absurd (let l : [] ≡ y ∷ [] = cc in cc)
+last_same [] (b ∷ c ∷ ys) x y e = absurd (let l : [] ≡ c ∷ (ys ++ y ∷ []) = cc in cc)
+last_same (a ∷ []) [] x y e = absurd (let l : x ∷ [] ≡ [] = cc in cc)
+last_same (a ∷ c ∷ xs) [] x y e = absurd (let l : c ∷ (xs ++ x ∷ []) ≡ [] = cc in cc)
+last_same (a ∷ xs) (b ∷ ys) x y e =
+    let rest : xs ++ x ∷ [] ≡ ys ++ y ∷ [] = cc in
+    let first : a ≡ b = cc in
+    let more = last_same xs ys x y rest in
+    let tails = more.0 in
+    (cc, more.1)
+
+-- the submitted requests, without the last one
+pub record EndsBy (asked : List Request) : Type 0 where
+  pub before : List Request
+  pub last : Request
+  pub is : asked ≡ before ++ last ∷ []
+
+pub ends_by : (r : Request) (asked : List Request) → EndsBy (r ∷ asked)
+ends_by r [] = record { before = []; last = r; is = refl }
+ends_by r (s ∷ asked) = let more = ends_by s asked in record { before = r ∷ more.before; last = more.last; is = ap (λ xs. r ∷ xs) more.is }
+
+pub wanted_joined : (xs ys : List Step) → wanted (xs ++ ys) ≡ wanted xs + wanted ys
+wanted_joined [] ys = omega arith
+wanted_joined (steps.Ask r ∷ xs) ys = omega (arith, wanted_joined xs ys)
+wanted_joined (_ ∷ xs) ys = wanted_joined xs ys
+
+in_place : {step other : Step} (taken : List Step) (mail : List Answer) → step ≡ other → IsInTurn other taken mail
+    → IsInTurn step taken mail
+in_place taken mail e h = subst (λ s. IsInTurn s taken mail) (sym e) h
+
+pub connects : (taken : List Step) (mail : List Answer) (step : Step) → taken ++ step ∷ [] ≡ steps.Connect ∷ [] → IsInTurn step taken mail
+connects taken mail step e = let last = last_same taken [] step steps.Connect e in in_place taken mail last.1 last.0
+
+pub asks_at : (asked : List Request) (taken : List Step) (mail : List Answer) (step : Step)
+    → taken ++ step ∷ [] ≡ steps.Connect ∷ map steps.Ask asked → length mail + 1 ≡ length asked → has_quit asked ≡ false
+    → IsInTurn step taken mail
+asks_at [] taken mail step e count none = absurd (omega arith)
+asks_at (r ∷ asked) taken mail step e count none =
+    let ends = ends_by r asked in
+    let whole : taken ++ step ∷ [] ≡ (steps.Connect ∷ map steps.Ask ends.before) ++ steps.Ask ends.last ∷ [] =
+    e ∙ ap (λ rs. steps.Connect ∷ map steps.Ask rs) ends.is ∙ ap (λ xs. steps.Connect ∷ xs) (map-asked ends.before ends.last) in
+    let last = last_same taken (steps.Connect ∷ map steps.Ask ends.before) step (steps.Ask ends.last) whole in
+    let quit : has_quit ends.before ≡ false = (has_quit-last ends.before ends.last (ap has_quit (sym ends.is) ∙ none)).0 in
+    let long = length-append ends.before (ends.last ∷ []) in
+    let same = ap length ends.is in
+    in_place taken mail last.1 (ends.before, record { steps_are = last.0; no_quit = quit }, omega arith)
+
+pub tells_at : (asked : List Request) (taken : List Step) (mail : List Answer) (step : Step)
+    → taken ++ step ∷ [] ≡ (steps.Connect ∷ map steps.Ask asked) ++ steps.End ∷ [] → has_quit asked ≡ false → length mail + 1 ≡ length asked
+    → IsInTurn step taken mail
+tells_at asked taken mail step e none count =
+    let last = last_same taken (steps.Connect ∷ map steps.Ask asked) step steps.End e in
+    in_place taken mail last.1 (
+      asked,
+      record { steps_are = last.0; no_quit = none },
+      let same = ap wanted last.0 in
+          omega (arith, same, answered_count-asked asked none),
+    )
+
+pub quits_at : (taken : List Step) (mail : List Answer) (step : Step) {p : Past} → HasAskedQuit p → p.steps ≡ taken ++ step ∷ []
+    → p.mail ≡ mail → IsInTurn step taken mail
+quits_at taken mail step q are same =
+    let last = last_same taken (steps.Connect ∷ map steps.Ask q.asked) step (steps.Ask requests.Quit) (sym are ∙ q.steps_are) in
+    in_place taken mail last.1 (q.asked, record { steps_are = last.0; no_quit = q.no_quit }, ap length (sym same) ∙ q.answered)
+
+pub closes_at : (asked : List Request) (told : List Step) (taken : List Step) (mail : List Answer) (step : Step)
+    → taken ++ step ∷ [] ≡ steps.Connect ∷ [] ++ map steps.Ask asked ++ told ++ steps.Close ∷ [] → (told ≡ []) ⊎ (told ≡ steps.End ∷ [])
+    → answered_count asked ≤ length mail + 1 → IsInTurn step taken mail
+closes_at asked told taken mail step e ends count =
+    let last = last_same taken ((steps.Connect ∷ map steps.Ask asked) ++ told) step steps.Close e in
+    let joined = wanted_joined (steps.Connect ∷ map steps.Ask asked) told in
+    let same = ap wanted last.0 in
+    let few : told ≡ [] → wanted taken ≤ length mail + 1 = λ none. let zero_more : wanted told ≡ 0 = ap wanted none in omega arith in
+    let few_told : told ≡ steps.End ∷ [] → wanted taken ≤ length mail + 1 =
+    λ one. let zero_more : wanted told ≡ 0 = ap wanted one in omega arith in
+    in_place taken mail last.1 (elim ends [
+      | inl none ↦ (asked, false, last.0 ∙ ap (λ t. (steps.Connect ∷ map steps.Ask asked) ++ t) none, few none)
+      | inr one ↦ (asked, true, last.0 ∙ ap (λ t. (steps.Connect ∷ map steps.Ask asked) ++ t) one, few_told one)
+    ])
+
+pub few_missing : (end : LineEnd) (asked : List Request) (mail : List Answer) → AreAllAnswered end asked mail
+    → answered_count asked ≤ length mail + 1
+few_missing ends.Quit asked mail h = omega arith
+few_missing ends.EndOfInput asked mail h = omega arith
+few_missing ends.WriteFault asked mail h = omega arith
+few_missing ends.ReadFault asked mail (inl h) = omega arith
+few_missing ends.ReadFault asked mail (inr h) = let one = h.1 in omega arith

@@ -1,6 +1,6 @@
 //! The machine's call that takes an event and returns an action, both as values. A server calls the
 //! method of the event instead, which copies no request and no answer.
-use crate::machine::{Action, Event, SeatMachine};
+use crate::machine::{Action, Event, SeatMachine, give};
 use std::alloc::Global;
 
 impl SeatMachine {
@@ -27,7 +27,7 @@ impl SeatMachine {
             Event::EndOfInput => self.end_of_input(&mut next),
             Event::ReadFault => self.read_fault(&mut next),
             Event::Mail(answer) => {
-                next = Action::Write(answer);
+                give(&mut next, Action::Write(answer));
                 self.mail(&mut next);
             }
             Event::WriteDone => self.write_done(alloc, &mut next),

@@ -1,8 +1,8 @@
 //! The state machine of a connection.
-ghost use Rattle.std.specs.Prelude.{◌≡◌, ◌==◌, ◌≤◌, ℕ, List, [], None, false, length, not, true, IfOk, IfSome, if◌then◌else◌};
+ghost use Rattle.std.specs.Prelude.{◌≡◌, ◌==◌, ◌≤◌, [], false, length, not, true, IfOk, if◌then◌else◌};
 ghost use Rattle.bq_job.specs.declared.request.Request.{Request};
-ghost use Rattle.bq_seat.specs.SeatParts.{AsksOrReads, asking_stage, request_of};
-ghost use Rattle.bq_wire.specs.Standing.{HandsRequest, Stands, TakesMissing, Waits, request_in};
+ghost use Rattle.bq_seat.specs.SeatParts.{AsksOrReads, IsTaken, asking_stage, request_of};
+ghost use Rattle.bq_wire.specs.Standing.{Stands};
 
 use crate::byte_buffer::ByteBuffer;
 use bq_job::{Answer, LARGEST_BODY, LineEnd, NoMemory, Request, Step};
@@ -50,7 +50,7 @@ pub enum Action {
 }
 
 /// What the machine did last, and thus which events answer it.
-#[derive(Clone, Copy, PartialEq, Eq)]
+#[derive(Clone, Copy)]
 enum Stage {
     /// No connection is open; the machine waits for one.
     Between,
@@ -107,7 +107,10 @@ impl SeatMachine {
         ensures limit { IfOk result (λ machine. machine.reader.max_job_size ≡ max_job_size) }
     {
         let reader = RequestReader::new(alloc, max_job_size)?;
-        let kept = ByteBuffer::new(alloc)?;
+        let Ok(kept) = ByteBuffer::new(alloc) else {
+            drop(reader);
+            return Err(NoMemory);
+        };
         Ok(SeatMachine {
             reader,
             kept,
@@ -118,7 +121,7 @@ impl SeatMachine {
 
     /// Returns true if a request waits for its answer while the connection is read. A blocking read
     /// would then keep the answer from the client.
-    #[tactic(auto, using(crate::proofs::OutstandingLemmas::reads_alone, crate::proofs::OutstandingLemmas::reads_with_one))]
+    #[tactic(auto, using(crate::proofs::LooksLemmas::reads_alone, crate::proofs::LooksLemmas::reads_with_one))]
     pub fn has_outstanding(&self) -> bool
         ensures { ReadsWith result self.now }
     {
@@ -171,7 +174,7 @@ impl SeatMachine {
                 self.kept.clear();
                 self.end_told = false;
                 self.stage = Stage::Connecting;
-                *next = Action::Submit(Step::Connect);
+                give(next, Action::Submit(Step::Connect));
             }
             _ => stray(next),
         }
@@ -238,10 +241,10 @@ impl SeatMachine {
         ensures { IsMove self.old Event.NothingYet next.new self.new }
     {
         match self.stage {
-            Stage::Reading => *next = Action::Read,
+            Stage::Reading => give(next, Action::Read),
             Stage::ReadingOn => self.poll(true, next),
             Stage::Polling { waits } => self.no_mail_yet(waits, next),
-            Stage::Leaving(_) => *next = Action::PollMail,
+            Stage::Leaving(_) => give(next, Action::PollMail),
             _ => stray(next),
         }
     }
@@ -255,7 +258,7 @@ impl SeatMachine {
             Stage::ReadingOn => {
                 self.end_told = true;
                 self.stage = Stage::TellingEnd;
-                *next = Action::Submit(Step::End);
+                give(next, Action::Submit(Step::End));
             }
             _ => stray(next),
         }
@@ -367,7 +370,7 @@ impl SeatMachine {
         ensures after { self.new ≡ in_stage Stage.Reading self.old }
     {
         self.stage = Stage::Reading;
-        *next = Action::Read;
+        give(next, Action::Read);
     }
 
     fn poll(&mut self, waits: bool, next: &mut Action)
@@ -375,7 +378,7 @@ impl SeatMachine {
         ensures after { self.new ≡ in_stage (Stage.Polling waits) self.old }
     {
         self.stage = Stage::Polling { waits };
-        *next = Action::PollMail;
+        give(next, Action::PollMail);
     }
 
     // Returns true if the connection is read while an answer is outstanding.
@@ -394,9 +397,9 @@ impl SeatMachine {
     {
         if self.reads_on(waits) {
             self.stage = Stage::ReadingOn;
-            *next = Action::Read;
+            give(next, Action::Read);
         } else {
-            *next = Action::PollMail;
+            give(next, Action::PollMail);
         }
     }
 
@@ -405,7 +408,7 @@ impl SeatMachine {
         ensures after { self.new ≡ in_stage (Stage.Closing end) self.old }
     {
         self.stage = Stage::Closing(end);
-        *next = Action::Submit(Step::Close);
+        give(next, Action::Submit(Step::Close));
     }
 
     fn leave(&mut self, end: LineEnd, next: &mut Action)
@@ -413,7 +416,7 @@ impl SeatMachine {
         ensures after { self.new ≡ in_stage (Stage.Leaving end) self.old }
     {
         self.stage = Stage::Leaving(end);
-        *next = Action::PollMail;
+        give(next, Action::PollMail);
     }
 
     // The answer to the close ends the connection. Other mail is dropped. A body that did not come
@@ -431,9 +434,9 @@ impl SeatMachine {
             Action::Write(Answer::Closed) => {
                 self.reader.restart();
                 self.stage = Stage::Between;
-                *next = Action::LineOver(end);
+                give(next, Action::LineOver(end));
             }
-            _ => *next = Action::PollMail,
+            _ => give(next, Action::PollMail),
         }
     }
 }
@@ -444,7 +447,16 @@ impl SeatMachine {
 fn stray(next: &mut Action)
     ensures { next.new ≡ Action.Stray }
 {
-    *next = Action::Stray;
+    give(next, Action::Stray);
+}
+
+// Replaces the last action. A function of its own, so that the code that frees the last action is
+// proved once, and inlined, so that the next one is made in place.
+#[inline(always)]
+pub(crate) fn give(next: &mut Action, action: Action)
+    ensures { next.new ≡ action }
+{
+    *next = action;
 }
 
 // Reads the next request from these bytes. It is made in `next`, as the step that submits it, so that
@@ -452,15 +464,9 @@ fn stray(next: &mut Action)
 #[inline(always)]
 fn take_to(alloc: Global, reader: &mut RequestReader, bytes: &[u8], next: &mut Action) -> Taken
     ensures asks { next.new ≡ Action.Submit (Step.Ask (request_of next.new)) }
-    ensures within { result.count ≤ length bytes.now }
-    ensures waits { request_in result (request_of next.new) ≡ None
-        → (text : List ℕ) → Stands reader.old text → Waits reader.new text bytes.now result.count }
-    ensures hands_out { IfSome (request_in result (request_of next.new)) (λ asked. (text : List ℕ)
-        → Stands reader.old text → HandsRequest reader.new text bytes.now result.count asked) }
-    ensures missing { TakesMissing reader.old.place bytes.now result.count }
-    ensures limit { reader.new.max_job_size ≡ reader.old.max_job_size }
+    ensures taken { IsTaken reader.old reader.new bytes.now result (request_of next.new) }
 {
-    *next = Action::Submit(Step::Ask(Request::Quit));
+    give(next, Action::Submit(Step::Ask(Request::Quit)));
     take_into(alloc, reader, bytes, next)
 }
 
@@ -469,13 +475,7 @@ fn take_to(alloc: Global, reader: &mut RequestReader, bytes: &[u8], next: &mut A
 fn take_into(alloc: Global, reader: &mut RequestReader, bytes: &[u8], next: &mut Action) -> Taken
     requires { next.old ≡ Action.Submit (Step.Ask Request.Quit) }
     ensures asks { next.new ≡ Action.Submit (Step.Ask (request_of next.new)) }
-    ensures within { result.count ≤ length bytes.now }
-    ensures waits { request_in result (request_of next.new) ≡ None
-        → (text : List ℕ) → Stands reader.old text → Waits reader.new text bytes.now result.count }
-    ensures hands_out { IfSome (request_in result (request_of next.new)) (λ asked. (text : List ℕ)
-        → Stands reader.old text → HandsRequest reader.new text bytes.now result.count asked) }
-    ensures missing { TakesMissing reader.old.place bytes.now result.count }
-    ensures limit { reader.new.max_job_size ≡ reader.old.max_job_size }
+    ensures taken { IsTaken reader.old reader.new bytes.now result (request_of next.new) }
 {
     match next {
         Action::Submit(Step::Ask(place)) => reader.take(alloc, bytes, place),

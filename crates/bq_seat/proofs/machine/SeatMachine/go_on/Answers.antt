@@ -1,4 +1,4 @@
-use Rattle.bq_seat.proofs.GoingLemmas as going
+use Rattle.bq_seat.proofs.OpenLemmas as going
 use Rattle.bq_seat.proofs.machine.SeatMachine.go_on.Goals as goal
 
 pub returns-then-self : goal.returns-then-self

@@ -1,6 +1,5 @@
-use Rattle.std.proofs.Common.{refl}
-use Rattle.bq_seat.proofs.FindLemmas.{moves_by}
+use Rattle.bq_seat.proofs.MoveLemmas.{moves_by}
 use Rattle.bq_seat.proofs.machine.SeatMachine.on.Goals as goal
 
 pub returns-in-Mail : goal.returns-in-Mail
-returns-in-Mail c = moves_by _ _ _ _ _ c.in-Mail.is (c.mail.ensures.moved c.in-Mail.answer refl)
+returns-in-Mail c = moves_by _ _ _ _ _ c.in-Mail.is (c.mail.ensures.moved c.in-Mail.answer c.give.ensures)
