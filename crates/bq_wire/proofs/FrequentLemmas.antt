@@ -1,5 +1,5 @@
 -- The lines that are read in one pass.
-use Rattle.std.proofs.Common.{◌≡◌, ◌≤◌, ℕ, Bool, true, false, ◌==◌, not, List, [], ◌∷◌, ◌++◌, Some, None, refl, sym, ◌∙◌, ap, arith}
+use Rattle.std.proofs.Common.{◌≡◌, ◌≤◌, ℕ, Bool, true, false, ◌==◌, not, List, [], ◌∷◌, ◌++◌, Option, Some, None, refl, sym, ◌∙◌, ap, arith}
 use Rattle.std.proofs.Common.{append_assoc, codes, length, length-append, nat_lt, take}
 use Rattle.std.proofs.lemmas.Bool.Decides.{nat_tests}
 use Rattle.std.proofs.lemmas.List.Folds.{list_all-append}
@@ -10,19 +10,15 @@ use Rattle.bq_job.specs.reading.LineRead.{longest_line}
 use Rattle.bq_job.specs.reading.Words.{is_digit, job_id, number, words}
 use Rattle.bq_job.specs.declared.request.Request.TheVariants as requests
 use Rattle.bq_wire.specs.Leading.{Leads}
-use Rattle.bq_wire.specs.Standing.{EndsLineAsking}
+use Rattle.bq_wire.specs.Standing.{IsLineAsking}
+use Rattle.bq_wire.proofs.WordLemmas.{digits_are_letters, digits_pass, one_word, word_then}
 
 -- a byte that is no CR
 abbrev is_plain : ℕ → Bool
 is_plain b = not (b == 13)
 
--- digits contain no CR, and no space
-plain_digits : (word : List ℕ) → list_all is_digit word ≡ true → list_all is_plain word ≡ true
-plain_digits [] all = refl
-plain_digits (b ∷ word) all =
-    let later = plain_digits word (grind (arith, nat_tests)) in
-    let here : is_plain b ≡ true = grind (arith, nat_tests, all) in
-    rw (here, later)
+plain : (word : List ℕ) → list_all is_digit word ≡ true → list_all is_plain word ≡ true
+plain word all = digits_pass is_plain (λ b digit. grind (arith, nat_tests, digit)) word all
 
 -- a line without a CR ends at the first CR LF
 line_before : (line : List ℕ) → list_all is_plain line ≡ true → first_line (line ++ 13 ∷ 10 ∷ []) ≡ Some (line, [])
@@ -30,114 +26,69 @@ line_before [] all = refl
 line_before (a ∷ []) all = let here : (a == 13) ≡ false = grind (arith, nat_tests, all) in rw here
 line_before (a ∷ b ∷ line) all =
     let here : (a == 13) ≡ false = grind (arith, nat_tests, all) in
-    let later = line_before (b ∷ line) (grind (arith, nat_tests, all)) in
-    rw (here, later)
-
--- a word of digits, at the end of a line and before a space
-last_word : (word : List ℕ) → list_all is_digit word ≡ true → words word ≡ word ∷ []
-last_word [] all = refl
-last_word (b ∷ word) all =
-    let here : (b == 32) ≡ false = grind (arith, nat_tests, all) in
-    let later = last_word word (grind (arith, nat_tests, all)) in
-    rw (here, later)
-
-word_then : (word more : List ℕ) → list_all is_digit word ≡ true → words (word ++ 32 ∷ more) ≡ word ∷ words more
-word_then [] more all = refl
-word_then (b ∷ word) more all =
-    let here : (b == 32) ≡ false = grind (arith, nat_tests, all) in
-    let later = word_then word more (grind (arith, nat_tests, all)) in
-    rw (here, later)
-
--- a line that is not too long requests what its words do
-line_asks : (line : List ℕ) (asked : spec.LineRead) → length line ≤ longest_line → list_all is_plain line ≡ true
-    → spec.read_line_words (words line) ≡ asked
-    → EndsLineAsking asked (line ++ 13 ∷ 10 ∷ []) []
-line_asks line asked short plain read =
-    let fits : nat_lt longest_line (length line) ≡ false = grind (arith, nat_tests, short) in
-    record { line = line; first_line_is = line_before line plain; read_is = rw fits read }
+    rw (here, line_before (b ∷ line) (grind (arith, nat_tests, all)))
 
 pub reserve_is : (piece rest : List ℕ) (end : ℕ) (asked : spec.LineRead) → piece ≡ codes "reserve" ++ 13 ∷ 10 ∷ rest → end ≡ 9
-    → asked ≡ spec.Whole requests.Reserve → EndsLineAsking asked (take end piece) []
+    → asked ≡ spec.Whole requests.Reserve → IsLineAsking asked (take end piece)
 reserve_is piece rest end asked is nine reserve =
     rw (is, nine, reserve) (record { line = codes "reserve"; first_line_is = refl; read_is = refl })
 
-pub delete_asks : (word : List ℕ) (n : ℕ) → length (codes "delete " ++ word) ≤ longest_line → list_all is_digit word ≡ true
-    → job_id word ≡ Some n
-    → EndsLineAsking (spec.Whole (requests.Delete n)) ((codes "delete " ++ word) ++ 13 ∷ 10 ∷ []) []
-delete_asks word n short digits read =
-    line_asks (codes "delete " ++ word) (spec.Whole (requests.Delete n)) short (plain_digits word digits) asked
-  where
-    asked : spec.read_line_words (words (codes "delete " ++ word)) ≡ spec.Whole (requests.Delete n)
-    asked = rw (last_word word digits, read) refl
+-- A text begins with numbers, each but the last followed by a space, and then the CR before `rest`. These are their words.
+record Numbers (text rest : List ℕ) (these : List (List ℕ)) : Type 0 where
+  line : List ℕ
+  text_is : text ≡ line ++ 13 ∷ rest
+  plain_is : list_all is_plain line ≡ true
+  words_are : words line ≡ these
 
--- the numbers of a put
-abbrev pub put_numbers : List ℕ → List ℕ → List ℕ → List ℕ → List ℕ
-put_numbers a b c d = a ++ 32 ∷ (b ++ 32 ∷ (c ++ 32 ∷ d))
+last_number : {read : List ℕ → Option ℕ} {n : ℕ} {text rest : List ℕ} (l : Leads read 13 n text rest) → Numbers text rest (l.word ∷ [])
+last_number l = record {
+  line = l.word;
+  text_is = l.text_is;
+  plain_is = plain l.word l.digits;
+  words_are = one_word l.word (digits_are_letters l.word l.digits);
+}
 
-plain_numbers : (a b c d : List ℕ) → list_all is_digit a ≡ true → list_all is_digit b ≡ true → list_all is_digit c ≡ true
-    → list_all is_digit d ≡ true → list_all is_plain (put_numbers a b c d) ≡ true
-plain_numbers a b c d ea eb ec ed =
-    rw (
-      list_all-append is_plain a (32 ∷ (b ++ 32 ∷ (c ++ 32 ∷ d))),
-      plain_digits a ea,
-      list_all-append is_plain b (32 ∷ (c ++ 32 ∷ d)),
-      plain_digits b eb,
-      list_all-append is_plain c (32 ∷ d),
-      plain_digits c ec,
-    ) (plain_digits d ed)
+one_more : {read : List ℕ → Option ℕ} {n : ℕ} {text later rest : List ℕ} {these : List (List ℕ)} (l : Leads read 32 n text later)
+    → Numbers later rest these → Numbers text rest (l.word ∷ these)
+one_more {rest = rest} l more = record {
+  line = l.word ++ 32 ∷ more.line;
+  text_is = l.text_is ∙ ap (λ (xs : List ℕ). l.word ++ 32 ∷ xs) more.text_is ∙ sym (append_assoc l.word (32 ∷ more.line) (13 ∷ rest));
+  plain_is = rw (list_all-append is_plain l.word (32 ∷ more.line), plain l.word l.digits) more.plain_is;
+  words_are = rw more.words_are at (word_then l.word more.line (digits_are_letters l.word l.digits));
+}
 
-pub put_asks : (a b c d : List ℕ) (pri delay ttr bytes : ℕ) → length (codes "put " ++ put_numbers a b c d) ≤ longest_line
-    → list_all is_digit a ≡ true → list_all is_digit b ≡ true → list_all is_digit c ≡ true → list_all is_digit d ≡ true
-    → number a ≡ Some pri → number b ≡ Some delay → number c ≡ Some ttr → number d ≡ Some bytes
-    → EndsLineAsking (spec.PutWaits (record { pri = pri; delay = delay; ttr = ttr; bytes = bytes }))
-    ((codes "put " ++ put_numbers a b c d) ++ 13 ∷ 10 ∷ []) []
-put_asks a b c d pri delay ttr bytes short ea eb ec ed na nb nc nd =
-    line_asks (codes "put " ++ put_numbers a b c d) _ short (plain_numbers a b c d ea eb ec ed) asked
-  where
-    asked : spec.read_line_words (words (codes "put " ++ put_numbers a b c d))
-        ≡ spec.PutWaits (record { pri = pri; delay = delay; ttr = ttr; bytes = bytes })
-    asked = rw (word_then a (b ++ 32 ∷ (c ++ 32 ∷ d)) ea, word_then b (c ++ 32 ∷ d) eb, word_then c d ec, last_word d ed)
-        (rw (na, nb, nc, nd) refl)
-
--- where the line ends that these bytes are the first of
-ends_so : (asked : spec.LineRead) (piece line rest : List ℕ) (end : ℕ) → piece ≡ line ++ 13 ∷ rest
+-- A line of a command's name, a space and numbers ends where `rest` begins with its LF, and asks what its words do.
+asks_numbers : (name piece text rest : List ℕ) (these : List (List ℕ)) (end : ℕ) (asked : spec.LineRead) → piece ≡ (name ++ 32 ∷ []) ++ text
+    → list_all is_plain (name ++ 32 ∷ []) ≡ true → Numbers text rest these
+    → ((line : List ℕ) → words line ≡ these → spec.read_line_words (words ((name ++ 32 ∷ []) ++ line)) ≡ asked)
     → ((front : List ℕ) → piece ≡ front ++ rest → (take end piece ≡ front ++ 10 ∷ []) × (length front ≤ longest_line))
-    → (length line ≤ longest_line → EndsLineAsking asked (line ++ 13 ∷ 10 ∷ []) [])
-    → EndsLineAsking asked (take end piece) []
-ends_so asked piece line rest end is ends asks =
-    let at = ends (line ++ 13 ∷ []) (is ∙ sym (append_assoc line (13 ∷ []) rest)) in
+    → IsLineAsking asked (take end piece)
+asks_numbers name piece text rest these end asked is name_plain n read ends =
+    let line : List ℕ = (name ++ 32 ∷ []) ++ n.line in
+    let split : piece ≡ (line ++ 13 ∷ []) ++ rest = is ∙ ap (λ (xs : List ℕ). (name ++ 32 ∷ []) ++ xs) n.text_is
+    ∙ sym (append_assoc (name ++ 32 ∷ []) n.line (13 ∷ rest)) ∙ sym (append_assoc line (13 ∷ []) rest) in
+    let at = ends (line ++ 13 ∷ []) split in
     let whole : take end piece ≡ line ++ 13 ∷ 10 ∷ [] = at.0 ∙ append_assoc line (13 ∷ []) (10 ∷ []) in
-    rw whole (asks (omega (arith, length-append line (13 ∷ []), at.1)))
+    let short : length line ≤ longest_line = omega (arith, length-append line (13 ∷ []), at.1) in
+    let fits : nat_lt longest_line (length line) ≡ false = grind (arith, nat_tests, short) in
+    let no_cr : list_all is_plain line ≡ true = rw (list_all-append is_plain (name ++ 32 ∷ []) n.line, name_plain) n.plain_is in
+    rw whole (record { line = line; first_line_is = line_before line no_cr; read_is = rw fits (read n.line n.words_are) })
 
 pub delete_is : (piece numbers rest : List ℕ) (n end : ℕ) → piece ≡ codes "delete " ++ numbers → Leads job_id 13 n numbers rest
     → ((front : List ℕ) → piece ≡ front ++ rest → (take end piece ≡ front ++ 10 ∷ []) × (length front ≤ longest_line))
-    → EndsLineAsking (spec.Whole (requests.Delete n)) (take end piece) []
+    → IsLineAsking (spec.Whole (requests.Delete n)) (take end piece)
 delete_is piece numbers rest n end is id ends =
-    ends_so (spec.Whole (requests.Delete n)) piece (codes "delete " ++ id.word) rest end
-    (is ∙ ap (λ (xs : List ℕ). codes "delete " ++ xs) id.text_is) ends
-    (λ short. delete_asks id.word n short id.digits id.read_is)
+    asks_numbers (codes "delete") piece numbers rest _ end _ is refl (last_number id) (λ line e. rw (e, id.read_is) refl) ends
 
 pub put_is : (piece t0 t1 t2 t3 rest : List ℕ) (pri delay ttr bytes end : ℕ) → piece ≡ codes "put " ++ t0
     → Leads number 32 pri t0 t1 → Leads number 32 delay t1 t2 → Leads number 32 ttr t2 t3 → Leads number 13 bytes t3 rest
     → ((front : List ℕ) → piece ≡ front ++ rest → (take end piece ≡ front ++ 10 ∷ []) × (length front ≤ longest_line))
-    → EndsLineAsking (spec.PutWaits (record { pri = pri; delay = delay; ttr = ttr; bytes = bytes })) (take end piece) []
+    → IsLineAsking (spec.PutWaits (record { pri = pri; delay = delay; ttr = ttr; bytes = bytes })) (take end piece)
 put_is piece t0 t1 t2 t3 rest pri delay ttr bytes end is a b c d ends =
-    ends_so _ piece (codes "put " ++ put_numbers a.word b.word c.word d.word) rest end
-    (is ∙ ap (λ (xs : List ℕ). codes "put " ++ xs) numbers) ends
-    (λ short. put_asks a.word b.word c.word d.word pri delay ttr bytes short a.digits b.digits c.digits d.digits
-    a.read_is b.read_is c.read_is d.read_is)
-  where
-    -- one more number
-    joined : (word later more : List ℕ) → later ≡ more ++ 13 ∷ rest → word ++ 32 ∷ later ≡ (word ++ 32 ∷ more) ++ 13 ∷ rest
-    joined word later more e = ap (λ (xs : List ℕ). word ++ 32 ∷ xs) e ∙ sym (append_assoc word (32 ∷ more) (13 ∷ rest))
-
-    numbers : t0 ≡ put_numbers a.word b.word c.word d.word ++ 13 ∷ rest
-    numbers =
-        let third = c.text_is ∙ joined c.word t3 d.word d.text_is in
-        let second = b.text_is ∙ joined b.word t2 (c.word ++ 32 ∷ d.word) third in
-        a.text_is ∙ joined a.word t1 (b.word ++ 32 ∷ (c.word ++ 32 ∷ d.word)) second
+    asks_numbers (codes "put") piece t0 rest _ end _ is refl (one_more a (one_more b (one_more c (last_number d))))
+    (λ line e. rw (e, a.read_is, b.read_is, c.read_is, d.read_is) refl) ends
 
 -- a line that ends after the kept bytes of an unfinished line
 pub line_of_text : (asked : spec.LineRead) (bytes kept text : List ℕ) → text ≡ kept → first_line text ≡ None
-    → (first_line kept ≡ None → EndsLineAsking asked bytes kept) → EndsLineAsking asked bytes text
+    → (first_line kept ≡ None → IsLineAsking asked (kept ++ bytes)) → IsLineAsking asked (text ++ bytes)
 line_of_text asked bytes kept text is none line = rw is (line (rw is at none))

@@ -15,8 +15,7 @@ use Rattle.bq_wire.specs.Standing.{Stands, StandsAt, Feeds, FeedsText, Waits, Ha
 use Rattle.bq_wire.specs.declared.reader.ReaderPlace.{ReaderPlace}
 use Rattle.bq_wire.specs.declared.reader.ReaderPlace.TheVariants.{InLine, InLongLine, InBody, Over}
 use Rattle.bq_wire.specs.declared.reader.ReaderState.{ReaderState}
-use Rattle.bq_wire.proofs.PutBodyLemmas.{take_two}
-use Rattle.bq_wire.proofs.ReaderLemmas.{Stands-no_unit}
+use Rattle.bq_wire.proofs.ReaderLemmas.{Stands-no_unit, take_two}
 
 -- a call that returns no request
 HasRead-waits : (old new : ReaderState) (piece taken : List ℕ) (count : ℕ) (requests : List Request) → new.max_job_size ≡ old.max_job_size

@@ -1,10 +1,6 @@
 pub mod FrequentLemmas
 pub mod HasReadLemmas
-pub mod LeadingLemmas
 pub mod LineEndLemmas
 pub mod LineReadLemmas
-pub mod NumberLemmas
-pub mod PutBodyLemmas
-pub mod PutLemmas
 pub mod ReaderLemmas
 pub mod WordLemmas

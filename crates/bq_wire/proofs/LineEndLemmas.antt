@@ -1,13 +1,13 @@
 -- Where command lines end.
 use Rattle.std.proofs.Common.{◌≡◌, ◌<◌, ◌≤◌, ℕ, ◌+◌, ◌-◌, zero, suc, Bool, true, false, ◌&&◌}
 use Rattle.std.proofs.Common.{◌==◌, List, [], ◌∷◌, ◌++◌, ◌⊎◌, inl, inr, Option, Some, None, add-one}
-use Rattle.std.proofs.Common.{refl, sym, ap, arith, length, length-append, take, drop, get_or, MatchOption, option_map, if◌then◌else◌}
+use Rattle.std.proofs.Common.{refl, sym, ap, ◌∙◌, arith, length, length-append, take, drop, get_or, MatchOption, option_map, if◌then◌else◌}
 use Rattle.std.proofs.Math.Bool.{and-false, and-true}
 use Rattle.std.proofs.lemmas.Bool.Decides.{nat_tests}
 use Rattle.std.proofs.lemmas.Grind.{common_steps}
 use Rattle.std.proofs.lemmas.List.{take-take, length-take-le}
 use Rattle.std.proofs.Math.Seq.{drop-append-add, take-append-add}
-use Rattle.bq_job.specs.reading.Line.{first_line}
+use Rattle.bq_job.specs.reading.Line.{first_line, onto_line}
 use Rattle.bq_wire.specs.LineEnds.{line_end_after, last_is_cr, later_by}
 use Rattle.memchr.specs.Find.{IsFirstByte, is_byte}
 
@@ -116,36 +116,28 @@ pub last_is_cr-append : (c : Bool) (text more : List ℕ) → last_is_cr c (text
 last_is_cr-append c [] more = refl
 last_is_cr-append c (b ∷ text) more = last_is_cr-append (b == 13) text more
 
--- the first line, given where it ends
-first_line_behind : (a : ℕ) (bytes : List ℕ) (e : ℕ) → line_end_after (a == 13) bytes ≡ Some e
-    → first_line (a ∷ bytes) ≡ Some (take (e - 1) (a ∷ bytes), drop e bytes)
-first_line_behind a [] e h = cc
-first_line_behind a (b ∷ bytes) e h =
-    elim (end_cases (a == 13 && b == 10) (line_end_after (b == 13) bytes) e h) [
-      | inl x ↦ rw (x.1, x.0)
-      | inr x ↦
-          let some = line_end_within (b == 13) bytes x.0 x.2 in
-          let less : suc x.0 - 1 ≡ suc (x.0 - 1) = omega (arith, some.0) in
-          rw (x.3, x.1, less, first_line_behind b bytes x.0 x.2)
-    ]
+-- where the first line of a text ends
+first_line_at : (a : ℕ) (bytes : List ℕ)
+    → first_line (a ∷ bytes) ≡ option_map (λ e. (take (e - 1) (a ∷ bytes), drop e bytes)) (line_end_after (a == 13) bytes)
+first_line_at a [] = refl
+first_line_at a (b ∷ bytes) =
+    rw (first_line_at b bytes) (go (a == 13 && b == 10) (line_end_after (b == 13) bytes) (line_end_within (b == 13) bytes))
+  where
+    go : (t : Bool) (o : Option ℕ) → ((e : ℕ) → o ≡ Some e → (0 < e) × (e ≤ length bytes))
+        → (if t then Some ([], bytes) else option_map (onto_line a) (option_map (λ e. (take (e - 1) (b ∷ bytes), drop e bytes)) o))
+        ≡ option_map (λ e. (take (e - 1) (a ∷ b ∷ bytes), drop e (b ∷ bytes))) (if t then Some 1 else option_map suc o)
+    go true o within = refl
+    go false None within = refl
+    go false (Some e) within = let less : suc e - 1 ≡ suc (e - 1) = omega (arith, (within e refl).0) in rw less
 
-pub first_line_end : (text : List ℕ) (e : ℕ) → line_end_after false text ≡ Some e → first_line text ≡ Some (take (e - 2) text, drop e text)
-first_line_end [] e h = cc
-first_line_end (a ∷ bytes) e h =
-    elim (end_cases false (line_end_after (a == 13) bytes) e h) [
-      | inl x ↦ cc (x.0)
-      | inr x ↦ let less : suc x.0 - 2 ≡ x.0 - 1 = omega arith in rw (x.3, less) (first_line_behind a bytes x.0 x.2)
-    ]
-
-first_line_none_behind : (a : ℕ) (bytes : List ℕ) → line_end_after (a == 13) bytes ≡ None → first_line (a ∷ bytes) ≡ None
-first_line_none_behind a [] h = refl
-first_line_none_behind a (b ∷ bytes) h =
-    let no = no_end_cases (a == 13 && b == 10) (line_end_after (b == 13) bytes) h in
-    rw (no.0, first_line_none_behind b bytes no.1)
-
-pub first_line_none : (text : List ℕ) → line_end_after false text ≡ None → first_line text ≡ None
-first_line_none [] h = refl
-first_line_none (a ∷ bytes) h = first_line_none_behind a bytes (no_end_cases false (line_end_after (a == 13) bytes) h).1
+first_line_of : (text : List ℕ) → first_line text ≡ option_map (λ e. (take (e - 2) text, drop e text)) (line_end_after false text)
+first_line_of [] = refl
+first_line_of (a ∷ bytes) = first_line_at a bytes ∙ go (line_end_after (a == 13) bytes)
+  where
+    go : (o : Option ℕ) → option_map {U = List ℕ × List ℕ} (λ e. (take (e - 1) (a ∷ bytes), drop e bytes)) o
+        ≡ option_map (λ e. (take (e - 2) (a ∷ bytes), drop e (a ∷ bytes))) (option_map suc o)
+    go None = refl
+    go (Some e) = let less : suc e - 2 ≡ e - 1 = omega arith in rw less
 
 -- a text without a first line has no line end
 pub no_line_end : (text : List ℕ) → first_line text ≡ None → line_end_after false text ≡ None
@@ -153,12 +145,12 @@ no_line_end text none = go (line_end_after false text) refl
   where
     go : (o : Option ℕ) → line_end_after false text ≡ o → line_end_after false text ≡ None
     go None e = e
-    go (Some n) e = let some = first_line_end text n e in cc
+    go (Some n) e = let some : first_line text ≡ Some (take (n - 2) text, drop n text) = rw e at (first_line_of text) in cc
 
 -- no line ends in the text, nor in the bytes after it
 pub goes_on : (text piece : List ℕ) → first_line text ≡ None → line_end_after (last_is_cr false text) piece ≡ None
     → first_line (text ++ piece) ≡ None
-goes_on text piece none more = first_line_none (text ++ piece) (rw (line_end-append false text piece (no_line_end text none), more))
+goes_on text piece none more = rw (first_line_of (text ++ piece), line_end-append false text piece (no_line_end text none), more)
 
 -- the line that ends in the bytes after the text
 pub ends_there : (text piece : List ℕ) (e : ℕ) → first_line text ≡ None → line_end_after (last_is_cr false text) piece ≡ Some e
@@ -168,7 +160,10 @@ ends_there text piece e none here =
     let taken : line_end_after (last_is_cr false text) (take e piece) ≡ Some e = line_end-take (last_is_cr false text) piece e here in
     let whole : line_end_after false (text ++ take e piece) ≡ Some (length text + e) =
     rw (line_end-append false text (take e piece) (no_line_end text none), taken) in
-    rw (first_line_end (text ++ take e piece) (length text + e) whole, line_bytes text piece e within.0 within.1, nothing_left text piece e)
+    let first : first_line (text ++ take e piece)
+    ≡ Some (take (length text + e - 2) (text ++ take e piece), drop (length text + e) (text ++ take e piece)) =
+    rw whole at (first_line_of (text ++ take e piece)) in
+    rw (first, line_bytes text piece e within.0 within.1, nothing_left text piece e)
   where
     nothing_left : (text piece : List ℕ) (e : ℕ) → drop (length text + e) (text ++ take e piece) ≡ []
     nothing_left text piece e = grind (arith, common_steps, drop-append-add text (take e piece) e)

@@ -1,6 +1,6 @@
 -- What a reader represents as bytes arrive.
 use Rattle.std.proofs.Common.{◌≡◌, ◌<◌, ◌≤◌, ℕ, ◌+◌, ◌-◌, zero, suc, Bool, true, false, List, [], ◌∷◌, ◌++◌, ◌⊎◌, inl, inr, Option, Some}
-use Rattle.std.proofs.Common.{None, refl, sym, ◌∙◌, ap, arith, length, length-append, append_assoc, append-nil, take, drop, take-add}
+use Rattle.std.proofs.Common.{None, refl, sym, subst, ◌∙◌, ap, arith, length, length-append, append_assoc, append-nil, take, drop, take-add}
 use Rattle.std.proofs.Common.{take-append-drop, MatchBool, nat_lt, nat_le, if◌then◌else◌}
 use Rattle.std.proofs.lemmas.Grind.{common_steps}
 use Rattle.std.proofs.lemmas.Bool.Decides.{nat_tests}
@@ -20,7 +20,8 @@ use Rattle.bq_job.proofs.UnitLemmas.{no_first_unit}
 use Rattle.bq_wire.specs.Asked.{put_line_of}
 use Rattle.bq_wire.specs.LineEnds.{line_end_after, last_is_cr}
 use Rattle.bq_wire.specs.PutBodies.{IsBodySoFar, TakesBytes}
-use Rattle.bq_wire.specs.Standing.{Stands, StandsAt, IsPutBegun, EndsLineAsking, Waits}
+use Rattle.bq_wire.specs.Standing.{Stands, StandsAt, IsPutBegun, IsLineAsking, Waits}
+use Rattle.bq_wire.specs.declared.line_read.PutLine.{PutLine}
 use Rattle.bq_wire.specs.Standing.{HandsRequest, FeedsText, TakesMissing, length_beside_cr, but_last, missing_at, Keeps}
 use Rattle.bq_wire.specs.declared.put_body.PutBody.{PutBody}
 use Rattle.bq_wire.specs.declared.reader.ReaderPlace.{ReaderPlace}
@@ -93,6 +94,14 @@ begun_more old new text bytes begun put takes less =
       less = rw (← so_far.taken_is) less;
     }
 
+-- a put whose bytes have all arrived is a unit, and no quit
+put_unit : (m : ℕ) (put : line_read.PutLine) (text bytes line after : List ℕ) (r : Request) → first_line text ≡ Some (line, after)
+    → line_read.read_line line ≡ line_read.PutWaits put → length (after ++ bytes) ≡ put.bytes + 2 → IsPutRequest m put (after ++ bytes) r
+    → IsUnit m (text ++ bytes) r × (is_quit r ≡ false)
+put_unit m put text bytes line after r first read long is =
+    let split : first_line (text ++ bytes) ≡ Some (line, after ++ bytes) = first_line-append text bytes (line, after) first in
+    (rw (split, read) (long, is), put_no_quit m put (after ++ bytes) r is)
+
 -- all of a put arrived
 pub begun_whole : (m : ℕ) (old new : PutBody) (text bytes : List ℕ) (r : Request) → IsPutBegun old text → new.put ≡ old.put
     → TakesBytes old new bytes
@@ -100,16 +109,13 @@ pub begun_whole : (m : ℕ) (old new : PutBody) (text bytes : List ℕ) (r : Req
     → IsUnit m (text ++ bytes) r × (is_quit r ≡ false)
 begun_whole m old new text bytes r begun put takes whole request =
     let so_far = takes begun.after begun.so_far in
-    let is = request (begun.after ++ bytes) so_far in
-    let line : first_line (text ++ bytes) ≡ Some (begun.line, begun.after ++ bytes) =
-    first_line-append text bytes (begun.line, begun.after) begun.first_line_is in
     let read : line_read.read_line begun.line ≡ line_read.PutWaits (put_line_of new.put) = rw put begun.read_is in
-    let long : length (begun.after ++ bytes) ≡ new.put.bytes + 2 = sym so_far.taken_is ∙ whole in
-    (rw (line, read) (long, is), put_no_quit m (put_line_of new.put) (begun.after ++ bytes) r is)
+    put_unit m (put_line_of new.put) text bytes begun.line begun.after r begun.first_line_is read (sym so_far.taken_is ∙ whole)
+    (request (begun.after ++ bytes) so_far)
 
 -- a command line that is a complete request is a unit
-pub line_unit : (m : ℕ) (text bytes : List ℕ) (r : Request) → EndsLineAsking (line_read.Whole r) bytes text → IsUnit m (text ++ bytes) r
-line_unit m text bytes r line = rw (line.first_line_is, line.read_is) (refl, refl)
+pub line_unit : (m : ℕ) (text : List ℕ) (r : Request) → IsLineAsking (line_read.Whole r) text → IsUnit m text r
+line_unit m text r line = rw (line.first_line_is, line.read_is) (refl, refl)
 
 -- what was fed after the first bytes of a piece
 pub feeds_behind : (new : ReaderState) (text piece rest : List ℕ) (end taken : ℕ) (r : Option Request) → end ≤ length piece
@@ -153,7 +159,7 @@ long_more text (b ∷ piece) long = go (last_is_cr false text) (last_is_cr false
 -- a command line that is too long is BAD_FORMAT when it ends
 pub long_line_read : (text piece : List ℕ) (e : ℕ) → first_line text ≡ None → longest_line < length_beside_cr text
     → line_end_after (last_is_cr false text) piece ≡ Some e
-    → EndsLineAsking line_read.bad_format (take e piece) text
+    → IsLineAsking line_read.bad_format (text ++ take e piece)
 long_line_read text piece e none long here =
     record { line = but_last (text ++ take (e - 1) piece); first_line_is = ends_there text piece e none here; read_is = read }
   where
@@ -211,7 +217,7 @@ kept_stands m old new Over text piece is none more keeps = absurd keeps
 -- the kept bytes and those up to the line's end form the line
 pub kept_line : (old text piece : List ℕ) (e : ℕ) (asked : line_read.LineRead) → text ≡ old → first_line text ≡ None
     → line_end_after (last_is_cr false old) piece ≡ Some e → asked ≡ line_read.read_line (but_last (old ++ take (e - 1) piece))
-    → EndsLineAsking asked (take e piece) text
+    → IsLineAsking asked (text ++ take e piece)
 kept_line old text piece e asked is none here read = grind (arith, common_steps, ends_there, none, read)
 
 -- what represents a command line that is too long and goes on
@@ -231,3 +237,75 @@ some_byte (b ∷ old) piece (suc zero) here = omega arith
 some_byte old piece (suc (suc e)) here =
     let within = (line_end_within (last_is_cr false old) piece (suc (suc e)) here).1 in
     omega (arith, length-take-le (suc (suc e) - 1) piece (omega arith))
+
+-- ---- bytes that are taken one part after another
+
+-- two parts, the second from what the first left
+pub take_two : (bytes : List ℕ) (a b : ℕ) → take (a + b) bytes ≡ take a bytes ++ take b (take (length bytes - a) (drop a bytes))
+take_two bytes a b = let all : take (length bytes - a) (drop a bytes) ≡ drop a bytes = grind (arith, common_steps) in
+    rw all (take-add a b bytes)
+
+pub takes_two : (old mid new : PutBody) (bytes : List ℕ) (a b : ℕ) → TakesBytes old mid (take a bytes)
+    → TakesBytes mid new (take b (take (length bytes - a) (drop a bytes))) → TakesBytes old new (take (a + b) bytes)
+takes_two old mid new bytes a b one two after so_far =
+    rw (take_two bytes a b, ← append_assoc after (take a bytes) (take b (take (length bytes - a) (drop a bytes))))
+    (two (after ++ take a bytes) (one after so_far))
+
+-- ---- a put whose body comes with its command line
+
+-- the body is small enough
+fits : (size bytes : ℕ) → bytes ≤ size → nat_lt size bytes ≡ false
+fits size bytes low = grind (arith, nat_tests, low)
+
+pub put_good : (put : line_read.PutLine) (body end : List ℕ) (size : ℕ) → length body ≡ put.bytes → put.bytes ≤ size
+    → is_same_name end line_end ≡ true
+    → IsPutRequest size put (body ++ end) (requests.Put put.pri put.delay put.ttr body)
+put_good put body end size len low good =
+    let front : take put.bytes (body ++ end) ≡ body = grind (arith, common_steps, len) in
+    let back : drop put.bytes (body ++ end) ≡ end = grind (arith, common_steps, len) in
+    rw (fits size put.bytes low, front, back, good) (inr refl)
+
+pub put_bad : (put : line_read.PutLine) (body end : List ℕ) (size : ℕ) → length body ≡ put.bytes → put.bytes ≤ size
+    → is_same_name end line_end ≡ false
+    → IsPutRequest size put (body ++ end) (requests.Refused refusals.ExpectedCrlf)
+put_bad put body end size len low bad =
+    let back : drop put.bytes (body ++ end) ≡ end = grind (arith, common_steps, len) in
+    rw (fits size put.bytes low, back, bad) (inr refl)
+
+pub put_refused : (put : line_read.PutLine) (bytes : List ℕ) (size : ℕ) → put.bytes ≤ size
+    → IsPutRequest size put bytes (requests.Refused refusals.OutOfMemory)
+put_refused put bytes size low = rw (fits size put.bytes low) (inl refl)
+
+-- the request of a put, for each end of it
+pub ruleset put_made = (put_good, put_bad, put_refused)
+
+-- the body and the two bytes after it, as the code splits them
+pub two_parts : (piece : List ℕ) (n : ℕ) → take n piece ++ take (n + 2 - n) (drop n piece) ≡ take (n + 2) piece
+two_parts piece n = let two : n + 2 - n ≡ 2 = omega arith in rw two (sym (take-add n 2 piece))
+
+-- the body of a put begins after its command line
+pub put_begins : (body : PutBody) (put : PutLine) (text : List ℕ) → IsLineAsking (line_read.PutWaits (put_line_of put)) text
+    → body.put ≡ put → IsBodySoFar body [] → IsPutBegun body text
+put_begins body put text line is so_far = record {
+  line = line.line;
+  after = [];
+  first_line_is = line.first_line_is;
+  read_is = rw is line.read_is;
+  so_far = so_far;
+  less = omega arith;
+}
+
+-- the request of a put is returned with the end of its body
+pub feeds_put : (state : ReaderState) (put : PutLine) (text piece body end : List ℕ) (q : Request)
+    → state.kept ≡ [] → state.place ≡ InLine → IsLineAsking (line_read.PutWaits (put_line_of put)) text → put.bytes + 2 ≤ length piece
+    → body ++ end ≡ take (put.bytes + 2) piece → put.bytes ≤ state.max_job_size
+    → ((size : ℕ) → put.bytes ≤ size → IsPutRequest size (put_line_of put) (body ++ end) q)
+    → HandsRequest state text piece (put.bytes + 2) q
+feeds_put state put text piece body end q nothing at line within parts low made =
+    let is : IsPutRequest state.max_job_size (put_line_of put) (take (put.bytes + 2) piece) q =
+    rw parts at (made state.max_job_size low) in
+    let whole = put_unit state.max_job_size (put_line_of put) text (take (put.bytes + 2) piece) line.line [] q line.first_line_is
+    line.read_is (length-take-le (put.bytes + 2) piece within) is in
+    subst (λ place. HandsRequest (record { max_job_size = state.max_job_size; kept = state.kept; place = place })
+    text piece (put.bytes + 2) q)
+    (sym at) (hands_out state.max_job_size state.kept text piece (put.bytes + 2) q nothing whole.0 whole.1)

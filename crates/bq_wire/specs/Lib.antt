@@ -1,5 +1,6 @@
 pub mod Asked
 pub mod HasRead
+pub mod Heads
 pub mod Leading
 pub mod LineEnds
 pub mod Named

@@ -8,7 +8,6 @@ use Rattle.bq_job.specs.declared.request.Request.{Request}
 use Rattle.bq_wire.specs.Asked.{put_line_of}
 use Rattle.bq_wire.specs.LineEnds.{last_is_cr}
 use Rattle.bq_wire.specs.PutBodies.{IsBodySoFar, HasBodyRoom}
-use Rattle.bq_wire.specs.declared.line_read.PutLine.{PutLine}
 use Rattle.bq_wire.specs.declared.put_body.PutBody.{PutBody}
 use Rattle.bq_wire.specs.declared.reader.ReaderPlace.{ReaderPlace}
 use Rattle.bq_wire.specs.declared.reader.ReaderPlace.TheVariants.{InLine, InLongLine, InBody, Over}
@@ -94,17 +93,11 @@ abbrev pub IsFed : ReaderState → ReaderState → List ℕ → ℕ → Option R
 IsFed old new piece taken request =
     IsSoundReader new × (taken ≤ length piece) × IfSome request (λ asked. 0 < taken) × (new.max_job_size ≡ old.max_job_size)
 
--- the text and these bytes are one command line with its CR LF, which requests this
-pub record EndsLineAsking (asked : line_read.LineRead) (bytes text : List ℕ) : Type 0 where
-  pub line : List ℕ
-  pub first_line_is : first_line (text ++ bytes) ≡ Some (line, [])
-  pub read_is : line_read.read_line line ≡ asked
-
--- the text is the command line of this put with its CR LF
-pub record IsPutLine (put : PutLine) (text : List ℕ) : Type 0 where
+-- the text is one command line with its CR LF, which requests this
+pub record IsLineAsking (asked : line_read.LineRead) (text : List ℕ) : Type 0 where
   pub line : List ℕ
   pub first_line_is : first_line text ≡ Some (line, [])
-  pub read_is : line_read.read_line line ≡ line_read.PutWaits (put_line_of put)
+  pub read_is : line_read.read_line line ≡ asked
 
 -- all but the last byte
 abbrev pub but_last : List ℕ → List ℕ

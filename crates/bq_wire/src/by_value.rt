@@ -43,5 +43,9 @@ impl RequestReader {
 fn request_in(taken: Taken, place: Request) -> Option<Request>
     ensures { result ≡ request_in taken place }
 {
-    if taken.is_request { Some(place) } else { None }
+    if taken.is_request {
+        return Some(place);
+    }
+    drop(place);
+    None
 }

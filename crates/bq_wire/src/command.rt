@@ -180,7 +180,7 @@ fn only_word<'a>(words: &mut Words<'a>) -> Option<&'a [u8]>
 }
 
 // The job id, if it is the only remaining word.
-#[tactic(auto, using(crate::proofs::LeadingLemmas::not_only))]
+#[tactic(auto, using(crate::proofs::WordLemmas::not_only))]
 fn id_word(words: &mut Words) -> Option<JobId>
     ensures { result ≡ only spec_numbers.job_id words.old }
 {
@@ -190,7 +190,7 @@ fn id_word(words: &mut Words) -> Option<JobId>
 }
 
 // The number below 2^32, if it is the only remaining word.
-#[tactic(auto, using(crate::proofs::LeadingLemmas::not_only))]
+#[tactic(auto, using(crate::proofs::WordLemmas::not_only))]
 fn number_word(words: &mut Words) -> Option<u32>
     ensures { result ≡ only spec_numbers.number words.old }
 {
@@ -206,14 +206,22 @@ fn tube_word(words: &mut Words) -> Option<TubeName>
     TubeName::new(only_word(words)?)
 }
 
-// Inlined, so that the request is made in `place`: even a short request takes as much room as the
-// longest tube name.
+/// Puts a request into `place`. A function of its own, so that the code that frees the old content is
+/// proved once. Inlined, so that the request is made in `place`: even a short request takes as much
+/// room as the longest tube name.
+#[inline(always)]
+pub fn put_in(place: &mut Request, request: Request)
+    ensures { place.new ≡ request }
+{
+    *place = request;
+}
+
 #[inline(always)]
 fn whole(place: &mut Request, request: Request) -> Option<LineRead>
     ensures { option_map (λ read. asked_by read place.new) result
         ≡ Some (spec.Whole request) }
 {
-    *place = request;
+    put_in(place, request);
     Some(LineRead::Whole)
 }
 
@@ -234,8 +242,13 @@ fn no_words(words: &mut Words, place: &mut Request, request: Request) -> Option<
     ensures { option_map (λ read. asked_by read place.new) result
         ≡ spec.no_words request words.old }
 {
-    no_more(words)?;
-    whole(place, request)
+    match words.next() {
+        None => whole(place, request),
+        Some(_) => {
+            drop(request);
+            None
+        }
+    }
 }
 
 // What the words of a use request. This and the next two are separate functions, because their callers would
@@ -324,6 +337,6 @@ fn pause_words(words: &mut Words, place: &mut Request) -> Option<LineRead>
 pub fn refused(place: &mut Request, why: Refusal) -> LineRead
     ensures { asked_by result place.new ≡ spec.Whole (Request.Refused why) }
 {
-    *place = Request::Refused(why);
+    put_in(place, Request::Refused(why));
     LineRead::Whole
 }

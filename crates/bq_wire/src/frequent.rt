@@ -7,8 +7,9 @@ ghost use Rattle.bq_job.specs.reading.LineRead.{Whole, longest_line};
 ghost use Rattle.bq_job.specs.reading.Words.{job_id, number};
 ghost use Rattle.bq_wire.specs.Asked.{asked_by};
 ghost use Rattle.bq_wire.specs.Leading.{Leads};
-ghost use Rattle.bq_wire.specs.Standing.{EndsLineAsking};
+ghost use Rattle.bq_wire.specs.Standing.{IsLineAsking};
 
+use crate::command::put_in;
 use crate::line_read::{LONGEST_LINE, LineRead, PutLine, leading_digits};
 use bq_job::Request;
 
@@ -27,7 +28,7 @@ pub struct EndedLine {
 pub fn frequent_line(piece: &[u8], place: &mut Request) -> Option<EndedLine>
     ensures some { IfSome result (λ line. 0 < line.end) }
     ensures within { IfSome result (λ line. line.end ≤ length piece.now) }
-    ensures asks { IfSome result (λ line. EndsLineAsking (asked_by line.read place.new) (take line.end piece.now) []) }
+    ensures asks { IfSome result (λ line. IsLineAsking (asked_by line.read place.new) (take line.end piece.now)) }
 {
     if let Some(numbers) = behind_put(piece) {
         return put_line(piece, numbers);
@@ -77,7 +78,7 @@ fn behind_reserve(piece: &[u8]) -> Option<&[u8]>
 fn reserve_line(place: &mut Request) -> EndedLine
     ensures { (result.end ≡ 9) × (asked_by result.read place.new ≡ Whole requests.Reserve) }
 {
-    *place = Request::Reserve;
+    put_in(place, Request::Reserve);
     EndedLine {
         end: 9,
         read: LineRead::Whole,
@@ -90,11 +91,11 @@ fn delete_line(piece: &[u8], numbers: &[u8], place: &mut Request) -> Option<Ende
     requires { piece.now ≡ codes "delete " ++ numbers.now }
     ensures some { IfSome result (λ line. 0 < line.end) }
     ensures within { IfSome result (λ line. line.end ≤ length piece.now) }
-    ensures asks { IfSome result (λ line. EndsLineAsking (asked_by line.read place.new) (take line.end piece.now) []) }
+    ensures asks { IfSome result (λ line. IsLineAsking (asked_by line.read place.new) (take line.end piece.now)) }
 {
     let (id, rest) = id_before(numbers, b'\r')?;
     let end = end_before(piece, rest)?;
-    *place = Request::Delete { id };
+    put_in(place, Request::Delete { id });
     Some(EndedLine {
         end,
         read: LineRead::Whole,
@@ -107,7 +108,7 @@ fn put_line(piece: &[u8], numbers: &[u8]) -> Option<EndedLine>
     requires { piece.now ≡ codes "put " ++ numbers.now }
     ensures some { IfSome result (λ line. 0 < line.end) }
     ensures within { IfSome result (λ line. line.end ≤ length piece.now) }
-    ensures asks { IfSome result (λ line. (place : Request) → EndsLineAsking (asked_by line.read place) (take line.end piece.now) []) }
+    ensures asks { IfSome result (λ line. (place : Request) → IsLineAsking (asked_by line.read place) (take line.end piece.now)) }
 {
     let (pri, after_pri) = number_before(numbers, b' ')?;
     let (delay, after_delay) = number_before(after_pri, b' ')?;

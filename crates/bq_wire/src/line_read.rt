@@ -212,7 +212,7 @@ fn first_letters(line: &[u8]) -> usize
 /// Returns the number that the first bytes of a command line denote, and how many bytes it has. It
 /// ends before the first byte that is no digit, or before a digit that might make it too large for 64
 /// bits.
-#[tactic(auto, using(crate::proofs::LeadingLemmas::digits_more, crate::proofs::LeadingLemmas::value_more))]
+#[tactic(auto, using(crate::proofs::WordLemmas::digits_more, crate::proofs::WordLemmas::value_more))]
 pub fn leading_digits(line: &[u8]) -> (u64, usize)
     ensures within { result.1 ≤ length line.now }
     ensures digits { list_all numbers.is_digit (take result.1 line.now) ≡ true }
@@ -230,7 +230,7 @@ pub fn leading_digits(line: &[u8]) -> (u64, usize)
 // Returns the job id that the first word of a command line denotes, and the rest after the space that
 // follows it. The word is read once, and not searched for its end first. Returns None if it denotes
 // no job id, or one that is nearly too large.
-#[tactic(auto, using(crate::proofs::LeadingLemmas::id_at_end, crate::proofs::LeadingLemmas::id_before_space))]
+#[tactic(auto, using(crate::proofs::WordLemmas::id_at_end, crate::proofs::WordLemmas::id_before_space))]
 fn leading_id(line: &[u8]) -> Option<(JobId, Option<&[u8]>)>
     ensures { IfSome result (λ found. IsNextId (words line.now) (words_left found.1) (Some found.0)) }
 {
@@ -259,7 +259,7 @@ fn with_digit(value: u64, digit: u8) -> Option<u64>
 }
 
 /// Returns the job id that a word denotes, or None if it is not a number below 2^64.
-#[tactic(auto, using(crate::proofs::NumberLemmas::too_great, crate::proofs::NumberLemmas::all_digits))]
+#[tactic(auto, using(crate::proofs::WordLemmas::too_great, crate::proofs::WordLemmas::all_digits))]
 pub fn job_id(word: &[u8]) -> Option<JobId>
     ensures { result ≡ numbers.job_id word.now }
 {

@@ -10,11 +10,11 @@ ghost use Rattle.bq_wire.specs.HasRead.{HasRead, HasReadText, ReadsOn};
 ghost use Rattle.bq_wire.specs.LineEnds.{last_is_cr, line_end_after};
 ghost use Rattle.bq_wire.specs.PutBodies.{HasBodyRoom, IsBodySoFar};
 ghost use Rattle.bq_wire.specs.Standing.{IsFed, IsOver, IsSoundPlace, IsSoundReader, Stands, StandsAt, Feeds};
-ghost use Rattle.bq_wire.specs.Standing.{Keeps, EndsLineAsking, IsPutLine, TakesMissing};
+ghost use Rattle.bq_wire.specs.Standing.{Keeps, IsLineAsking, TakesMissing};
 ghost use Rattle.bq_wire.specs.Standing.{Waits, HandsRequest, but_last, missing_at, request_in};
 ghost use Rattle.bq_wire.specs.declared.reader.ReaderPlace.TheVariants.{InLine, InLongLine, InBody, Over};
 
-use crate::command::is;
+use crate::command::{is, put_in};
 use crate::frequent::{EndedLine, frequent_line};
 use crate::line_read::{LONGEST_LINE, LineRead, PutLine, ends_in_cr, line_end_after, read_line};
 use crate::put_body::PutBody;
@@ -272,7 +272,7 @@ fn line_in(kept: &mut KeptLine, piece: &[u8], place: &mut Request) -> Option<End
     ensures within { IfSome result (λ line. line.end ≤ length piece.now) }
     ensures cleared { IfSome result (λ line. kept.new ≡ []) }
     ensures asks { IfSome result (λ line. first_line kept.old ≡ None
-        → EndsLineAsking (asked_by line.read place.new) (take line.end piece.now) kept.old) }
+        → IsLineAsking (asked_by line.read place.new) (kept.old ++ take line.end piece.now)) }
 {
     if kept.as_slice().is_empty() {
         if let Some(line) = frequent_line(piece, place) {
@@ -290,7 +290,7 @@ fn any_line_in(kept: &mut KeptLine, piece: &[u8], place: &mut Request) -> Option
     ensures within { IfSome result (λ line. line.end ≤ length piece.now) }
     ensures cleared { IfSome result (λ line. kept.new ≡ []) }
     ensures asks { IfSome result (λ line. first_line kept.old ≡ None
-        → EndsLineAsking (asked_by line.read place.new) (take line.end piece.now) kept.old) }
+        → IsLineAsking (asked_by line.read place.new) (kept.old ++ take line.end piece.now)) }
 {
     let end = line_end_after(ends_in_cr(false, kept.as_slice()), piece)?;
     let read = whole_line(kept, &piece[..end - 1], place);
@@ -341,7 +341,7 @@ fn whole_line(kept: &mut KeptLine, last: &[u8], place: &mut Request) -> LineRead
 fn refuse(place: &mut Request, why: Refusal)
     ensures { place.new ≡ Request.Refused why }
 {
-    *place = Request::Refused(why);
+    put_in(place, Request::Refused(why));
 }
 
 // Continues after a complete command line, which ends in the piece.
@@ -358,7 +358,7 @@ fn after_line(
     requires within { end ≤ length piece.now }
     ensures fed { IsFed state.old state.new piece.now result.count (request_in result place.new) }
     ensures feeds { (asked : line_read.LineRead) → asked_by read place.old ≡ asked → state.old.kept ≡ []
-        → Feeds (EndsLineAsking asked (take end piece.now)) state.new piece.now result.count (request_in result place.new) }
+        → Feeds (λ text. IsLineAsking asked (text ++ take end piece.now)) state.new piece.now result.count (request_in result place.new) }
 {
     match read {
         LineRead::Whole => {
@@ -389,7 +389,7 @@ fn feed_put(
     requires { state.old.place ≡ InLine }
     ensures fed { IsFed state.old state.new piece.now result.count (request_in result place.new) }
     ensures feeds { state.old.kept ≡ []
-        → Feeds (IsPutLine put) state.new piece.now result.count (request_in result place.new) }
+        → Feeds (IsLineAsking (line_read.PutWaits (put_line_of put))) state.new piece.now result.count (request_in result place.new) }
 {
     if is_at_hand(put, state.max_job_size, piece) {
         let size = put.bytes as usize;
@@ -413,7 +413,7 @@ fn is_at_hand(put: PutLine, max_job_size: u32, piece: &[u8]) -> bool
 
 // Puts the request of a put into `place`, given its body and the two bytes after it. If the allocation
 // for the body fails, the answer is OUT_OF_MEMORY, whatever the bytes are.
-#[tactic(auto, using(crate::proofs::PutLemmas::put_good, crate::proofs::PutLemmas::put_bad, crate::proofs::PutLemmas::put_refused))]
+#[tactic(auto, using(crate::proofs::ReaderLemmas::put_made))]
 fn whole_put(alloc: Global, put: PutLine, body: &[u8], end: &[u8], place: &mut Request)
     requires { length body.now ≡ put.bytes }
     ensures { (max_job_size : ℕ) → put.bytes ≤ max_job_size
@@ -425,12 +425,13 @@ fn whole_put(alloc: Global, put: PutLine, body: &[u8], end: &[u8], place: &mut R
     if !is(end, b"\r\n") {
         return refuse(place, Refusal::ExpectedCrlf);
     }
-    *place = Request::Put {
+    let whole = Request::Put {
         pri: put.pri,
         delay: put.delay,
         ttr: put.ttr,
         body: stored,
     };
+    put_in(place, whole);
 }
 
 // Returns the body of a put whose command line is complete. Nothing is allocated if it is too big.
@@ -502,7 +503,7 @@ fn feed_body(state: &mut ReaderState, body: PutBody, piece: &[u8], place: &mut R
     let taken = body.take(piece);
     if body.is_whole() {
         state.place = ReaderPlace::InLine;
-        *place = body.into_request(state.max_job_size);
+        put_in(place, body.into_request(state.max_job_size));
         Taken {
             count: taken,
             is_request: true,

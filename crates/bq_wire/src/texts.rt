@@ -1,6 +1,7 @@
-ghost use Rattle.std.specs.Prelude.{◌≡◌, ◌+◌, ◌≤◌, ◌++◌, length, codes, decimal};
+ghost use Rattle.std.specs.Prelude.{◌≡◌, ◌+◌, ◌≤◌, ◌++◌, length, codes, decimal, true};
 ghost use Rattle.bq_job.specs.texts.AnswerText as spec;
 ghost use Rattle.bq_job.specs.reading.Line.{line_end};
+ghost use Rattle.bq_wire.specs.Heads.{is_word};
 
 use crate::head_buf::HeadBuf;
 use bq_job::Answer;
@@ -40,15 +41,6 @@ fn job_head(head: &mut HeadBuf, word: &[u8], id: u64, size: usize)
     head.push(b"\r\n");
 }
 
-// A word with its CR LF.
-fn word_head(head: &mut HeadBuf, line: &[u8])
-    requires { length line.now ≤ 256 }
-    ensures { head.new ≡ line.now }
-{
-    head.clear();
-    head.push(line);
-}
-
 fn using_head(head: &mut HeadBuf, tube: &[u8])
     requires { length tube.now ≤ 200 }
     ensures { head.new ≡ codes "USING " ++ tube.now ++ line_end }
@@ -57,6 +49,32 @@ fn using_head(head: &mut HeadBuf, tube: &[u8])
     head.push(b"USING ");
     head.push(tube);
     head.push(b"\r\n");
+}
+
+// The head of an answer without a number or a name, which is a word with its CR LF, or nothing.
+fn word(answer: &Answer) -> &[u8]
+    ensures head { is_word answer.now ≡ true → result.now ≡ spec.answer_head answer.now }
+    ensures short { length result.now ≤ 256 }
+{
+    match answer {
+        Answer::Kicked => b"KICKED\r\n",
+        Answer::Deleted => b"DELETED\r\n",
+        Answer::Released => b"RELEASED\r\n",
+        Answer::Buried => b"BURIED\r\n",
+        Answer::Touched => b"TOUCHED\r\n",
+        Answer::Paused => b"PAUSED\r\n",
+        Answer::NotFound => b"NOT_FOUND\r\n",
+        Answer::NotIgnored => b"NOT_IGNORED\r\n",
+        Answer::Draining => b"DRAINING\r\n",
+        Answer::OutOfMemory => b"OUT_OF_MEMORY\r\n",
+        Answer::TimedOut => b"TIMED_OUT\r\n",
+        Answer::DeadlineSoon => b"DEADLINE_SOON\r\n",
+        Answer::UnknownCommand => b"UNKNOWN_COMMAND\r\n",
+        Answer::BadFormat => b"BAD_FORMAT\r\n",
+        Answer::JobTooBig => b"JOB_TOO_BIG\r\n",
+        Answer::ExpectedCrlf => b"EXPECTED_CRLF\r\n",
+        _ => &[],
+    }
 }
 
 /// Replaces the contents of `head` by the head of the answer. It allocates nothing.
@@ -71,23 +89,10 @@ pub fn answer_head(answer: &Answer, head: &mut HeadBuf)
         Answer::Using(tube) => using_head(head, tube.as_slice()),
         Answer::Watching(count) => number_head(head, b"WATCHING ", *count),
         Answer::KickedCount(count) => number_head(head, b"KICKED ", *count),
-        Answer::Kicked => word_head(head, b"KICKED\r\n"),
-        Answer::Deleted => word_head(head, b"DELETED\r\n"),
-        Answer::Released => word_head(head, b"RELEASED\r\n"),
-        Answer::Buried => word_head(head, b"BURIED\r\n"),
-        Answer::Touched => word_head(head, b"TOUCHED\r\n"),
-        Answer::Paused => word_head(head, b"PAUSED\r\n"),
-        Answer::NotFound => word_head(head, b"NOT_FOUND\r\n"),
-        Answer::NotIgnored => word_head(head, b"NOT_IGNORED\r\n"),
-        Answer::Draining => word_head(head, b"DRAINING\r\n"),
-        Answer::OutOfMemory => word_head(head, b"OUT_OF_MEMORY\r\n"),
-        Answer::TimedOut => word_head(head, b"TIMED_OUT\r\n"),
-        Answer::DeadlineSoon => word_head(head, b"DEADLINE_SOON\r\n"),
-        Answer::UnknownCommand => word_head(head, b"UNKNOWN_COMMAND\r\n"),
-        Answer::BadFormat => word_head(head, b"BAD_FORMAT\r\n"),
-        Answer::JobTooBig => word_head(head, b"JOB_TOO_BIG\r\n"),
-        Answer::ExpectedCrlf => word_head(head, b"EXPECTED_CRLF\r\n"),
-        Answer::Closed => head.clear(),
+        _ => {
+            head.clear();
+            head.push(word(answer));
+        }
     }
 }
 

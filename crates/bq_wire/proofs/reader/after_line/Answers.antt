@@ -16,8 +16,4 @@ returns-in-PutWaits-clause-feeds c = λ asked_for told nothing text line.
     feeds_behind fed.new.state text c.args.piece.now
     (take (length c.args.piece.now - c.args.end) (drop c.args.end c.args.piece.now)) c.args.end fed.result.count
     (request_in fed.result fed.new.place)
-    c.requires.within rest (fed.ensures.feeds nothing _ (record {
-      line = line.line;
-      first_line_is = line.first_line_is;
-      read_is = line.read_is ∙ asked;
-    }))
+    c.requires.within rest (fed.ensures.feeds nothing _ (rw asked at line))

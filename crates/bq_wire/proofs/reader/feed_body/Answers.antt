@@ -12,8 +12,8 @@ returns-then-is_whole-clause-feeds c = λ text stands.
     let whole = begun_whole c.args.state.now.max_job_size c.args.body taken.new.self text
     (take taken.result c.args.piece.now) c.into_request.result
     stands.1 taken.ensures.put taken.ensures.takes all c.into_request.ensures.request in
-    hands_out c.args.state.now.max_job_size c.args.state.now.kept text c.args.piece.now taken.result c.into_request.result
-    stands.0 whole.0 whole.1
+    rw c.put_in.ensures (hands_out c.args.state.now.max_job_size c.args.state.now.kept text c.args.piece.now taken.result
+    c.into_request.result stands.0 whole.0 whole.1)
 
 pub returns-else-is_whole-clause-feeds : goal.returns-else-is_whole-clause-feeds
 returns-else-is_whole-clause-feeds c = λ text stands.

@@ -1,5 +1,5 @@
 use Rattle.std.proofs.Common.{◌+◌, ◌-◌, refl, arith, drop, take}
-use Rattle.bq_wire.proofs.PutLemmas.{feeds_put, put_begins, two_parts}
+use Rattle.bq_wire.proofs.ReaderLemmas.{feeds_put, put_begins, two_parts}
 use Rattle.bq_wire.proofs.reader.feed_put.Goals as goal
 
 pub returns-then-is_at_hand-clause-fed : goal.returns-then-is_at_hand-clause-fed

@@ -1,5 +1,5 @@
 use Rattle.std.proofs.Common.{◌+◌}
-use Rattle.bq_wire.proofs.PutBodyLemmas.{takes_two}
+use Rattle.bq_wire.proofs.ReaderLemmas.{takes_two}
 use Rattle.bq_wire.proofs.put_body.PutBody.take.Goals as goal
 
 pub returns-clause-takes : goal.returns-clause-takes
