@@ -1,7 +1,8 @@
 -- The rings of the core's end, when one is used.
 use Rattle.std.specs.Prelude.{◌↔◌, IsTrue}
 use Rattle.std.proofs.Common.{◌≡◌, ℕ, Bool, true, false, not, refl, zero, suc, ◌+◌, ◌<◌, ◌≤◌, Global, None, Some, is_some}
-use Rattle.std.proofs.Common.{slice_get, true≢false, List, [], ◌∷◌, ◌++◌, map, length, get_or, set, sym, ap, ◌∙◌, subst, arith}
+use Rattle.std.proofs.Common.{slice_get, true≢false, List, [], ◌∷◌, map, length, get_or, set, sym, ap, ◌∙◌, subst, arith}
+use Rattle.std.proofs.ByRecursion.{All-get_or}
 use Rattle.std.proofs.lemmas.Grind.{common_steps}
 use Rattle.std.proofs.lemmas.List.{get_or-map, get_or-set_same, length-append, length-map, length-set, map-set, set-get_or}
 use Rattle.std.specs.List.{AllByRecursion as All}
@@ -22,20 +23,6 @@ same_image f xs n d x same = grind (arith, common_steps, map-set f xs n x, map-s
 image_at : {X Y : Type 0} (f : X → Y) (xs : List X) (n : ℕ) (x : X) (e : Y) → n < length xs → get_or (map f (set xs n x)) n e ≡ f x
 image_at f xs n x e within = get_or-map f (set xs n x) n x e (rw (length-set xs n x) within) ∙ ap f (get_or-set_same xs n x x within)
 
-all_at : {X : Type 0} (P : X → Type 0) (xs : List X) (n : ℕ) (d : X) → All P xs → n < length xs → P (get_or xs n d)
-all_at P [] n d all within = absurd (omega arith)
-all_at P (x ∷ xs) zero d all within = all.0
-all_at P (x ∷ xs) (suc n) d all within = all_at P xs n d all.1 (omega arith)
-
-all_set : {X : Type 0} (P : X → Type 0) (xs : List X) (n : ℕ) (x : X) → All P xs → P x → All P (set xs n x)
-all_set P [] n x all new = tt
-all_set P (y ∷ ys) zero x all new = (new, all.1)
-all_set P (y ∷ ys) (suc n) x all new = (all.0, all_set P ys n x all.1 new)
-
-pub all_push : {X : Type 0} (P : X → Type 0) (xs : List X) (x : X) → All P xs → P x → All P (xs ++ x ∷ [])
-all_push P [] x all new = (new, tt)
-all_push P (y ∷ ys) x all new = (all.0, all_push P ys x all.1 new)
-
 abbrev Ring : Type 0
 Ring = Producer Answer Global AnyItems
 
@@ -52,10 +39,7 @@ within_of c old k number is at within = grind (arith, common_steps, length_rings
 
 -- an element that was found is in the list
 pub found_within : {X : Type 0} (xs : List X) (n : ℕ) (x : X) → slice_get xs n ≡ Some x → n < length xs
-found_within [] n x e = absurd (some_not_none x e)
-  where
-    some_not_none : {X : Type 0} (x : X) → None ≡ Some x → ⊥
-    some_not_none x e = true≢false (ap is_some (sym e))
+found_within [] n x e = absurd (true≢false (ap is_some (sym e)))
 found_within (y ∷ ys) zero x e = omega arith
 found_within (y ∷ ys) (suc n) x e = let rest = found_within ys n x e in omega arith
 
@@ -121,7 +105,8 @@ module _ (c : CoreFields) (old : CoreState) (k number : ℕ) (d p : Ring) (is : 
 
   pub places_of : All (λ (r : Ring). producer_capacity r ≡ ring_places) c.rings.items → k < length c.rings.items
       → producer_capacity d ≡ ring_places
-  places_of all within = grind (arith, common_steps, all_at)
+  places_of all within = ap (λ (r : Ring). producer_capacity r) here
+      ∙ All-get_or (λ (r : Ring). producer_capacity r ≡ ring_places) c.rings.items k d within all
 
 -- what a ring has, looked at where it lies in the core's end
 pub ruleset looked = (common_steps, within_of, found_within, room_now, sent_now, some_room, no_room, unsent)

@@ -1,6 +1,7 @@
 -- The steps of one end, as the list of all steps grows.
 use Rattle.std.proofs.Common.{◌≡◌, ◌≢◌, ℕ, ◌+◌, ◌<◌, Bool, true, false, List, [], ◌∷◌, ◌++◌}
 use Rattle.std.proofs.Common.{map, cond, refl, sym, ap, ◌∙◌, eqb, arith, append_assoc}
+use Rattle.std.proofs.ByRecursion.{All-push, All-weaker}
 use Rattle.std.proofs.lemmas.Grind.{common_steps}
 use Rattle.std.proofs.lemmas.List.{append-nil, map-append}
 use Rattle.std.proofs.lemmas.List.Elements.{filter-append}
@@ -38,12 +39,10 @@ of_none number [] below = refl
 of_none number (t ∷ ts) below = grind (arith, common_steps, of_joined, of_one, of_none number ts below.1)
 
 pub below_more : (ends : ℕ) (all : List (ℕ × Step)) → AreBelow ends all → AreBelow (ends + 1) all
-below_more ends [] below = tt
-below_more ends (t ∷ ts) below = (omega (arith, below.0), below_more ends ts below.1)
+below_more ends all below = All-weaker (λ t. t.0 < ends) (λ t. t.0 < ends + 1) (λ t less. omega (arith, less)) all below
 
 pub below_push : (ends : ℕ) (all : List (ℕ × Step)) (t : ℕ × Step) → AreBelow ends all → t.0 < ends → AreBelow ends (all ++ t ∷ [])
-below_push ends [] t below less = (less, tt)
-below_push ends (x ∷ xs) t below less = (below.0, below_push ends xs t below.1 less)
+below_push ends all t below less = All-push (λ (u : ℕ × Step). u.0 < ends) all t below less
 
 pub below_at : (ends : ℕ) (all more : List (ℕ × Step)) (t : ℕ × Step) → AreBelow ends (all ++ t ∷ more) → t.0 < ends
 below_at ends [] more t below = below.0

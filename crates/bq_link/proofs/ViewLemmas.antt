@@ -1,7 +1,6 @@
 -- Lists of views, and the passes that numbers are given to.
-use Rattle.std.proofs.Common.{◌≡◌, ◌≢◌, ℕ, zero, suc, ◌⊎◌, inl, inr, ⊎_elim, Bool, true, false, true≢false, List, [], ◌∷◌, arith}
-use Rattle.std.proofs.Common.{◌++◌, Option, Some, None, cond, length, set, refl, sym, ap, ◌∙◌, eq-eqb, ne_eqb, eqb}
-use Rattle.std.proofs.lemmas.Grind.{common_steps}
+use Rattle.std.proofs.Common.{◌≡◌, ◌≢◌, ℕ, zero, suc, ◌⊎◌, inl, inr, ⊎_elim, true, false, true≢false, List, [], ◌∷◌}
+use Rattle.std.proofs.Common.{◌++◌, cond, length, set, refl, sym, ap, subst, ◌∙◌, eq-eqb, ne_eqb, eqb}
 use mathlib.Core.Option.{some, some-ne-none, some-injective}
 use lib.ListN.{get_elem?}
 use Rattle.crossbeam_queue.proofs.Lists.{at_set}
@@ -13,7 +12,8 @@ Each F views = (pass : ℕ) (v : View) → get_elem? views pass ≡ some v → F
 -- one view is changed
 pub each_set : (F : ℕ → View → Type 0) (views : List View) (pass : ℕ) (w : View) → F pass w
     → ((j : ℕ) (u : View) → j ≢ pass → get_elem? views j ≡ some u → F j u) → Each F (set views pass w)
-each_set F views pass w mine others j u e = grind (arith, common_steps, at_set)
+each_set F views pass w mine others j u e =
+    ⊎_elim (λ t. subst (λ n. F n u) (sym t.0) (subst (F pass) t.1 mine)) (λ t. others j u t.0 t.1) (at_set views pass j w u e)
 
 at_new : (views : List View) (v u : View) (j : ℕ) → get_elem? (views ++ v ∷ []) j ≡ some u
     → (get_elem? views j ≡ some u) ⊎ ((j ≡ length views) × (v ≡ u))
@@ -24,33 +24,22 @@ at_new (x ∷ xs) v u (suc j) e = ⊎_elim inl (λ t. inr (ap suc t.0, t.1)) (at
 
 -- one view is added
 pub each_more : (F : ℕ → View → Type 0) (views : List View) (v : View) → Each F views → F (length views) v → Each F (views ++ v ∷ [])
-each_more F views v each new j u e = grind (arith, common_steps, at_new)
+each_more F views v each new j u e =
+    ⊎_elim (λ t. each j u t) (λ t. subst (λ n. F n u) (sym t.0) (subst (F (length views)) t.1 new)) (at_new views v u j e)
 
 -- a number is given to a pass
-abbrev pub given : (ℕ → Option ℕ) → ℕ → ℕ → ℕ → Option ℕ
-given owner number pass n = cond (eqb n number) (Some pass) (owner n)
+abbrev pub given : (ℕ → ℕ) → ℕ → ℕ → ℕ → ℕ
+given owner number pass n = cond (eqb n number) pass (owner n)
 
-pub given_here : (owner : ℕ → Option ℕ) (number pass : ℕ) → given owner number pass number ≡ Some pass
-given_here owner number pass = ap (λ b. cond b (Some pass) (owner number)) (eq-eqb number number refl)
+pub given_here : (owner : ℕ → ℕ) (number pass : ℕ) → given owner number pass number ≡ pass
+given_here owner number pass = ap (λ b. cond b pass (owner number)) (eq-eqb number number refl)
 
-pub given_else : (owner : ℕ → Option ℕ) (number pass n : ℕ) → n ≢ number → given owner number pass n ≡ owner n
-given_else owner number pass n other = ap (λ b. cond b (Some pass) (owner n)) (ne_eqb n number other)
-
--- the pass of an Option
-abbrev pub passed : Option ℕ → ℕ
-passed None = 0
-passed (Some n) = n
-
-abbrev pub there : Option ℕ → Bool
-there None = false
-there (Some n) = true
-
-pub apart : (owner : ℕ → Option ℕ) (number n pass : ℕ) → owner number ≡ Some pass → owner n ≡ None → n ≢ number
-apart owner number n pass mine none e = true≢false (ap there (sym mine) ∙ ap (λ k. there (owner k)) (sym e) ∙ ap there none)
+pub given_else : (owner : ℕ → ℕ) (number pass n : ℕ) → n ≢ number → given owner number pass n ≡ owner n
+given_else owner number pass n other = ap (λ b. cond b pass (owner n)) (ne_eqb n number other)
 
 -- two passes submit under two numbers
-pub differ : (owner : ℕ → Option ℕ) (a b j k : ℕ) → owner a ≡ Some j → owner b ≡ Some k → j ≢ k → a ≢ b
-differ owner a b j k mine theirs other e = other (ap passed (sym mine ∙ ap owner e ∙ theirs))
+pub differ : (owner : ℕ → ℕ) (a b j k : ℕ) → owner a ≡ j → owner b ≡ k → j ≢ k → a ≢ b
+differ owner a b j k mine theirs other e = other (sym mine ∙ ap owner e ∙ theirs)
 
 pub no : {A : Type 0} → false ≡ true → A
 no e = absurd (true≢false (sym e))

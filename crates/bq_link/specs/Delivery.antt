@@ -1,5 +1,5 @@
 -- The rule of the intake.
-use Rattle.std.specs.Prelude.{ℕ, ◌≡◌, ◌≤◌, ◌++◌, true, false, List, [], Option, Some, None}
+use Rattle.std.specs.Prelude.{ℕ, ◌≡◌, ◌<◌, ◌++◌, true, false, List, []}
 use mathlib.Core.Option.{some}
 use lib.ListN.{get_elem?}
 use Rattle.bq_job.specs.declared.step.Step.{Step}
@@ -35,28 +35,31 @@ core_view taken told made = record {
 abbrev pub blank_view : View
 blank_view = record (seat_view 0 []) { submits = false }
 
--- only one pass submits under a number, and it knows all steps with that number
-abbrev pub IsSeatPass : (ℕ → Option ℕ) → List (ℕ × Step) → ℕ → View → Type 0
-IsSeatPass owner history pass v = v.submits ≡ true → (owner v.number ≡ Some pass) × (steps_of v.number history ≡ v.submitted)
+-- Only one pass submits under a number, which was given to it, and it knows all steps with that number.
+abbrev pub IsSeatPass : ℕ → (ℕ → ℕ) → List (ℕ × Step) → ℕ → View → Type 0
+IsSeatPass made owner history pass v = v.submits ≡ true
+    → (v.number < made) × (owner v.number ≡ pass) × (steps_of v.number history ≡ v.submitted)
 
--- only one pass takes, and it knows all steps that were taken; no pass submits under a number that
--- has not been given
-abbrev pub IsCorePass : ℕ → (ℕ → Option ℕ) → List (ℕ × Step) → List (ℕ × Step) → ℕ → View → Type 0
-IsCorePass core owner history taken pass v = v.takes ≡ true
-    → (pass ≡ core) × (v.taken ≡ taken) × ((number : ℕ) → v.made ≤ number → owner number ≡ None)
-    × AreBelow v.made history × Covers history v.told
+-- Only one pass takes. It knows how many numbers were given, and all steps that were taken.
+abbrev pub IsCorePass : ℕ → ℕ → List (ℕ × Step) → List (ℕ × Step) → ℕ → View → Type 0
+IsCorePass core made history taken pass v = v.takes ≡ true
+    → (pass ≡ core) × (v.made ≡ made) × (v.taken ≡ taken) × Covers history v.told
 
--- the submitted steps are those that were taken and then those that wait, each pass knows its part,
--- and the intake's invariant holds
+abbrev pub IsPass : ℕ → ℕ → (ℕ → ℕ) → List (ℕ × Step) → List (ℕ × Step) → ℕ → View → Type 0
+IsPass core made owner history taken pass v = IsSeatPass made owner history pass v × IsCorePass core made history taken pass v
+
+-- the submitted steps are those that were taken and then those that wait, each under a number that was given, each pass knows its
+-- part, and the intake's invariant holds
 pub record Delivers (was : Invariant) (items : List (ℕ × Step)) (views : List View) : Type 0 where
   pub core : ℕ
-  pub owner : ℕ → Option ℕ
+  pub made : ℕ
+  pub owner : ℕ → ℕ
   pub history : List (ℕ × Step)
   pub taken : List (ℕ × Step)
   pub whole : history ≡ taken ++ items
   pub real : was taken items
-  pub seats : (pass : ℕ) (v : View) → get_elem? views pass ≡ some v → IsSeatPass owner history pass v
-  pub takes : (pass : ℕ) (v : View) → get_elem? views pass ≡ some v → IsCorePass core owner history taken pass v
+  pub below : AreBelow made history
+  pub passes : (pass : ℕ) (v : View) → get_elem? views pass ≡ some v → IsPass core made owner history taken pass v
 
 -- some steps were taken, and with those that wait, the end's steps are all that it submitted
 abbrev pub WaitsOf : Invariant → View → List (ℕ × Step) → Type 0

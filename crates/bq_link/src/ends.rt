@@ -96,7 +96,6 @@ impl CoreEnd {
     /// returns room for a step.
     ///
     /// For true the contract states the same as that of `take` for `None`.
-    #[tactic(auto, using(crate::proofs::DeliveryLemmas::covered))]
     pub fn is_empty<I: IntakeInvariant>(&mut self, intake: &Intake<I>) -> bool
         requires intake { self.old.intake ≡ intake.now.id }
         ensures same { self.new ≡ self.old }
