@@ -1,6 +1,7 @@
 -- The jobs by their ids.
 use Rattle.std.proofs.Common.{◌≡◌, ℕ, suc, true, false, cond, List, [], ◌∷◌, Some, None, map, arith, refl, sym, ap, ◌∙◌, subst, inl, inr}
 use Rattle.std.specs.Prelude.{◌==◌, nat_lt}
+use Rattle.std.specs.Cmp.{unsigned_tied}
 use Rattle.std.specs.Ordering.{is_eq, nat_cmp}
 use Rattle.std.specs.List.{AllByRecursion as All}
 use Rattle.std.specs.Map.{lookup, remove_entry, set_value}
@@ -13,18 +14,11 @@ use Rattle.bq_job.specs.beside.Lawful.{AreIdsWithin}
 use Rattle.bq_jobs.specs.Changed.{with_changed}
 use Rattle.bq_jobs.specs.Inside.{jobs_of, with_id}
 use Rattle.bq_jobs.specs.Kept.{with_added, without}
-use Rattle.bq_jobs.proofs.Changes.{none_changed, others_above, without_first}
+use Rattle.bq_jobs.proofs.Changes.{none_changed, others_above, same_back, without_first}
 
 -- numbers compare equal exactly if they are the same
 pub is_eq_nat : (a b : ℕ) → is_eq (nat_cmp a b) ≡ (b == a)
-is_eq_nat a b =
-    elim (cases_Bool (nat_lt a b)) [
-      | inl less ↦ let other : (b == a) ≡ false = grind (arith, nat_tests) in rw (less, other) refl
-      | inr e ↦ elim (cases_Bool (a == b)) [
-        | inl same ↦ let back : (b == a) ≡ true = grind (arith, nat_tests) in rw (e, same, back) refl
-        | inr apart ↦ let other : (b == a) ≡ false = grind (arith, nat_tests) in rw (e, apart, other) refl
-      ]
-    ]
+is_eq_nat a b = unsigned_tied a b ∙ same_back a b
 
 pub same_jobs : (jobs : List Job) → jobs_of (map with_id jobs) ≡ jobs
 same_jobs [] = refl

@@ -1,18 +1,25 @@
 -- Additions to and removals from lists of jobs in the order of their ids.
 use Rattle.std.proofs.Common.{◌≡◌, ℕ, suc, ◌+◌, ◌<◌, ◌≤◌, Bool, true, false, cond, List, [], ◌∷◌}
 use Rattle.std.proofs.Common.{◌++◌, Some, None, map, length, arith, refl, sym, ap, ◌∙◌, subst, inl, inr}
-use Rattle.std.specs.Prelude.{◌==◌, nat_lt, count_by, if◌then◌else◌}
+use Rattle.std.specs.Prelude.{◌==◌, nat_lt, count_by, if◌then◌else◌, not}
 use Rattle.std.specs.List.{AllByRecursion as All, Contains}
 use Rattle.std.proofs.lemmas.Bool.{cases_Bool, eqb-true}
 use Rattle.std.proofs.lemmas.Bool.Decides.{nat_tests}
+use Rattle.std.proofs.lemmas.Cmp.{nat_eq_equiv}
 use Rattle.bq_job.specs.declared.job.Job.{Job}
 use Rattle.bq_job.specs.machine.Changes.{job_with}
 use Rattle.bq_job.specs.beside.Lawful.{AreIdsWithin}
 use Rattle.bq_job.proofs.ChoiceLemmas.{first_of_contains}
-use Rattle.bq_job.proofs.ListLemmas.{all_at, all_weaker, count_cons}
+use Rattle.bq_job.proofs.KeptLemmas.{ids_of_filter}
+use Rattle.bq_job.proofs.ListLemmas.{all_from_members, all_weaker, count_cons}
+use Rattle.bq_job.proofs.LookupLemmas.{found_job, job_found, job_in_rest}
 use Rattle.bq_jobs.specs.Changed.{IgnoresTube, KeepsTube}
 use Rattle.bq_jobs.specs.Kept.{with_added, without}
 use Rattle.bq_jobs.specs.Laws.{AddsAtTheEnd, ChosenHasItsId, NextIsFree}
+
+-- the test of two numbers does not depend on their order
+pub same_back : (a b : ℕ) → (a == b) ≡ (b == a)
+same_back a b = nat_eq_equiv.symm a b
 
 -- the lowest id is below the next one
 pub low_below : (low next : ℕ) (jobs : List Job) → AreIdsWithin low jobs next → low ≤ next
@@ -29,8 +36,7 @@ all_from_low low next (j ∷ jobs) h = (
 )
 
 pub all_below_next : (low next : ℕ) (jobs : List Job) → AreIdsWithin low jobs next → All (λ j. j.id < next) jobs
-all_below_next low next [] h = tt
-all_below_next low next (j ∷ jobs) h = (let i = low_below (suc j.id) next jobs h.1 in omega arith, all_below_next (suc j.id) next jobs h.1)
+all_below_next low next jobs h = all_from_members (λ j. j.id < next) jobs (λ j i. (job_found low next jobs j h i).1)
 
 -- an id that no job has finds no job
 pub not_found : (id : ℕ) (jobs : List Job) → All (λ j. (j.id == id) ≡ false) jobs → job_with id jobs ≡ None
@@ -57,37 +63,14 @@ next_is_free low next jobs h =
 
 -- a job that an id finds has this id
 pub found_id : (id : ℕ) (jobs : List Job) (j : Job) → job_with id jobs ≡ Some j → j.id ≡ id
-found_id id [] j h = absurd cc
-found_id id (k ∷ jobs) j h =
-    elim (cases_Bool (k.id == id)) [
-      | inl e ↦
-          let same : Some k ≡ Some j = rw e at h in
-          let is : k ≡ j = (cc) in
-          subst (λ z. z.id ≡ id) is (eqb-true k.id id e)
-      | inr e ↦ found_id id jobs j (rw e at h)
-    ]
+found_id id jobs j h = (found_job id jobs j h).0
 
 -- a job's id finds this job
-pub all_found : (low next : ℕ) (jobs : List Job) → AreIdsWithin low jobs next → All (λ j. job_with j.id jobs ≡ Some j) jobs
-all_found low next [] h = tt
-all_found low next (j ∷ jobs) h =
-    let here : (j.id == j.id) ≡ true = grind (arith, nat_tests) in
-    (rw here refl, all_past j jobs (all_from_low (suc j.id) next jobs h.1) (all_found (suc j.id) next jobs h.1))
-  where
-    past : (j k : Job) (jobs : List Job) → suc j.id ≤ k.id → job_with k.id jobs ≡ Some k → job_with k.id (j ∷ jobs) ≡ Some k
-    past j k jobs l h = let other : (j.id == k.id) ≡ false = grind (arith, nat_tests) in rw other h
-
-    all_past_in : (j : Job) (jobs ks : List Job) → All (λ k. suc j.id ≤ k.id) ks → All (λ k. job_with k.id jobs ≡ Some k) ks
-        → All (λ k. job_with k.id (j ∷ jobs) ≡ Some k) ks
-    all_past_in j jobs [] l h = tt
-    all_past_in j jobs (k ∷ ks) l h = (past j k jobs l.0 h.0, all_past_in j jobs ks l.1 h.1)
-
-    all_past : (j : Job) (jobs : List Job) → All (λ k. suc j.id ≤ k.id) jobs → All (λ k. job_with k.id jobs ≡ Some k) jobs
-        → All (λ k. job_with k.id (j ∷ jobs) ≡ Some k) jobs
-    all_past j jobs l h = all_past_in j jobs jobs l h
-
 pub found_by_id : (low next : ℕ) (jobs : List Job) (j : Job) → AreIdsWithin low jobs next → Contains jobs j → job_with j.id jobs ≡ Some j
-found_by_id low next jobs j h i = all_at (λ k. job_with k.id jobs ≡ Some k) jobs j (all_found low next jobs h) i
+found_by_id low next jobs j h i = (job_found low next jobs j h i).0
+
+pub all_found : (low next : ℕ) (jobs : List Job) → AreIdsWithin low jobs next → All (λ j. job_with j.id jobs ≡ Some j) jobs
+all_found low next jobs h = all_from_members (λ j. job_with j.id jobs ≡ Some j) jobs (λ j i. found_by_id low next jobs j h i)
 
 -- a change that ignores the tube does not change it
 pub stays_in : (f : Job → Job) → IgnoresTube f → KeepsTube f
@@ -143,41 +126,22 @@ count_added p j (k ∷ jobs) =
       | inl before ↦ rw before (rw (count_cons p k (with_added j jobs), count_cons p k jobs) (omega (arith, count_added p j jobs)))
     ]
 
+-- all jobs are counted by a test that all pass
+count_all : (jobs : List Job) → count_by (λ k. true) jobs ≡ length jobs
+count_all [] = refl
+count_all (j ∷ jobs) = omega (arith, count_cons (λ k. true) j jobs, count_all jobs)
+
 pub length_added : (j : Job) (jobs : List Job) → length (with_added j jobs) ≡ suc (length jobs)
-length_added j [] = refl
-length_added j (k ∷ jobs) =
-    elim (cases_Bool (nat_lt k.id j.id)) [
-      | inr after ↦ rw after refl
-      | inl before ↦ rw before (ap suc (length_added j jobs))
-    ]
+length_added j jobs =
+    let added : count_by (λ k. true) (with_added j jobs) ≡ 1 + count_by (λ k. true) jobs = count_added (λ k. true) j jobs in
+    omega (arith, added, count_all (with_added j jobs), count_all jobs)
 
 -- removals
 pub found_without : (q id : ℕ) (jobs : List Job) → job_with q (without id jobs) ≡ cond (id == q) None (job_with q jobs)
-found_without q id [] = elim (cases_Bool (id == q)) [ inl e ↦ rw e refl | inr e ↦ rw e refl ]
-found_without q id (k ∷ jobs) =
-    elim (cases_Bool (k.id == id)) [
-      | inl out ↦ rw out (found_without q id jobs ∙ elim (cases_Bool (id == q)) [
-        | inl e ↦ rw e refl
-        | inr e ↦ let other : (k.id == q) ≡ false = grind (arith, nat_tests) in rw (e, other) refl
-      ])
-      | inr kept ↦ rw kept (elim (cases_Bool (k.id == q)) [
-        | inl here ↦ let other : (id == q) ≡ false = grind (arith, nat_tests) in rw (here, other) refl
-        | inr there ↦ rw there (found_without q id jobs)
-      ])
-    ]
-
-within_more : (low lower next : ℕ) (jobs : List Job) → lower ≤ low → AreIdsWithin low jobs next → AreIdsWithin lower jobs next
-within_more low lower next [] l h = omega arith
-within_more low lower next (j ∷ jobs) l h = (let m = h.0 in omega arith, h.1)
+found_without q id jobs = job_in_rest id q jobs ∙ ap (λ b. cond b None (job_with q jobs)) (same_back q id)
 
 pub without_within : (low next id : ℕ) (jobs : List Job) → AreIdsWithin low jobs next → AreIdsWithin low (without id jobs) next
-without_within low next id [] h = h
-without_within low next id (k ∷ jobs) h =
-    elim (cases_Bool (k.id == id)) [
-      | inl out ↦ rw out (within_more (suc k.id) low next (without id jobs) (let m = h.0 in omega arith)
-          (without_within (suc k.id) next id jobs h.1))
-      | inr kept ↦ rw kept (h.0, without_within (suc k.id) next id jobs h.1)
-    ]
+without_within low next id jobs h = ids_of_filter (λ k. not (k.id == id)) low next jobs h
 
 -- removal of the first job
 pub without_first : (low next : ℕ) (k : Job) (jobs : List Job) → AreIdsWithin low (k ∷ jobs) next → without k.id jobs ≡ jobs
@@ -201,23 +165,22 @@ count_without p low next id j (k ∷ jobs) h found =
 
 pub length_without : (low next id : ℕ) (j : Job) (jobs : List Job) → AreIdsWithin low jobs next → job_with id jobs ≡ Some j
     → suc (length (without id jobs)) ≡ length jobs
-length_without low next id j [] h found = absurd cc
-length_without low next id j (k ∷ jobs) h found =
+length_without low next id j jobs h found =
+    let left : 1 + count_by (λ k. true) (without id jobs) ≡ count_by (λ k. true) jobs =
+    count_without (λ k. true) low next id j jobs h found in
+    omega (arith, left, count_all (without id jobs), count_all jobs)
+
+-- an id that finds no job is that of none
+pub none_has : (id : ℕ) (jobs : List Job) → job_with id jobs ≡ None → All (λ j. (j.id == id) ≡ false) jobs
+none_has id [] h = tt
+none_has id (k ∷ jobs) h =
     elim (cases_Bool (k.id == id)) [
-      | inl out ↦
-          let at : k.id ≡ id = eqb-true k.id id out in
-          let rest : without id jobs ≡ jobs = subst (λ n. without n jobs ≡ jobs) at (without_first low next k jobs h) in
-          rw out (rw rest refl)
-      | inr kept ↦ rw kept (ap suc (length_without (suc k.id) next id j jobs h.1 (rw kept at found)))
+      | inl out ↦ absurd (let g = rw out at h in cc)
+      | inr kept ↦ (kept, none_has id jobs (rw kept at h))
     ]
 
 pub without_none : (id : ℕ) (jobs : List Job) → job_with id jobs ≡ None → without id jobs ≡ jobs
-without_none id [] h = refl
-without_none id (k ∷ jobs) h =
-    elim (cases_Bool (k.id == id)) [
-      | inl out ↦ absurd (let g = rw out at h in cc)
-      | inr kept ↦ rw kept (ap (λ ks. k ∷ ks) (without_none id jobs (rw kept at h)))
-    ]
+without_none id jobs h = all_kept id jobs (none_has id jobs h)
 
 -- a removal, and an addition of the changed job
 pub changed : (low next id : ℕ) (f : Job → Job) (j : Job) (jobs : List Job) → AreIdsWithin low jobs next → job_with id jobs ≡ Some j

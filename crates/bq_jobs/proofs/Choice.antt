@@ -1,15 +1,15 @@
 -- Entries in the order of their keys: lookups after a change, and the first entry from a key on.
-use Rattle.std.proofs.Common.{◌≡◌, ℕ, true, false, cond, List, [], ◌∷◌, Option, Some, None, arith, refl, ap, ◌∙◌, subst, inl, inr}
+use Rattle.std.proofs.Common.{◌≡◌, ℕ, true, false, cond, List, [], ◌∷◌, Option, Some, None, arith, refl, sym, ap, ◌∙◌, subst, inl, inr}
 use Rattle.std.specs.Prelude.{is_some, ◌==◌, nat_lt}
 use Rattle.std.specs.declared.cmp.Ordering.{Ordering}
 use Rattle.std.specs.declared.cmp.Ordering.TheVariants.{Less, Equal, Greater}
-use Rattle.std.specs.Cmp.{IsTotalOrder, eq_by_cmp_equiv}
+use Rattle.std.specs.Cmp.{Equal-is, IsTotalOrder, eq_by_cmp_equiv, tied_then, unsigned_tied}
 use Rattle.std.specs.Ordering.{is_eq, is_gt, match_ordering, nat_cmp, ordering_then}
 use Rattle.std.specs.List.{AllByRecursion as All}
 use Rattle.std.specs.List.Sorted.{IsStrictlySortedBy}
 use Rattle.std.specs.Map.{keys_of, lookup, remove_entry}
 use Rattle.std.specs.BTreeMap.{is_at, insert_entry}
-use Rattle.std.proofs.lemmas.Bool.{cases_Bool}
+use Rattle.std.proofs.lemmas.Bool.{and_parts, cases_Bool, eqb-true}
 use Rattle.std.proofs.lemmas.Bool.Decides.{nat_tests}
 use Rattle.std.proofs.lemmas.Cmp.{alike_right, tied_back, tied_itself}
 use Rattle.std.proofs.lemmas.Map.{lookup-remove_entry}
@@ -19,30 +19,17 @@ use Rattle.bq_job.specs.machine.Changes.{is_pair_before}
 
 -- the comparison that a test confirms
 pub equal_from : (a : Ordering) → is_eq a ≡ true → a ≡ Equal
-equal_from Less h = absurd cc
-equal_from Equal h = refl
-equal_from Greater h = absurd cc
+equal_from a h = (Equal-is a).0 h
 
 -- two comparisons, the second one for ties
 pub then_equal_first : (a b : Ordering) → ordering_then a b ≡ Equal → a ≡ Equal
-then_equal_first Less b h = absurd cc
-then_equal_first Equal b h = refl
-then_equal_first Greater b h = absurd cc
+then_equal_first a b h = equal_from a ((and_parts (is_eq a) (is_eq b) (tied_then a b ∙ ap is_eq h)).0)
 
 pub then_equal_second : (a b : Ordering) → ordering_then a b ≡ Equal → b ≡ Equal
-then_equal_second Less b h = absurd cc
-then_equal_second Equal b h = h
-then_equal_second Greater b h = absurd cc
+then_equal_second a b h = equal_from b ((and_parts (is_eq a) (is_eq b) (tied_then a b ∙ ap is_eq h)).1)
 
 pub numbers_tie : (a b : ℕ) → nat_cmp a b ≡ Equal → a ≡ b
-numbers_tie a b h =
-    elim (cases_Bool (nat_lt a b)) [
-      | inl less ↦ absurd (let g = rw less at h in cc)
-      | inr e ↦ elim (cases_Bool (a == b)) [
-        | inl same ↦ grind (arith, nat_tests)
-        | inr other ↦ absurd (let g = rw (e, other) at h in cc)
-      ]
-    ]
+numbers_tie a b h = eqb-true a b (sym (unsigned_tied a b) ∙ ap is_eq h)
 
 pub none_below : (a : ℕ) → is_gt (nat_cmp 0 a) ≡ false
 none_below a =

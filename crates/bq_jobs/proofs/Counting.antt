@@ -1,8 +1,5 @@
 -- Bounds on the number of comparisons.
-use Rattle.std.proofs.Common.{◌≡◌, ℕ, zero, suc, ◌+◌, ◌*◌, ◌/◌, ◌≤◌, true, false, List, min, length, ap, arith, subst, inl, inr}
-use Rattle.std.specs.Prelude.{◌==◌}
-use Rattle.std.proofs.lemmas.Bool.{cases_Bool}
-use Rattle.std.proofs.lemmas.Bool.Decides.{nat_tests}
+use Rattle.std.proofs.Common.{◌≡◌, ℕ, ◌+◌, ◌*◌, ◌≤◌, List, min, length, ap, arith, subst}
 use Rattle.bq_index.specs.Digits.{binary_digits}
 use Rattle.bq_index.proofs.Bound.{digits_rise}
 use Rattle.bq_job.specs.declared.job.Job.{Job}

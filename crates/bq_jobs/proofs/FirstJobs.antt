@@ -6,8 +6,6 @@ use Rattle.bq_jobs.specs.contracts.places.GroupOrd.TheImpl.Laws as group_laws
 use Rattle.bq_jobs.specs.contracts.places.TimerOrd.TheImpl.Laws as timer_laws
 use Rattle.bq_jobs.specs.declared.places.Holder.{Holder}
 use Rattle.bq_jobs.specs.declared.places.Holder.TheVariants as holders
-use Rattle.bq_jobs.specs.declared.places.JobList.{JobList}
-use Rattle.bq_jobs.specs.declared.places.JobList.TheVariants as lists
 use Rattle.bq_jobs.specs.declared.places.ShelfPlace.{ShelfPlace}
 use Rattle.bq_jobs.specs.declared.places.Timer.{Timer}
 use Rattle.bq_jobs.specs.declared.places.Timer.TheVariants as timers
@@ -15,32 +13,20 @@ use Rattle.bq_jobs.specs.declared.rows.Rows.TheInside.{Inside as Parts}
 use Rattle.bq_jobs.specs.Inside.{jobs_of}
 use Rattle.bq_jobs.specs.Kept.{ranked}
 use Rattle.bq_jobs.specs.PlaceOrder.{first_rank}
-use Rattle.bq_jobs.specs.Places.{list_of, timer_place, group_place}
-use Rattle.bq_jobs.specs.Ranks.{first_by, first_held, first_timed, id_in, is_listed, is_of, is_timed, list_rank, moment_of, rank_of}
+use Rattle.bq_jobs.specs.Places.{timer_place, group_place}
+use Rattle.bq_jobs.specs.Ranks.{first_by, first_held, first_timed, id_in, is_of, is_timed, moment_of, rank_of}
 use Rattle.bq_jobs.proofs.FirstOfGroup.{in_group, rank_is}
-use Rattle.bq_jobs.proofs.Firsts.{group_cmp, timer_cmp, group_own, timer_own, ready_grouped, delayed_grouped}
-use Rattle.bq_jobs.proofs.Firsts.{buried_grouped, due_grouped, lease_grouped, held_grouped, ready_numbered, delayed_numbered}
-use Rattle.bq_jobs.proofs.Firsts.{buried_numbered, due_numbered, lease_numbered, held_numbered}
+use Rattle.bq_jobs.proofs.Firsts.{group_cmp, timer_cmp, group_own, timer_own, listed_grouped, due_grouped, lease_grouped, held_grouped}
+use Rattle.bq_jobs.proofs.Firsts.{listed_numbered, due_numbered, lease_numbered, held_numbered}
 use Rattle.bq_jobs.proofs.Shelved.{AreShelved}
-
-listed_grouped : (list : JobList) (tube : List ℕ) (j : Job) → is_listed list tube j ≡ in_group group_cmp (list_of tube list) (group_place j)
-listed_grouped lists.Ready tube j = ready_grouped tube j.state j
-listed_grouped lists.Delayed tube j = delayed_grouped tube j.state j
-listed_grouped lists.Buried tube j = buried_grouped tube j.state j
-
-listed_numbered : (list : JobList) (tube : List ℕ) (j : Job) (p : ShelfPlace Holder) → group_place j ≡ Some p → is_listed list tube j ≡ true
-    → p.at ≡ list_rank list j
-listed_numbered lists.Ready tube j p e h = ready_numbered tube j.state j p e h
-listed_numbered lists.Delayed tube j p e h = delayed_numbered tube j.state j p e h
-listed_numbered lists.Buried tube j p e h = buried_numbered tube j.state j p e h
 
 grouped : (g : Holder) (j : Job) → is_of g j ≡ in_group group_cmp g (group_place j)
 grouped (holders.Held seat) j = held_grouped seat j.state j
-grouped (holders.Listed l) j = listed_grouped l.list l.tube j
+grouped (holders.Listed l) j = listed_grouped l.list l.tube j.state j
 
 numbered : (g : Holder) (j : Job) (p : ShelfPlace Holder) → group_place j ≡ Some p → is_of g j ≡ true → p.at ≡ rank_of g j
 numbered (holders.Held seat) j p e h = held_numbered seat j.state j p e h
-numbered (holders.Listed l) j p e h = listed_numbered l.list l.tube j p e h
+numbered (holders.Listed l) j p e h = listed_numbered l.list l.tube j.state j p e h
 
 timed : (t : Timer) (j : Job) → is_timed t j ≡ in_group timer_cmp t (timer_place j)
 timed timers.Due j = due_grouped j.state j

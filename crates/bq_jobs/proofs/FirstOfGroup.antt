@@ -7,7 +7,7 @@ use Rattle.std.specs.Cmp.{IsTotalOrder}
 use Rattle.std.specs.Ordering.{is_eq, is_gt, nat_cmp, ordering_reverse, ordering_then}
 use Rattle.std.specs.Option.{IfSome, option_map, option_and_then}
 use Rattle.std.specs.List.{Contains}
-use Rattle.std.proofs.lemmas.Bool.{cases_Bool}
+use Rattle.std.proofs.lemmas.Bool.{cases_Bool, false_from_ne_true}
 use Rattle.std.proofs.lemmas.Bool.Decides.{nat_tests}
 use Rattle.bq_index.specs.Order.{InOrder, entry_from}
 use Rattle.bq_job.specs.declared.job.Job.{Job}
@@ -32,10 +32,6 @@ in_group C g (Some p) = is_eq (C g p.group)
 -- the number and the id of a place
 abbrev rank_at : {G : Type 0} → ShelfPlace G × Unit {0} → ℕ × ℕ
 rank_at e = (e.0.at, e.0.id)
-
-false_or : (b : Bool) → (b ≡ true → ⊥) → b ≡ false
-false_or true h = absurd (h refl)
-false_or false h = refl
 
 -- if the front of one group is not above a place of another group, the first group is below the
 -- other
@@ -110,7 +106,7 @@ module _ {G : Type 0} {C : G → G → Ordering} (o : IsTotalOrder C) (g : G) wh
       none_passes never =
           first_of_none_passes passes before jobs
           (list_any_not passes jobs (all_from_members (λ j. passes j ≡ false) jobs
-          (λ j i. false_or (passes j) (λ t. never j i (placed j t)))))
+          (λ j i. false_from_ne_true (passes j) (λ t. never j i (placed j t)))))
 
       -- there is no place from the front on
       none_first : entry_from (place_cmp C (front C g)) order.entries ≡ None → first_of passes before jobs ≡ None

@@ -5,6 +5,7 @@ use Rattle.std.specs.Prelude.{◌==◌}
 use Rattle.std.specs.Option.{IfSome}
 use Rattle.std.specs.declared.cmp.Ordering.{Ordering}
 use Rattle.std.specs.declared.cmp.Ordering.TheVariants.{Less, Equal, Greater}
+use Rattle.std.specs.Cmp.{tied_then}
 use Rattle.std.specs.Cmp.Lexicographic.{bytes_decides, slice_cmp, texts_ties}
 use Rattle.std.specs.Ordering.{is_eq, nat_cmp, ordering_then}
 use Rattle.std.proofs.lemmas.Bool.{cases_Bool, and_parts, eqb-true}
@@ -12,12 +13,13 @@ use Rattle.std.proofs.lemmas.Bool.Decides.{nat_tests}
 use Rattle.bq_job.specs.declared.job.Job.{Job}
 use Rattle.bq_job.specs.declared.job.JobState.{JobState}
 use Rattle.bq_job.specs.declared.job.JobState.TheVariants as states
-use Rattle.bq_job.specs.machine.Changes.{is_holder, is_ready_state}
-use Rattle.bq_job.specs.machine.JobStates.{burial_of, due_of, is_buried, is_delayed, is_reserved}
+use Rattle.bq_job.specs.machine.Changes.{is_holder}
+use Rattle.bq_job.specs.machine.JobStates.{due_of, is_delayed, is_reserved}
 use Rattle.bq_job.specs.reading.TubeName.{is_same_name}
 use Rattle.bq_jobs.specs.contracts.places.GroupOrd.TheImpl as group_ord
 use Rattle.bq_jobs.specs.contracts.places.TimerOrd.TheImpl as timer_ord
 use Rattle.bq_jobs.specs.declared.places.Holder.{Holder}
+use Rattle.bq_jobs.specs.declared.places.JobList.{JobList}
 use Rattle.bq_jobs.specs.declared.places.JobList.TheVariants as lists
 use Rattle.bq_jobs.specs.declared.places.ShelfPlace.{ShelfPlace}
 use Rattle.bq_jobs.specs.declared.places.Timer.{Timer}
@@ -25,6 +27,7 @@ use Rattle.bq_jobs.specs.declared.places.Timer.TheVariants as timers
 use Rattle.bq_jobs.specs.Leases.{deadline_of}
 use Rattle.bq_jobs.specs.Names.{name_cmp, number_in}
 use Rattle.bq_jobs.specs.Places.{held_by, in_timers, in_groups, list_of, timer_place, group_place}
+use Rattle.bq_jobs.specs.Ranks.{is_in_list, list_rank_at}
 use Rattle.bq_jobs.proofs.ById.{is_eq_nat}
 use Rattle.bq_jobs.proofs.FirstOfGroup.{in_group}
 
@@ -42,14 +45,10 @@ same_length (x ∷ a) [] h = absurd cc
 same_length (x ∷ a) (y ∷ b) h = ap suc (same_length a b ((and_parts (x == y) (is_same_name a b) h).1))
 
 then_apart : (a b : Ordering) → is_eq a ≡ false → is_eq (ordering_then a b) ≡ false
-then_apart Less b h = refl
-then_apart Equal b h = absurd cc
-then_apart Greater b h = refl
+then_apart a b h = sym (tied_then a b) ∙ ap (λ t. t && is_eq b) h
 
 then_on : (a b : Ordering) → is_eq a ≡ true → is_eq (ordering_then a b) ≡ is_eq b
-then_on Less b h = absurd cc
-then_on Equal b h = refl
-then_on Greater b h = absurd cc
+then_on a b h = sym (tied_then a b) ∙ ap (λ t. t && is_eq b) h
 
 -- names compare equal exactly if they are the same
 pub name_ties : (a b : List ℕ) → is_same_name a b ≡ is_eq (name_cmp a b)
@@ -117,31 +116,29 @@ group_own j = own_group j.state j
 pub timer_own : (j : Job) → IfSome (timer_place j) (λ p. p.id ≡ j.id)
 timer_own j = own_timer j.state j
 
+-- lists of two kinds are not the same
+other_list : (i k : ℕ) (tube : List ℕ) (j : Job) → i < 4 → k < 4 → (k == i) ≡ false
+    → false ≡ is_eq (ordering_then (nat_cmp (number_in tube * 4 + i) (number_in j.tube * 4 + k)) (name_cmp tube j.tube))
+other_list i k tube j few less other = apart (number_in tube) (number_in j.tube) i k (name_cmp tube j.tube) few less other
+
 -- a job passes the test of a group exactly if its place is in the group
-pub ready_grouped : (tube : List ℕ) (s : JobState) (j : Job)
-    → (is_ready_state s && is_same_name tube j.tube) ≡ in_group group_cmp (list_of tube lists.Ready) (in_groups s j)
-ready_grouped tube states.Ready j = list_ties 0 tube j.tube
-ready_grouped tube (states.Delayed due) j =
-    apart (number_in tube) (number_in j.tube) 0 1 (name_cmp tube j.tube) (omega arith) (omega arith) refl
-ready_grouped tube (states.Reserved seat deadline) j = apart (number_in tube) seat 0 3 (name_cmp tube []) (omega arith) (omega arith) refl
-ready_grouped tube (states.Buried number) j =
-    apart (number_in tube) (number_in j.tube) 0 2 (name_cmp tube j.tube) (omega arith) (omega arith) refl
-
-pub delayed_grouped : (tube : List ℕ) (s : JobState) (j : Job)
-    → (is_delayed s && is_same_name tube j.tube) ≡ in_group group_cmp (list_of tube lists.Delayed) (in_groups s j)
-delayed_grouped tube states.Ready j = apart (number_in tube) (number_in j.tube) 1 0 (name_cmp tube j.tube) (omega arith) (omega arith) refl
-delayed_grouped tube (states.Delayed due) j = list_ties 1 tube j.tube
-delayed_grouped tube (states.Reserved seat deadline) j = apart (number_in tube) seat 1 3 (name_cmp tube []) (omega arith) (omega arith) refl
-delayed_grouped tube (states.Buried number) j =
-    apart (number_in tube) (number_in j.tube) 1 2 (name_cmp tube j.tube) (omega arith) (omega arith) refl
-
-pub buried_grouped : (tube : List ℕ) (s : JobState) (j : Job)
-    → (is_buried s && is_same_name tube j.tube) ≡ in_group group_cmp (list_of tube lists.Buried) (in_groups s j)
-buried_grouped tube states.Ready j = apart (number_in tube) (number_in j.tube) 2 0 (name_cmp tube j.tube) (omega arith) (omega arith) refl
-buried_grouped tube (states.Delayed due) j =
-    apart (number_in tube) (number_in j.tube) 2 1 (name_cmp tube j.tube) (omega arith) (omega arith) refl
-buried_grouped tube (states.Reserved seat deadline) j = apart (number_in tube) seat 2 3 (name_cmp tube []) (omega arith) (omega arith) refl
-buried_grouped tube (states.Buried number) j = list_ties 2 tube j.tube
+pub listed_grouped : (list : JobList) (tube : List ℕ) (s : JobState) (j : Job)
+    → (is_in_list list s && is_same_name tube j.tube) ≡ in_group group_cmp (list_of tube list) (in_groups s j)
+listed_grouped lists.Ready tube states.Ready j = list_ties 0 tube j.tube
+listed_grouped lists.Ready tube (states.Delayed due) j = other_list 0 1 tube j (omega arith) (omega arith) refl
+listed_grouped lists.Ready tube (states.Reserved seat deadline) j =
+    apart (number_in tube) seat 0 3 (name_cmp tube []) (omega arith) (omega arith) refl
+listed_grouped lists.Ready tube (states.Buried number) j = other_list 0 2 tube j (omega arith) (omega arith) refl
+listed_grouped lists.Delayed tube states.Ready j = other_list 1 0 tube j (omega arith) (omega arith) refl
+listed_grouped lists.Delayed tube (states.Delayed due) j = list_ties 1 tube j.tube
+listed_grouped lists.Delayed tube (states.Reserved seat deadline) j =
+    apart (number_in tube) seat 1 3 (name_cmp tube []) (omega arith) (omega arith) refl
+listed_grouped lists.Delayed tube (states.Buried number) j = other_list 1 2 tube j (omega arith) (omega arith) refl
+listed_grouped lists.Buried tube states.Ready j = other_list 2 0 tube j (omega arith) (omega arith) refl
+listed_grouped lists.Buried tube (states.Delayed due) j = other_list 2 1 tube j (omega arith) (omega arith) refl
+listed_grouped lists.Buried tube (states.Reserved seat deadline) j =
+    apart (number_in tube) seat 2 3 (name_cmp tube []) (omega arith) (omega arith) refl
+listed_grouped lists.Buried tube (states.Buried number) j = list_ties 2 tube j.tube
 
 pub due_grouped : (s : JobState) (j : Job) → is_delayed s ≡ in_group timer_cmp timers.Due (in_timers s j)
 due_grouped states.Ready j = refl
@@ -166,29 +163,21 @@ at_of : {G : Type 0} → Option (ShelfPlace G) → ℕ
 at_of None = 0
 at_of (Some p) = p.at
 
-pub ready_numbered : (tube : List ℕ) (s : JobState) (j : Job) (p : ShelfPlace Holder) → in_groups s j ≡ Some p
-    → (is_ready_state s && is_same_name tube j.tube) ≡ true → p.at ≡ j.pri
+pub listed_numbered : (list : JobList) (tube : List ℕ) (s : JobState) (j : Job) (p : ShelfPlace Holder) → in_groups s j ≡ Some p
+    → (is_in_list list s && is_same_name tube j.tube) ≡ true → p.at ≡ list_rank_at list j.pri s
 unfolding at_of
-ready_numbered tube states.Ready j p e h = sym (ap at_of e)
-ready_numbered tube (states.Delayed due) j p e h = absurd cc
-ready_numbered tube (states.Reserved seat deadline) j p e h = absurd cc
-ready_numbered tube (states.Buried number) j p e h = absurd cc
-
-pub delayed_numbered : (tube : List ℕ) (s : JobState) (j : Job) (p : ShelfPlace Holder) → in_groups s j ≡ Some p
-    → (is_delayed s && is_same_name tube j.tube) ≡ true → p.at ≡ due_of s
-unfolding at_of
-delayed_numbered tube states.Ready j p e h = absurd cc
-delayed_numbered tube (states.Delayed due) j p e h = sym (ap at_of e)
-delayed_numbered tube (states.Reserved seat deadline) j p e h = absurd cc
-delayed_numbered tube (states.Buried number) j p e h = absurd cc
-
-pub buried_numbered : (tube : List ℕ) (s : JobState) (j : Job) (p : ShelfPlace Holder) → in_groups s j ≡ Some p
-    → (is_buried s && is_same_name tube j.tube) ≡ true → p.at ≡ burial_of s
-unfolding at_of
-buried_numbered tube states.Ready j p e h = absurd cc
-buried_numbered tube (states.Delayed due) j p e h = absurd cc
-buried_numbered tube (states.Reserved seat deadline) j p e h = absurd cc
-buried_numbered tube (states.Buried number) j p e h = sym (ap at_of e)
+listed_numbered lists.Ready tube states.Ready j p e h = sym (ap at_of e)
+listed_numbered lists.Ready tube (states.Delayed due) j p e h = absurd cc
+listed_numbered lists.Ready tube (states.Reserved seat deadline) j p e h = absurd cc
+listed_numbered lists.Ready tube (states.Buried number) j p e h = absurd cc
+listed_numbered lists.Delayed tube states.Ready j p e h = absurd cc
+listed_numbered lists.Delayed tube (states.Delayed due) j p e h = sym (ap at_of e)
+listed_numbered lists.Delayed tube (states.Reserved seat deadline) j p e h = absurd cc
+listed_numbered lists.Delayed tube (states.Buried number) j p e h = absurd cc
+listed_numbered lists.Buried tube states.Ready j p e h = absurd cc
+listed_numbered lists.Buried tube (states.Delayed due) j p e h = absurd cc
+listed_numbered lists.Buried tube (states.Reserved seat deadline) j p e h = absurd cc
+listed_numbered lists.Buried tube (states.Buried number) j p e h = sym (ap at_of e)
 
 pub due_numbered : (s : JobState) (j : Job) (p : ShelfPlace Timer) → in_timers s j ≡ Some p → is_delayed s ≡ true → p.at ≡ due_of s
 unfolding at_of

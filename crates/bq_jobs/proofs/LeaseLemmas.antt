@@ -34,10 +34,7 @@ compare = place_cmp timer_cmp
 abbrev first : List (ShelfPlace Timer × Unit {0}) → Option (ℕ × ℕ)
 first = first_rank timer_cmp Lease
 
--- a delay before other places changes nothing, and a lease there is the first one
-delay_first : (at id : ℕ) (es : List (ShelfPlace Timer × Unit {0})) → first ((place Due at id, tt) ∷ es) ≡ first es
-delay_first at id es = refl
-
+-- a lease before other places is the first one
 lease_first : (at id : ℕ) (es : List (ShelfPlace Timer × Unit {0})) → first ((place Lease at id, tt) ∷ es) ≡ Some (at, id)
 lease_first at id es = rw (then_not_greater (nat_cmp 0 at) (nat_cmp 0 id) (none_below at) (none_below id)) refl
 

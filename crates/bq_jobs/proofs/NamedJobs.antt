@@ -1,16 +1,14 @@
 -- Operations on jobs by the names of their tubes agree with those on records by numbers.
-use Rattle.std.proofs.Common.{◌≡◌, ◌+◌, ◌*◌, ◌≤◌, ℕ, suc, length, Bor, Bool, true, false, ◌&&◌, ◌||◌, List}
+use Rattle.std.proofs.Common.{◌≡◌, ◌+◌, ◌*◌, ◌≤◌, ℕ, suc, length, Bor, Bool, true, false, ◌&&◌, List}
 use Rattle.std.proofs.Common.{[], ◌∷◌, Option, Some, None, is_some, map, refl, sym, ap, ◌∙◌, subst, inl, inr}
-use Rattle.std.specs.Prelude.{◌==◌, nat_lt, unwrap_or, if◌then◌else◌, Result, Ok, Err, IfOk, IfSome}
+use Rattle.std.specs.Prelude.{◌==◌, nat_lt, unwrap_or, Result, Ok, Err, IfOk, IfSome}
 use Rattle.std.specs.BTreeMap.{is_at}
 use Rattle.std.specs.Cmp.Lexicographic.{bytes_decides, slice_cmp}
 use Rattle.std.specs.List.{AllByRecursion as All, list_any}
 use Rattle.std.specs.Map.{remove_entry}
-use Rattle.std.specs.Option.{option_and_then, option_map}
+use Rattle.std.specs.Option.{option_map}
 use Rattle.std.specs.Ordering.{nat_cmp}
-use Rattle.std.proofs.Common.{arith}
-use Rattle.std.proofs.lemmas.Bool.{cases_Bool, eqb-true}
-use Rattle.std.proofs.lemmas.Bool.Decides.{nat_tests}
+use Rattle.std.proofs.lemmas.Bool.{cases_Bool, eq-eqb, eqb-true, or_parts}
 use Rattle.bq_job.specs.declared.job.Job.{Job}
 use Rattle.bq_job.specs.machine.Changes.{job_with}
 use Rattle.bq_job.specs.reading.TubeName.{is_same_name}
@@ -28,10 +26,6 @@ use Rattle.bq_jobs.specs.Told.{moved_told, removed_told}
 use Rattle.bq_jobs.specs.Seen.{IsBodyOf, IsTubeOf, but_for_tube}
 use Rattle.bq_jobs.proofs.Changes.{stays_in}
 use Rattle.bq_jobs.proofs.NumberingLemmas.{name_kept, number_other, same_names}
-
-or_parts : (a b : Bool) → (a || b) ≡ false → (a ≡ false) × (b ≡ false)
-or_parts true b e = absurd cc
-or_parts false b e = (refl, e)
 
 same_itself : (a : List ℕ) → is_same_name a a ≡ true
 same_itself a = (bytes_decides a a).1 refl
@@ -52,14 +46,11 @@ module _ (k : Numbering) (h : IsPaired k) (name : List ℕ) where
           let is : name ≡ other = (bytes_decides name other).0 same in
           let two : Some n ≡ Some m = sym own ∙ ap (λ s. number_of s k) is ∙ h.back m other its in
           let tie : n ≡ m = (cc) in
-          let itself : (n == m) ≡ true = ap (λ i. n == i) (sym tie) ∙ same_number n in
+          let itself = eq-eqb n m tie in
           cc)
       | inr other_name ↦ other_name
     ])
   ]
-    where
-      same_number : (n : ℕ) → (n == n) ≡ true
-      same_number n = grind (arith, nat_tests)
 
   tube_told : (n : ℕ) → number_of name k ≡ Some n → (j : Job) → IsNumbered k j
       → is_same_name name (named k j).tube ≡ is_same_name (n ∷ []) j.tube

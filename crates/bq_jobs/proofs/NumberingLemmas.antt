@@ -1,17 +1,18 @@
 -- Consequences of the numbering of tubes.
-use Rattle.std.proofs.Common.{◌≡◌, ◌≤◌, ◌<◌, ◌+◌, ◌^◌, ℕ, zero, suc, Bool, true, false, cond, List, [], ◌∷◌, length, get_or, set}
+use Rattle.std.proofs.Common.{◌≡◌, ◌≤◌, ◌<◌, ◌^◌, ℕ, zero, suc, true, false, cond, List, [], ◌∷◌, length, get_or, set}
 use Rattle.std.proofs.Common.{Option, Some, None, is_some, arith, refl, sym, ap, ◌∙◌, subst, inl, inr, ◌++◌}
 use Rattle.std.specs.Prelude.{nat_lt, IfSome, ◌==◌}
 use Rattle.std.proofs.lemmas.List.{get_or_past}
 use Rattle.std.specs.BTreeMap.{is_at, insert_entry}
+use Rattle.std.specs.Cmp.{unsigned_tied}
 use Rattle.std.specs.Cmp.Lexicographic.{bytes_decides, nat_list_cmp_total, slice_cmp, texts_ties}
 use Rattle.std.specs.Map.{lookup, remove_entry}
 use Rattle.std.specs.Ordering.{is_eq, nat_cmp}
-use Rattle.std.proofs.lemmas.Bool.{cases_Bool, eqb-true}
+use Rattle.std.proofs.lemmas.Bool.{cases_Bool, eq-eqb, eqb-true}
 use Rattle.std.proofs.lemmas.Bool.Decides.{nat_tests}
 use Rattle.bq_index.proofs.Order.{order_insert, order_remove}
 use Rattle.bq_job.specs.reading.TubeName.{is_same_name}
-use Rattle.bq_jobs.specs.Numbering.{IsGiven, IsPaired, Numbering, Registers}
+use Rattle.bq_jobs.specs.Numbering.{IsGiven, IsPaired, Numbering}
 use Rattle.bq_jobs.specs.Numbering.{name_of, names_without, number_of, paired_with, put_at, without_known}
 use Rattle.bq_jobs.proofs.ById.{is_eq_nat}
 use Rattle.bq_jobs.proofs.Choice.{lookup_inserted, lookup_removed}
@@ -21,19 +22,15 @@ pub tied_names : (a b : List ℕ) → is_eq (slice_cmp nat_cmp a b) ≡ true →
 tied_names a b e = (bytes_decides a b).0 (texts_ties a b ∙ e)
 
 tied_numbers : (a b : ℕ) → is_eq (nat_cmp a b) ≡ true → a ≡ b
-tied_numbers a b e = sym (eqb-true b a (sym (is_eq_nat a b) ∙ e))
+tied_numbers a b e = eqb-true a b (sym (unsigned_tied a b) ∙ e)
 
-tie_names : (a b : List ℕ) → a ≡ b → is_eq (slice_cmp nat_cmp a b) ≡ true
+pub tie_names : (a b : List ℕ) → a ≡ b → is_eq (slice_cmp nat_cmp a b) ≡ true
 tie_names a b e = sym (texts_ties a b) ∙ (bytes_decides a b).1 e
 
 tie_numbers : (a b : ℕ) → a ≡ b → is_eq (nat_cmp a b) ≡ true
-tie_numbers a b e = is_eq_nat a b ∙ (grind (arith, nat_tests))
+tie_numbers a b e = unsigned_tied a b ∙ eq-eqb a b e
 
-none_by : {A : Type 0} (o : Option A) → is_some o ≡ false → o ≡ None
-none_by None e = refl
-none_by (Some a) e = absurd cc
-
-some_is : {A : Type 0} (a b : A) → Some a ≡ Some b → a ≡ b
+pub some_is : {A : Type 0} (a b : A) → Some a ≡ Some b → a ≡ b
 some_is a b e = cc
 
 module _ (x : Option (List ℕ)) where
@@ -81,13 +78,7 @@ module _ (x : Option (List ℕ)) where
   length_put (y ∷ names) (suc m) l = ap suc (length_put names m (omega (arith, l)))
 
 flipped : (m n : ℕ) → is_eq (nat_cmp n m) ≡ is_eq (nat_cmp m n)
-flipped m n = elim (cases_Bool (is_eq (nat_cmp n m))) [
-  | inl e ↦ e ∙ sym (tie_numbers m n (sym (tied_numbers n m e)))
-  | inr e ↦ e ∙ sym (elim (cases_Bool (is_eq (nat_cmp m n))) [
-    | inl t ↦ absurd (let u = tie_numbers n m (sym (tied_numbers m n t)) in cc)
-    | inr t ↦ t
-  ])
-]
+flipped m n = is_eq_nat n m ∙ sym (unsigned_tied m n)
 
 -- a number that has a name has a slot
 pub has_slot : (k : Numbering) (n : ℕ) (name : List ℕ) → name_of n k ≡ Some name → n < length k.names
@@ -145,20 +136,6 @@ module _ (k : Numbering) (h : IsPaired k) (name : List ℕ) where
       ];
     }
 
-    added_registers : Registers name k (paired_with at name k)
-    added_registers = record {
-      known = ap is_some (number_then name) ∙ rw (tie_names name name refl) refl;
-      kept = λ other some. elim (cases_Bool (is_eq (slice_cmp nat_cmp other name))) [
-        | inl t ↦ ap is_some (number_then other) ∙ rw t refl
-        | inr t ↦ ap is_some (number_then other) ∙ rw t some
-      ];
-      others = λ other apart. elim (cases_Bool (is_eq (slice_cmp nat_cmp other name))) [
-        | inl t ↦ absurd (let same : is_same_name name other ≡ true = (bytes_decides name other).1 (sym (tied_names other name t)) in cc)
-        | inr t ↦ number_then other ∙ rw t refl
-      ];
-      names = names_stay;
-    }
-
   removed_then : (q : List ℕ) → lookup (is_at (slice_cmp nat_cmp q)) (remove_entry (is_at (slice_cmp nat_cmp name)) k.numbers) ≡ cond
       (is_eq (slice_cmp nat_cmp name q)) None (number_of q k)
   removed_then q = lookup_removed nat_list_cmp_total q name k.numbers h.by_name
@@ -213,24 +190,12 @@ module _ (k : Numbering) (h : IsPaired k) (name : List ℕ) where
     few = let l = length_put None k.names m (has_slot k m name (h.there name m its_own)) in omega (arith, l, h.few);
   }
 
-  pub removed_is_paired : IsPaired (without_known name k)
-  removed_is_paired = removed_by (number_of name k) refl
-
 -- the same for any value with these lists
 pub paired_to : (k new : Numbering) (name : List ℕ) (n : ℕ) → IsPaired k → number_of name k ≡ None → IsGiven n name k.names new.names
     → new.numbers ≡ insert_entry (slice_cmp nat_cmp) k.numbers name n → IsPaired new
 paired_to k new name n h absent given numbers =
     subst IsPaired (λ i. record { numbers = sym numbers i; names = sym given.2 i })
     (added_is_paired k h name n absent given.1 (let same = ap length given.2 in omega (arith, same, given.3)))
-
-pub registered_to : (k new : Numbering) (name : List ℕ) (n : ℕ) → IsPaired k → number_of name k ≡ None → IsGiven n name k.names new.names
-    → new.numbers ≡ insert_entry (slice_cmp nat_cmp) k.numbers name n → Registers name k new
-registered_to k new name n h absent given numbers =
-    subst (Registers name k) (λ i. record { numbers = sym numbers i; names = sym given.2 i }) (added_registers k h name n absent given.1)
-
--- a tube that is registered already
-pub registered_before : (k : Numbering) (name : List ℕ) → is_some (number_of name k) ≡ true → Registers name k k
-registered_before k name some = record { known = some; kept = λ other there. there; others = λ other apart. refl; names = λ n there. refl }
 
 pub removed_to : (k new : Numbering) (name : List ℕ) (o : Option ℕ) → IsPaired k → number_of name k ≡ o
     → new.numbers ≡ remove_entry (is_at (slice_cmp nat_cmp name)) k.numbers → new.names ≡ names_without o k.names → IsPaired new
@@ -267,7 +232,7 @@ module _ (k l : Numbering) (h : IsPaired k) (g : IsPaired l) (n : ℕ) where
           let own : number_of name l ≡ Some n = ap (λ es. lookup (is_at (slice_cmp nat_cmp name)) es) same ∙ h.back n name its in
           sym there ∙ g.there name n own
 
--- When a tube is removed, the others keep their numbers,
+-- When a tube is removed, the others keep their numbers.
 module _ (k : Numbering) (h : IsPaired k) (name : List ℕ) where
   pub number_left : (other : List ℕ) → is_same_name name other ≡ false → number_of other (without_known name k) ≡ number_of other k
   number_left other apart = removed_then k h name other
@@ -276,16 +241,6 @@ module _ (k : Numbering) (h : IsPaired k) (name : List ℕ) where
   pub number_other : (l : Numbering) → l.numbers ≡ remove_entry (is_at (slice_cmp nat_cmp name)) k.numbers → (other : List ℕ)
       → is_same_name name other ≡ false → number_of other l ≡ number_of other k
   number_other l left other apart = ap (λ es. lookup (is_at (slice_cmp nat_cmp other)) es) left ∙ number_left other apart
-
-  -- and the removed one has no number.
-  pub number_gone : number_of name (without_known name k) ≡ None
-  number_gone = removed_then k h name name ∙ rw (tie_names name name refl) refl
-
--- What an addition does to the look-ups, from what it does to the two lists.
-pub registers_by : (k new : Numbering) (name : List ℕ) (n : ℕ) → IsPaired k → number_of name k ≡ None → name_of n k ≡ None
-    → new.numbers ≡ insert_entry (slice_cmp nat_cmp) k.numbers name n → new.names ≡ put_at k.names n (Some name) → Registers name k new
-registers_by k new name n h absent free numbers names =
-    subst (Registers name k) (λ i. record { numbers = sym numbers i; names = sym names i }) (added_registers k h name n absent free)
 
 -- A removal keeps the number of slots.
 module _ (k : Numbering) (h : IsPaired k) (name : List ℕ) where

@@ -1,23 +1,23 @@
 -- What additions and removals of jobs do to an order of places.
-use Rattle.std.proofs.Common.{◌≡◌, ℕ, ◌+◌, ◌*◌, ◌<◌, ◌≤◌, Bool, true, false, cond, List, [], ◌∷◌}
+use Rattle.std.proofs.Common.{◌≡◌, ℕ, ◌+◌, ◌*◌, ◌<◌, ◌≤◌, Bool, true, false, cond, List}
 use Rattle.std.proofs.Common.{Option, Some, None, length, arith, refl, sym, ap, ◌∙◌, subst, inl, inr}
-use Rattle.std.specs.Prelude.{is_some, ◌==◌, count_by}
+use Rattle.std.specs.Prelude.{is_some, ◌==◌}
 use Rattle.std.specs.declared.cmp.Ordering.{Ordering}
-use Rattle.std.specs.Cmp.{IsTotalOrder}
+use Rattle.std.specs.Cmp.{IsTotalOrder, eq_by_cmp_equiv}
 use Rattle.std.specs.Ordering.{is_eq, nat_cmp, ordering_then}
 use Rattle.std.specs.Option.{IfSome}
-use Rattle.std.specs.Map.{remove_entry}
+use Rattle.std.specs.Map.{lookup}
 use Rattle.std.specs.BTreeMap.{is_at}
 use Rattle.std.proofs.lemmas.Bool.{cases_Bool, eqb-true}
 use Rattle.std.proofs.lemmas.Bool.Decides.{nat_tests}
-use Rattle.std.proofs.lemmas.Cmp.{tied_back, tied_itself}
+use Rattle.std.proofs.lemmas.Cmp.{tied_itself}
+use Rattle.std.proofs.lemmas.List.Sums.{count_by-le-length}
 use Rattle.bq_index.specs.Digits.{binary_digits}
 use Rattle.bq_index.specs.Order.{InOrder}
-use Rattle.bq_index.proofs.Order.{length_inserted, length_removed, order_insert, order_remove}
+use Rattle.bq_index.proofs.Order.{length_inserted, length_lost, length_removed, order_insert, order_remove}
 use Rattle.bq_job.specs.declared.job.Job.{Job}
 use Rattle.bq_job.specs.machine.Changes.{job_with}
 use Rattle.bq_job.specs.beside.Lawful.{AreIdsWithin}
-use Rattle.bq_job.proofs.ListLemmas.{count_cons}
 use Rattle.bq_jobs.specs.declared.places.ShelfPlace.{ShelfPlace}
 use Rattle.bq_jobs.specs.Inside.{IsOrderOf, Order, has_place, is_place}
 use Rattle.bq_jobs.specs.Kept.{search_bound, with_added, without}
@@ -27,19 +27,11 @@ use Rattle.bq_jobs.proofs.Changes.{found_without, length_added, length_without, 
 use Rattle.bq_jobs.proofs.Counting.{search_is_bounded}
 use Rattle.bq_jobs.proofs.Choice.{equal_from, lookup_inserted, lookup_removed, numbers_tie, then_equal_second}
 
--- at most all jobs are counted
-pub count_few : (p : Job → Bool) (jobs : List Job) → count_by p jobs ≤ length jobs
-count_few p [] = omega arith
-count_few p (j ∷ jobs) = rw (count_cons p j jobs) (elim (cases_Bool (p j)) [
-  | inl e ↦ rw e (omega (arith, count_few p jobs))
-  | inr e ↦ rw e (omega (arith, count_few p jobs))
-])
-
 -- a search in an order of places
 pub order_search : {G : Type 0} (C : G → G → Ordering) (place_of : Job → Option (ShelfPlace G)) (jobs : List Job) (room : ℕ)
     (order : Order G) → IsOrderOf C place_of jobs room order → 2 * binary_digits (length order.entries + 1) ≤ search_bound jobs
 order_search C place_of jobs room order h =
-    search_is_bounded jobs (length order.entries) (omega (arith, h.counted, count_few (λ j. is_some (place_of j)) jobs))
+    search_is_bounded jobs (length order.entries) (omega (arith, h.counted, count_by-le-length (λ j. is_some (place_of j)) jobs))
 
 some_unit : (u : Option (Unit {0})) → is_some u ≡ true → u ≡ Some tt
 some_unit None h = absurd cc
@@ -49,18 +41,11 @@ none_from : {X : Type 0} (u : Option X) → is_some u ≡ false → u ≡ None
 none_from None h = refl
 none_from (Some x) h = absurd cc
 
-fewer_entries : {K X : Type 0} (test : K → Bool) (es : List (K × X)) → length (remove_entry test es) ≤ length es
-fewer_entries test [] = omega arith
-fewer_entries test (e ∷ es) = elim (cases_Bool (test e.0)) [
-  | inl out ↦ rw out (omega arith)
-  | inr kept ↦ rw kept (omega (arith, fewer_entries test es))
-]
-
 -- removing a place, if there is one, does not add any
 pub fewer_places : {G : Type 0} (C : G → G → Ordering) (place : Option (ShelfPlace G)) (es : List (ShelfPlace G × Unit {0}))
     → length (without_place C place es) ≤ length es
 fewer_places C None es = omega arith
-fewer_places C (Some p) es = fewer_entries (is_at (place_cmp C p)) es
+fewer_places C (Some p) es = let test = is_at (place_cmp C p) in omega (arith, length_lost test es (lookup test es) refl)
 
 -- What a move from one place to another needs: the first place is taken, there is a box for the
 -- second, and the second will be free.
@@ -88,19 +73,12 @@ module _ {G : Type 0} {C : G → G → Ordering} (o : IsTotalOrder C) where
       ]
 
   tie_back : (p q : ShelfPlace G) → is_eq (place_cmp C p q) ≡ is_eq (place_cmp C q p)
-  tie_back p q =
-      elim (cases_Bool (is_eq (place_cmp C p q))) [
-        | inl e ↦ e ∙ sym (ap is_eq (tied_back (place_total o) p q (equal_from (place_cmp C p q) e)))
-        | inr e ↦ e ∙ sym (elim (cases_Bool (is_eq (place_cmp C q p))) [
-          | inr f ↦ f
-          | inl f ↦ absurd (let g = ap is_eq (tied_back (place_total o) q p (equal_from (place_cmp C q p) f)) in cc)
-        ])
-      ]
+  tie_back p q = (eq_by_cmp_equiv (place_total o)).symm p q
 
   module _ (place_of : Job → Option (ShelfPlace G)) (own : (j : Job) → IfSome (place_of j) (λ p. p.id ≡ j.id)) where
     -- if there is room for a job, there is a box for its place
     pub has_spare : (jobs : List Job) (room : ℕ) (order : Order G) → IsOrderOf C place_of jobs room order → 0 < room → 0 < order.spare
-    has_spare jobs room order h r = omega (arith, h.roomy, h.counted, count_few (λ j. is_some (place_of j)) jobs, r)
+    has_spare jobs room order h r = omega (arith, h.roomy, h.counted, count_by-le-length (λ j. is_some (place_of j)) jobs, r)
 
     -- if a job is absent, its places are free
     pub absent_place : (j : Job) (jobs : List Job) (room : ℕ) (order : Order G) → IsOrderOf C place_of jobs room order

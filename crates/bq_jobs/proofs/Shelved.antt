@@ -136,31 +136,6 @@ module _ (s : Parts) (h : AreShelved s) where
   pub timer_search : 2 * binary_digits (length s.timers.entries + 1) ≤ search_bound (jobs_of s.by_id.entries)
   timer_search = order_search timer_cmp timer_place (jobs_of s.by_id.entries) s.by_id.spare s.timers h.in_timers
 
--- if an id finds nothing, nothing is removed
-pub shelved_same : (id : ℕ) (s : Parts) (by_id : ById) → AreShelved s → lookup (is_at (nat_cmp id)) s.by_id.entries ≡ None
-    → by_id.entries ≡ remove_entry (is_at (nat_cmp id)) s.by_id.entries → by_id.spare ≡ s.by_id.spare
-    → AreShelved (record s { by_id = by_id })
-shelved_same id s by_id h none entries spare =
-    let jobs = jobs_of s.by_id.entries in
-    let same = without_none id jobs (sym (found_in id s h) ∙ none) in
-    shelved_from (record s { by_id = by_id }) jobs (record {
-      own = entries ∙ entries_removed id s h ∙ ap (map with_id) same;
-      ids = h.ids;
-      tubes = subst (λ room. IsOrderOf group_cmp group_place jobs room s.groups) (sym spare) h.in_groups;
-      timed = subst (λ room. IsOrderOf timer_cmp timer_place jobs room s.timers) (sym spare) h.in_timers;
-    })
-
--- what a removal does
-pub removes : {A : Type 0} (id : ℕ) (s n : Parts) (old : Kept) (removed : Option A) → AreShelved s
-    → kept_in s.by_id s.groups s.timers ≡ old → n.by_id.entries ≡ remove_entry (is_at (nat_cmp id)) s.by_id.entries
-    → n.by_id.spare ≡ s.by_id.spare + cond (is_some removed) 1 0 → compared s ≤ compared n
-    → compared n ≤ compared s + 4 * search_bound (jobs_of s.by_id.entries) → Removes id removed old (kept_in n.by_id n.groups n.timers)
-removes id s n old removed h is entries spare l u =
-    let jobs : jobs_of n.by_id.entries ≡ without id (jobs_of s.by_id.entries) = ap jobs_of entries ∙ jobs_removed id s h in
-    let seen = kept_in s.by_id s.groups s.timers in
-    subst (λ m. Removes id removed m (kept_in n.by_id n.groups n.timers)) is
-    (jobs, spare, ap (job_with id) jobs ∙ not_there id (jobs_of s.by_id.entries), few_more 4 seen seen _ _ refl refl l u)
-
 -- after a call that changed no entry
 pub shelved_kept : (s : Parts) (by_id : ById) → AreShelved s → by_id.entries ≡ s.by_id.entries → by_id.spare ≡ s.by_id.spare
     → AreShelved (record s { by_id = by_id })
@@ -172,6 +147,25 @@ shelved_kept s by_id h entries spare =
       tubes = subst (λ room. IsOrderOf group_cmp group_place jobs room s.groups) (sym spare) h.in_groups;
       timed = subst (λ room. IsOrderOf timer_cmp timer_place jobs room s.timers) (sym spare) h.in_timers;
     })
+
+-- if an id finds nothing, nothing is removed
+pub shelved_same : (id : ℕ) (s : Parts) (by_id : ById) → AreShelved s → lookup (is_at (nat_cmp id)) s.by_id.entries ≡ None
+    → by_id.entries ≡ remove_entry (is_at (nat_cmp id)) s.by_id.entries → by_id.spare ≡ s.by_id.spare
+    → AreShelved (record s { by_id = by_id })
+shelved_same id s by_id h none entries =
+    let same = without_none id (jobs_of s.by_id.entries) (sym (found_in id s h) ∙ none) in
+    shelved_kept s by_id h (entries ∙ entries_removed id s h ∙ ap (map with_id) same ∙ sym h.by_own_id)
+
+-- what a removal does
+pub removes : {A : Type 0} (id : ℕ) (s n : Parts) (old : Kept) (removed : Option A) → AreShelved s
+    → kept_in s.by_id s.groups s.timers ≡ old → n.by_id.entries ≡ remove_entry (is_at (nat_cmp id)) s.by_id.entries
+    → n.by_id.spare ≡ s.by_id.spare + cond (is_some removed) 1 0 → compared s ≤ compared n
+    → compared n ≤ compared s + 4 * search_bound (jobs_of s.by_id.entries) → Removes id removed old (kept_in n.by_id n.groups n.timers)
+removes id s n old removed h is entries spare l u =
+    let jobs : jobs_of n.by_id.entries ≡ without id (jobs_of s.by_id.entries) = ap jobs_of entries ∙ jobs_removed id s h in
+    let seen = kept_in s.by_id s.groups s.timers in
+    subst (λ m. Removes id removed m (kept_in n.by_id n.groups n.timers)) is
+    (jobs, spare, ap (job_with id) jobs ∙ not_there id (jobs_of s.by_id.entries), few_more 4 seen seen _ _ refl refl l u)
 
 -- what a removal does that asks a test first
 pub removes_if : (id : ℕ) (s n : Parts) (old : Kept) (removed : Option Job) → AreShelved s

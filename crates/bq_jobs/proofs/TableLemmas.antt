@@ -4,7 +4,7 @@ use Rattle.std.proofs.Common.{Option, Some, None, arith, refl, sym, ap, ◌∙�
 use Rattle.std.specs.Prelude.{◌==◌, slice_get, option_and_then}
 use Rattle.std.specs.Borrow.{Bor}
 use Rattle.std.specs.BTreeMap.{is_at, insert_entry}
-use Rattle.std.specs.Cmp.Lexicographic.{bytes_decides, slice_cmp, texts_ties}
+use Rattle.std.specs.Cmp.Lexicographic.{slice_cmp}
 use Rattle.std.specs.List.{AllByRecursion}
 use Rattle.std.specs.List.Sorted.{IsStrictlySortedBy}
 use Rattle.std.specs.Map.{keys_of, lookup, remove_entry, set_value}
@@ -13,7 +13,7 @@ use Rattle.std.specs.Ordering.{is_eq, match_ordering, nat_cmp}
 use Rattle.std.specs.Slice.{IsItemAt}
 use Rattle.std.specs.declared.cmp.Ordering.{Ordering}
 use Rattle.std.specs.declared.cmp.Ordering.TheVariants.{Less, Equal, Greater}
-use Rattle.std.proofs.lemmas.Bool.{cases_Bool, eqb-true}
+use Rattle.std.proofs.lemmas.Bool.{cases_Bool, ne_eqb}
 use Rattle.std.proofs.lemmas.Option.{slice_get_past, slice_get_read}
 use Rattle.std.proofs.lemmas.Bool.Decides.{nat_tests}
 use Rattle.bq_index.specs.Edited.{edited_at, edited_if}
@@ -21,7 +21,7 @@ use Rattle.bq_index.specs.Order.{InOrder}
 use Rattle.bq_jobs.specs.Numbering.{IsPaired, Numbering}
 use Rattle.bq_jobs.specs.Numbering.{name_of, put_at}
 use Rattle.bq_jobs.specs.Table.{changed_at, entries_at, put_value, with_value}
-use Rattle.bq_jobs.proofs.NumberingLemmas.{has_slot, tied_names}
+use Rattle.bq_jobs.proofs.NumberingLemmas.{has_slot, some_is, tie_names, tied_names}
 
 -- each number has a value
 abbrev pub AreValued : ℕ → List (List ℕ × ℕ) → Type 0
@@ -40,23 +40,11 @@ AreApart (p ∷ ps) = Lack p.1 ps × AreApart ps
 abbrev pub AreThere : List (Option (List ℕ)) → List (List ℕ × ℕ) → Type 0
 AreThere names ps = AllByRecursion (λ (p : List ℕ × ℕ). get_or names p.1 None ≡ Some p.0) ps
 
-some_same : {A : Type 0} (a b : A) → Some a ≡ Some b → a ≡ b
-some_same a b e = cc
-
-tie : (q : List ℕ) → is_eq (slice_cmp nat_cmp q q) ≡ true
-tie q = sym (texts_ties q q) ∙ (bytes_decides q q).1 refl
-
 lower : (m n : ℕ) → (suc m == suc n) ≡ false → (m == n) ≡ false
 lower m n e = grind (arith, nat_tests)
 
 flip : (m n : ℕ) → (m == n) ≡ false → (n == m) ≡ false
 flip m n e = grind (arith, nat_tests)
-
-differs : (m n : ℕ) → (m ≡ n → ⊥) → (m == n) ≡ false
-differs m n d = elim (cases_Bool (m == n)) [
-  | inl e ↦ absurd (d (eqb-true m n e))
-  | inr e ↦ e
-]
 
 -- a key of which all of ps are above is none of theirs
 above_none : (x q : List ℕ) (ps : List (List ℕ × ℕ)) → AllByRecursion (λ y. slice_cmp nat_cmp x y ≡ Less) (keys_of ps)
@@ -73,7 +61,7 @@ module _ (names : List (Option (List ℕ))) where
   unfolding IsStrictlySortedBy
   there_by [] order there = tt
   there_by (p ∷ ps) order there = (
-    there p.0 p.1 (ap (λ b. cond b (Some p.1) (lookup (is_at (slice_cmp nat_cmp p.0)) ps)) (tie p.0)),
+    there p.0 p.1 (ap (λ b. cond b (Some p.1) (lookup (is_at (slice_cmp nat_cmp p.0)) ps)) (tie_names p.0 p.0 refl)),
     there_by ps order.1 (λ q n own. elim (cases_Bool (is_eq (slice_cmp nat_cmp q p.0))) [
       | inl t ↦ absurd (let none = above_none p.0 q ps order.0 t in cc)
       | inr t ↦ there q n (ap (λ b. cond b (Some p.1) (lookup (is_at (slice_cmp nat_cmp q)) ps)) t ∙ own)
@@ -89,7 +77,7 @@ module _ (names : List (Option (List ℕ))) where
   lacks_by : (n : ℕ) → get_or names n None ≡ None → (ps : List (List ℕ × ℕ)) → AreThere names ps → Lack n ps
   lacks_by n free [] there = tt
   lacks_by n free (p ∷ ps) there = (
-    differs n p.1 (λ e. let same : Some p.0 ≡ None = sym there.0 ∙ ap (λ i. get_or names i None) (sym e) ∙ free in absurd cc),
+    ne_eqb n p.1 (λ e. let same : Some p.0 ≡ None = sym there.0 ∙ ap (λ i. get_or names i None) (sym e) ∙ free in absurd cc),
     lacks_by n free ps there.1,
   )
 
@@ -97,9 +85,9 @@ module _ (names : List (Option (List ℕ))) where
       → AllByRecursion (λ y. slice_cmp nat_cmp q y ≡ Less) (keys_of ps) → Lack n ps
   apart_from q n its [] there above = tt
   apart_from q n its (p ∷ ps) there above = (
-    differs n p.1 (λ e.
-        let same : q ≡ p.0 = some_same q p.0 (sym its ∙ ap (λ i. get_or names i None) e ∙ there.0) in
-        let equal : is_eq (slice_cmp nat_cmp q p.0) ≡ true = ap (λ y. is_eq (slice_cmp nat_cmp q y)) (sym same) ∙ tie q in
+    ne_eqb n p.1 (λ e.
+        let same : q ≡ p.0 = some_is q p.0 (sym its ∙ ap (λ i. get_or names i None) e ∙ there.0) in
+        let equal : is_eq (slice_cmp nat_cmp q p.0) ≡ true = ap (λ y. is_eq (slice_cmp nat_cmp q y)) (sym same) ∙ tie_names q q refl in
         let less = ap is_eq above.0 in
         absurd cc),
     apart_from q n its ps there.1 above.1,
@@ -127,7 +115,7 @@ module _ (k : Numbering) (h : IsPaired k) where
 found_lacks : (test : List ℕ → Bool) (m n : ℕ) (ps : List (List ℕ × ℕ)) → Lack m ps → lookup test ps ≡ Some n → (m == n) ≡ false
 found_lacks test m n [] lack own = absurd cc
 found_lacks test m n (p ∷ ps) lack own = elim (cases_Bool (test p.0)) [
-  | inl t ↦ let same : p.1 ≡ n = some_same p.1 n (rw t at own) in ap (λ i. m == i) (sym same) ∙ lack.0
+  | inl t ↦ let same : p.1 ≡ n = some_is p.1 n (rw t at own) in ap (λ i. m == i) (sym same) ∙ lack.0
   | inr t ↦ found_lacks test m n ps lack.1 (rw t at own)
 ]
 
@@ -232,17 +220,12 @@ module _ {V : Type 0} where
   put_as_many (v ∷ vs) w (y ∷ names) x (suc n) many near = ap suc (put_as_many vs w names x n (omega (arith, many)) (omega (arith, near)))
 
   module _ (test : List ℕ → Bool) (f : V → V) (vs : List V) where
-    pub edit_none : (ps : List (List ℕ × ℕ)) → AreValued (length vs) ps → lookup test ps ≡ None
-        → edited_at test f (entries_at ps vs) ≡ entries_at ps vs
-    edit_none ps all none = ap (edited_if f (set_value test (entries_at ps vs)) (entries_at ps vs))
-        (looked_up test vs ps all ∙ ap (option_and_then (slice_get vs)) none)
-
     edit_set : (ps : List (List ℕ × ℕ)) (n : ℕ) (v : V) → AreValued (length vs) ps → AreApart ps → lookup test ps ≡ Some n
         → slice_get vs n ≡ Some v → entries_at ps (changed_at f n vs) ≡ set_value test (entries_at ps vs) (f v)
     edit_set [] n v all apart own its = absurd cc
     edit_set (p ∷ ps) n v all apart own its = elim (cases_Bool (test p.0)) [
       | inl t ↦
-          let same : p.1 ≡ n = some_same p.1 n (rw t at own) in
+          let same : p.1 ≡ n = some_is p.1 n (rw t at own) in
           let here : slice_get vs p.1 ≡ Some v = ap (slice_get vs) same ∙ its in
           let new : slice_get (changed_at f n vs) p.1 ≡ Some (f v) =
           ap (slice_get (changed_at f n vs)) same ∙ changed_here f vs n ∙ ap (option_map f) its in

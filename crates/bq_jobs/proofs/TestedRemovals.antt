@@ -9,11 +9,10 @@ use Rattle.bq_job.specs.machine.Changes.{job_with}
 use Rattle.bq_jobs.specs.Changed.{AsksNoTube, entry_at, removed_from, row_removed}
 use Rattle.bq_jobs.specs.Kept.{Kept, without}
 use Rattle.bq_jobs.specs.Numbering.{AreRegistered, HasNumber, IsNumbered, Numbering, kept_named, named}
-use Rattle.bq_jobs.specs.Room.{Removes, RemovesIf}
+use Rattle.bq_jobs.specs.Room.{RemovesIf}
 use Rattle.bq_jobs.specs.Told.{removed_told}
 use Rattle.bq_jobs.specs.declared.rows.Rows.TheInside.{Inside as Parts}
 use Rattle.bq_jobs.specs.Inside.{jobs_of}
-use Rattle.bq_jobs.proofs.Changes.{not_there, without_none}
 use Rattle.bq_jobs.proofs.NamedJobs.{counted_as, job_named, number_removed, numbered_found, registered_without, told_removed}
 use Rattle.bq_jobs.proofs.NamedJobs.{without_named}
 use Rattle.bq_jobs.proofs.Shelved.{AreShelved, found_in, found_own}

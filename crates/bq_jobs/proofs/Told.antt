@@ -1,7 +1,6 @@
 -- The report about a changed job concerns the job that was there.
-use Rattle.std.proofs.Common.{◌≡◌, ℕ, ◌^◌, List, [], ◌∷◌, Option, Some, None, refl, sym, ap, ◌∙◌, inl, inr}
-use Rattle.std.specs.Prelude.{◌==◌, option_map}
-use Rattle.std.proofs.lemmas.Bool.{cases_Bool}
+use Rattle.std.proofs.Common.{◌≡◌, ℕ, ◌^◌, List, Option, Some, None, refl, sym, ap, ◌∙◌}
+use Rattle.std.specs.Prelude.{option_map}
 use Rattle.bq_job.specs.declared.job.Job.{Job}
 use Rattle.bq_job.specs.machine.Changes.{job_with}
 use Rattle.bq_jobs.specs.contracts.places.GroupOrd.TheImpl.Laws as group_laws
@@ -14,7 +13,7 @@ use Rattle.bq_jobs.specs.declared.rows.Rows.TheInside.{Inside as Parts}
 use Rattle.bq_jobs.specs.Changed.{IgnoresTube, KeepsId, entry_at, row_moved_by, with_changed}
 use Rattle.bq_jobs.specs.Inside.{jobs_of}
 use Rattle.bq_jobs.specs.Places.{in_timers_at, in_groups_at, timer_place, group_place}
-use Rattle.bq_jobs.proofs.Changes.{found_id, stays_in}
+use Rattle.bq_jobs.proofs.Changes.{found_id, none_changed, none_has, stays_in}
 use Rattle.bq_jobs.proofs.Firsts.{group_cmp, timer_cmp, timer_own, group_own}
 use Rattle.bq_jobs.proofs.Orders.{CanMove, can_move}
 use Rattle.bq_jobs.proofs.Shelved.{AreShelved, found_in}
@@ -94,14 +93,7 @@ pub nothing_told : (id : ℕ) (f : Job → Job) (es : List (ℕ × Job)) → opt
     → entry_at id es ≡ None
 nothing_told id f es e = nothing_told_of (row_moved_by f) (entry_at id es) e
 
-none_changed_in : (id : ℕ) (f : Job → Job) (jobs : List Job) → job_with id jobs ≡ None → with_changed id f jobs ≡ jobs
-none_changed_in id f [] h = refl
-none_changed_in id f (k ∷ jobs) h =
-    elim (cases_Bool (k.id == id)) [
-      | inl out ↦ absurd (let g = rw out at h in cc)
-      | inr kept ↦ rw kept (ap (λ ks. k ∷ ks) (none_changed_in id f jobs (rw kept at h)))
-    ]
-
 pub unchanged : (id : ℕ) (f : Job → Job) (s : Parts) → AreShelved s → entry_at id s.by_id.entries ≡ None
     → jobs_of s.by_id.entries ≡ with_changed id f (jobs_of s.by_id.entries)
-unchanged id f s h none = sym (none_changed_in id f (jobs_of s.by_id.entries) (sym (found_in id s h) ∙ none))
+unchanged id f s h none =
+    sym (none_changed id f (jobs_of s.by_id.entries) (none_has id (jobs_of s.by_id.entries) (sym (found_in id s h) ∙ none)))

@@ -1,5 +1,6 @@
 -- The registered tubes and their numbers.
-use Rattle.std.specs.Prelude.{◌≡◌, ◌<◌, ◌≤◌, ◌^◌, ◌∷◌, [], ℕ, zero, suc, true, false, List, Option, Some, None, get_or, is_some, length, unwrap_or, map}
+use Rattle.std.specs.Prelude.{◌≡◌, ◌<◌, ◌≤◌, ◌^◌, ◌∷◌, [], ℕ, zero, suc, true, List, Option, Some, None}
+use Rattle.std.specs.Prelude.{get_or, is_some, length, unwrap_or, map}
 use Rattle.std.specs.BTreeMap.{is_at, insert_entry}
 use Rattle.std.specs.Cmp.Lexicographic.{slice_cmp}
 use Rattle.std.specs.List.{AllByRecursion}
@@ -7,7 +8,6 @@ use Rattle.std.specs.Map.{lookup, remove_entry}
 use Rattle.std.specs.Ordering.{nat_cmp}
 use Rattle.bq_index.specs.Order.{InOrder}
 use Rattle.bq_job.specs.declared.job.Job.{Job}
-use Rattle.bq_job.specs.reading.TubeName.{is_same_name}
 use Rattle.bq_jobs.specs.Kept.{Kept}
 use Rattle.bq_jobs.specs.Names.{number_in}
 
@@ -47,14 +47,6 @@ paired_with n name k = record {
 abbrev pub IsGiven : ℕ → List ℕ → List (Option (List ℕ)) → List (Option (List ℕ)) → Type 0
 IsGiven n name old new =
     (n < 2 ^ 30) × (get_or old n None ≡ None) × (new ≡ put_at old n (Some name)) × (length new ≤ 2 ^ 30)
-
--- `new` is `old` with the tube of this name registered: it has a number now, and each other tube has
--- what it had
-pub record Registers (name : List ℕ) (old new : Numbering) : Type 0 where
-  pub known : is_some (number_of name new) ≡ true
-  pub kept : (other : List ℕ) → is_some (number_of other old) ≡ true → is_some (number_of other new) ≡ true
-  pub others : (other : List ℕ) → is_same_name name other ≡ false → number_of other new ≡ number_of other old
-  pub names : (n : ℕ) → is_some (name_of n old) ≡ true → name_of n new ≡ name_of n old
 
 abbrev pub names_without : Option ℕ → List (Option (List ℕ)) → List (Option (List ℕ))
 names_without None names = names

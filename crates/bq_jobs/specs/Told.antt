@@ -1,6 +1,5 @@
 -- A record with the name of its tube.
-use Rattle.std.specs.Prelude.{List, Option, [], unwrap_or, ℕ}
-use Rattle.std.specs.Option.{option_map}
+use Rattle.std.specs.Prelude.{List, [], unwrap_or, ℕ}
 use Rattle.bq_jobs.specs.declared.rows.Moved.{Moved}
 use Rattle.bq_jobs.specs.declared.rows.MovedRow.{MovedRow}
 use Rattle.bq_jobs.specs.declared.rows.Removed.{Removed}
