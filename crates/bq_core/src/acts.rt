@@ -1,5 +1,5 @@
 //! The command's own effect, by kind, and its answer.
-ghost use Rattle.std.specs.Prelude.{true, ◌≡◌};
+ghost use Rattle.std.specs.Prelude.{[], ◌++◌, ◌<◌, ◌≡◌, ◌∷◌, false, length, true};
 ghost use Rattle.bq_core.specs.{Acting.Acts, Replying.{RepliesAt, RepliesBy}, Turns.HasRoom};
 ghost use Rattle.bq_job.specs.machine.{Asked.{asked, effect, refusal_answer as answer_of_refusal}, Changes.seat_with};
 ghost use Rattle.bq_job.specs.machine.Steps.{step_takes_memory, takes_memory};
@@ -15,6 +15,7 @@ use bq_state::core_parts::CoreParts;
 use bq_state::job_store::JobKind;
 use bq_state::seats::SeatChange;
 use std::alloc::Global;
+use std::mem::replace;
 
 #[tactic(auto, using(crate::proofs::ToldLemmas::connects))]
 fn connect(state: &mut CoreParts, seat: Seat)
@@ -40,18 +41,20 @@ fn end(state: &mut CoreParts, seat: Seat)
 
 // The jobs that the client holds become ready or delayed, and the seat is free.
 #[tactic(auto, using(std::proofs::lemmas::Grind::common_steps, crate::proofs::ToldLemmas::closes, crate::proofs::ToldLemmas::close_asks))]
-fn close(state: &mut CoreParts, seat: Seat) -> Option<Answer>
-    ensures reply { effect (machine_of state.old) seat steps.Close
-        ≡ record { machine = machine_of state.new; answer = result } }
+#[inline(never)]
+fn close(state: &mut CoreParts, seat: Seat, answer: &mut Answer) -> Reply
+    ensures reply { RepliesBy false
+        (λ m. effect m seat steps.Close) state.old result answer.new state.new }
     ensures asks { AsksAsChanged state.old.jobs state.new.jobs }
 {
     if !state.is_connected(seat) {
-        return None;
+        return Reply::Silent;
     }
     let becomes = timers::state_once_left(state);
     timers::give_back_all(state, seat, becomes);
     changes::change_seat(state, seat, &SeatChange::Clear);
-    Some(Answer::Closed)
+    set_answer(answer, Answer::Closed);
+    Reply::Told
 }
 
 fn refusal_answer(why: Refusal) -> Answer
@@ -64,6 +67,17 @@ fn refusal_answer(why: Refusal) -> Answer
         Refusal::ExpectedCrlf => Answer::ExpectedCrlf,
         Refusal::OutOfMemory => Answer::OutOfMemory,
     }
+}
+
+// Answers that the reader refused the request. Not inlined, because its caller would otherwise
+// reserve and initialize room for an answer. So it is with the commands below that store an answer.
+#[inline(never)]
+fn refuse(why: Refusal, answer: &mut Answer) -> Reply
+    ensures answer { answer.new ≡ answer_of_refusal why }
+    ensures reply { result ≡ Reply.Told }
+{
+    set_answer(answer, refusal_answer(why));
+    Reply::Told
 }
 
 // Carries out a request that a connected client may make. A call initializes the room for all its
@@ -120,10 +134,7 @@ fn carry_out(
             state, alloc, seat, answer,
         ),
         Request::Quit => Reply::Silent,
-        Request::Refused(why) => {
-            *answer = refusal_answer(why);
-            Reply::Told
-        }
+        Request::Refused(why) => refuse(why, answer),
     }
 }
 
@@ -153,13 +164,7 @@ fn reply_to(
             end(state, seat);
             Reply::Silent
         }
-        Step::Close => match close(state, seat) {
-            None => Reply::Silent,
-            Some(closed) => {
-                *answer = closed;
-                Reply::Told
-            }
-        },
+        Step::Close => close(state, seat, answer),
         Step::Drain => {
             changes::start_draining(state);
             Reply::Silent
@@ -168,18 +173,34 @@ fn reply_to(
     }
 }
 
-/// Carries out the command's own effect, and appends its answer.
+// Appends an answer that was stored. Not inlined, because few answers are.
+#[inline(never)]
+fn append(outs: &mut Outs, seat: Seat, answer: &mut Answer)
+    requires { length outs.old.given < outs.old.most }
+    ensures { outs.new ≡ record outs.old { given = outs.old.given ++ (seat, answer.old) ∷ [] } }
+{
+    outs.push(seat, replace(answer, Answer::Closed));
+}
+
+// Carries out the command's own effect, and appends its answer. There is room for an answer in
+// `answer`.
 #[tactic(auto, using(crate::proofs::ActLemmas::acts_silent, crate::proofs::ActLemmas::acts_told))]
-pub(crate) fn act(state: &mut CoreParts, alloc: Global, seat: Seat, what: &Step, outs: &mut Outs)
+fn act_with(
+    state: &mut CoreParts,
+    alloc: Global,
+    seat: Seat,
+    what: &Step,
+    outs: &mut Outs,
+    answer: &mut Answer,
+)
     requires room { HasRoom 1 (machine_of state.old) outs.old }
     ensures acts { Acts (machine_of state.old) seat what.now outs.old outs.new
         (machine_of state.new) }
     ensures asks { AsksAsChanged state.old.jobs state.new.jobs }
 {
-    let mut answer = Answer::Closed;
-    match reply_to(state, alloc, seat, what, &mut answer) {
+    match reply_to(state, alloc, seat, what, answer) {
         Reply::Silent => {}
-        Reply::Told => outs.push(seat, answer),
+        Reply::Told => append(outs, seat, answer),
         Reply::Inserted(id) => outs.push(seat, Answer::Inserted(id)),
         Reply::Deleted => outs.push(seat, Answer::Deleted),
         Reply::LeftOut => {
@@ -191,6 +212,26 @@ pub(crate) fn act(state: &mut CoreParts, alloc: Global, seat: Seat, what: &Step,
             outs.push(seat, Answer::OutOfMemory);
         }
     }
+}
+
+/// Carries out the command's own effect, and appends its answer.
+pub(crate) fn act(state: &mut CoreParts, alloc: Global, seat: Seat, what: &Step, outs: &mut Outs)
+    requires room { HasRoom 1 (machine_of state.old) outs.old }
+    ensures acts { Acts (machine_of state.old) seat what.now outs.old outs.new
+        (machine_of state.new) }
+    ensures asks { AsksAsChanged state.old.jobs state.new.jobs }
+{
+    // Dropped once, at the end: a branch that owned the answer would take it apart by itself.
+    let mut answer = Answer::Closed;
+    act_with(state, alloc, seat, what, outs, &mut answer);
+}
+
+/// Stores an answer. A separate function, because the code that takes apart the answer that was
+/// stored before is long to prove.
+pub(crate) fn set_answer(place: &mut Answer, answer: Answer)
+    ensures { place.new ≡ answer }
+{
+    *place = answer;
 }
 
 /// The outcome of a request. An answer is written to the `answer` argument, because it may contain a

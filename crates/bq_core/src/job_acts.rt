@@ -6,8 +6,9 @@ ghost use Rattle.bq_job.specs.machine.JobCommands.{kick_job_effect, new_job as j
 ghost use Rattle.bq_job.specs.machine.{JobCommands.touch_effect, Limits.later as later_by, Machine.SeatRecord};
 ghost use Rattle.bq_state.specs.{Asking.AsksAsChanged, CoreParts.machine_of, SeatStates.is_asking};
 ghost use Rattle.bq_job.specs.declared.answer.Answer.TheVariants as answers;
+ghost use Rattle.bq_job.specs.declared.answer.Answer.{Answer};
 
-use crate::acts::Reply;
+use crate::acts::{Reply, set_answer};
 use bq_job::{Answer, Body, Counts, Job, JobId, Moment, Pri, Seat};
 use bq_jobs::{Tube, adds_at_the_end, next_is_free};
 use bq_state::core_parts::CoreParts;
@@ -77,17 +78,29 @@ pub(crate) fn put(
     ensures asks { AsksAsChanged state.old.jobs state.new.jobs }
 {
     if state.draining {
-        *answer = Answer::Draining;
-        return Reply::Told;
+        return draining(answer);
     }
     if is_full(state) {
-        *answer = Answer::OutOfMemory;
-        return Reply::Told;
+        return full(answer);
     }
     let Ok(shared) = body.share() else {
         return Reply::LeftOut;
     };
+    put_shared(state, alloc, seat, new, shared)
+}
+
+// Puts a job with this body into the tube that the client uses.
+#[tactic(auto, using(crate::proofs::ActLemmas::asked_in_all))]
+fn put_shared(state: &mut CoreParts, alloc: Global, seat: Seat, new: NewJob, body: Body) -> Reply
+    requires asks { is_asking (seat_with seat state.old.seats.items) ≡ true }
+    requires accepts { state.old.draining ≡ false }
+    requires room { is_full_of state.old.config.max_jobs (machine_of state.old).jobs ≡ false }
+    ensures reply { (answer : Answer) → RepliesAt seat true
+        (put_effect new.pri new.delay new.ttr body) state.old result answer state.new }
+    ensures asks { AsksAsChanged state.old.jobs state.new.jobs }
+{
     let Ok(()) = changes::make_room(state, alloc) else {
+        drop(body);
         return Reply::LeftOut;
     };
     let id = state.next_id;
@@ -97,11 +110,12 @@ pub(crate) fn put(
     // The client asks, so it is found. Nothing changes between making the job and adding it:
     // otherwise the tube's name would be copied twice.
     let Some(client) = seats::find(state.seats.as_slice(), seat) else {
+        drop(body);
         return Reply::Silent;
     };
     let tube = client.used();
     let hint = tube.number();
-    let job = new_job(state, id, tube, new, shared);
+    let job = new_job(state, id, tube, new, body);
     changes::add(state, job, hint);
     Reply::Inserted(id)
 }
@@ -133,6 +147,7 @@ pub(crate) fn reserve_until(state: &mut CoreParts, seat: Seat, seconds: u32) -> 
 }
 
 /// Reserves a job that no client holds, in any tube.
+#[inline(never)]
 pub(crate) fn reserve_job(
     state: &mut CoreParts,
     seat: Seat,
@@ -154,7 +169,7 @@ pub(crate) fn reserve_job(
     };
     let change = JobChange::HandOut(seat, state.moment);
     changes::change_job(state, id, &change);
-    *answer = Answer::Reserved(id, body);
+    set_answer(answer, Answer::Reserved(id, body));
     Reply::Told
 }
 
@@ -172,6 +187,27 @@ pub(crate) fn delete(state: &mut CoreParts, seat: Seat, id: JobId, answer: &mut 
     }
 }
 
+// Answers that no put is accepted. Not inlined, because its caller would otherwise reserve and
+// initialize room for an answer.
+#[inline(never)]
+fn draining(answer: &mut Answer) -> Reply
+    ensures answer { answer.new ≡ answers.Draining }
+    ensures reply { result ≡ Reply.Told }
+{
+    set_answer(answer, Answer::Draining);
+    Reply::Told
+}
+
+// Answers that the job limit is reached. Not inlined, for the same reason.
+#[inline(never)]
+fn full(answer: &mut Answer) -> Reply
+    ensures answer { answer.new ≡ answers.OutOfMemory }
+    ensures reply { result ≡ Reply.Told }
+{
+    set_answer(answer, Answer::OutOfMemory);
+    Reply::Told
+}
+
 /// Answers that there is no such job or tube. Not inlined, because its caller would otherwise
 /// reserve and initialize room for an answer.
 #[inline(never)]
@@ -179,11 +215,12 @@ pub(crate) fn not_found(answer: &mut Answer) -> Reply
     ensures answer { answer.new ≡ answers.NotFound }
     ensures reply { result ≡ Reply.Told }
 {
-    *answer = Answer::NotFound;
+    set_answer(answer, Answer::NotFound);
     Reply::Told
 }
 
 /// Releases a job that the client holds.
+#[inline(never)]
 pub(crate) fn release(
     state: &mut CoreParts,
     seat: Seat,
@@ -200,11 +237,12 @@ pub(crate) fn release(
     }
     let change = JobChange::Release(with.pri, with.delay, state.moment);
     changes::change_job(state, id, &change);
-    *answer = Answer::Released;
+    set_answer(answer, Answer::Released);
     Reply::Told
 }
 
 /// Buries a job that the client holds.
+#[inline(never)]
 pub(crate) fn bury(
     state: &mut CoreParts,
     seat: Seat,
@@ -222,11 +260,12 @@ pub(crate) fn bury(
     let number = changes::give_burial_number(state);
     let change = JobChange::Bury(number, pri);
     changes::change_job(state, id, &change);
-    *answer = Answer::Buried;
+    set_answer(answer, Answer::Buried);
     Reply::Told
 }
 
 /// Restarts the time to run of a job that the client holds.
+#[inline(never)]
 pub(crate) fn touch(state: &mut CoreParts, seat: Seat, id: JobId, answer: &mut Answer) -> Reply
     ensures reply { RepliesTo seat false (touch_effect id) state.old result answer.new state.new }
     ensures asks { AsksAsChanged state.old.jobs state.new.jobs }
@@ -236,11 +275,12 @@ pub(crate) fn touch(state: &mut CoreParts, seat: Seat, id: JobId, answer: &mut A
     };
     let change = JobChange::Touch(seat, job_store::later(state.moment, ttr));
     changes::change_job(state, id, &change);
-    *answer = Answer::Touched;
+    set_answer(answer, Answer::Touched);
     Reply::Told
 }
 
 /// Makes a buried or delayed job ready.
+#[inline(never)]
 pub(crate) fn kick_job(state: &mut CoreParts, id: JobId, answer: &mut Answer) -> Reply
     ensures reply { (s : SeatRecord)
         → RepliesBy false (λ m. kick_job_effect id m s) state.old result answer.new state.new }
@@ -250,6 +290,6 @@ pub(crate) fn kick_job(state: &mut CoreParts, id: JobId, answer: &mut Answer) ->
         return not_found(answer);
     }
     changes::change_job(state, id, &JobChange::Kick);
-    *answer = Answer::Kicked;
+    set_answer(answer, Answer::Kicked);
     Reply::Told
 }

@@ -5,7 +5,7 @@ ghost use Rattle.bq_job.specs.{declared.job.Job.Job, machine.JobCommands.{after_
 ghost use Rattle.bq_jobs.specs.Searching.{Asks, Searches};
 ghost use Rattle.bq_state.specs.{Asking.AsksAsChanged, CoreParts.{count_jobs, machine_of}, JobKinds.is_of};
 
-use crate::acts::Reply;
+use crate::acts::{Reply, set_answer};
 use bq_job::{Answer, Seat};
 use bq_jobs::{NumberedJobs, NumberedTubes, Tube};
 use bq_state::core_parts::CoreParts;
@@ -86,6 +86,7 @@ fn kick_in(state: &mut CoreParts, tube: &Tube, bound: u32) -> u64
 
 /// Kicks at most `bound` jobs of the tube that the client uses.
 #[tactic(auto, using(crate::proofs::AskLemmas::within))]
+#[inline(never)]
 pub(crate) fn kick(state: &mut CoreParts, seat: Seat, bound: u32, answer: &mut Answer) -> Reply
     ensures reply { RepliesAt seat false (kick_effect bound) state.old result answer.new state.new }
     ensures asks { AsksAsChanged state.old.jobs state.new.jobs }
@@ -95,6 +96,6 @@ pub(crate) fn kick(state: &mut CoreParts, seat: Seat, bound: u32, answer: &mut A
     };
     let tube = client.used().copy();
     let count = kick_in(state, &tube, bound);
-    *answer = Answer::KickedCount(count);
+    set_answer(answer, Answer::KickedCount(count));
     Reply::Told
 }

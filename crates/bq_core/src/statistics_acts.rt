@@ -6,7 +6,7 @@ ghost use Rattle.bq_job.specs.machine.StatisticsCommands.{stats_job_effect, stat
 ghost use Rattle.bq_jobs.specs.Searching.{Searches};
 ghost use Rattle.bq_state.specs.{Asking.AsksAsChanged, CoreParts.machine_of};
 
-use crate::acts::Reply;
+use crate::acts::{Reply, set_answer};
 use crate::job_acts::not_found;
 use crate::texts::{ServerNumbers, TubeNumbers, job_text, names_text, server_text, tube_text};
 use bq_job::{Answer, JobId, Moment, NoMemory, Seat, Text, TubeName};
@@ -39,6 +39,7 @@ fn text_of_job(
 }
 
 /// Answers with the statistics of the job with this id.
+#[inline(never)]
 pub(crate) fn stats_job(
     state: &mut CoreParts,
     alloc: Global,
@@ -57,7 +58,7 @@ pub(crate) fn stats_job(
     ) {
         None => not_found(answer),
         Some(Ok(text)) => {
-            *answer = Answer::Ok(text);
+            set_answer(answer, Answer::Ok(text));
             Reply::Told
         }
         Some(Err(_)) => Reply::LeftOut,
@@ -86,6 +87,7 @@ fn tube_numbers(state: &CoreParts, tube: &TubeName, hint: TubeNumber) -> TubeNum
 }
 
 /// Answers with the statistics of a tube, if it exists.
+#[inline(never)]
 pub(crate) fn stats_tube(
     state: &CoreParts,
     alloc: Global,
@@ -100,7 +102,7 @@ pub(crate) fn stats_tube(
     }
     match tube_text(alloc, tube, &tube_numbers(state, tube, hint)) {
         Ok(text) => {
-            *answer = Answer::Ok(text);
+            set_answer(answer, Answer::Ok(text));
             Reply::Told
         }
         Err(_) => Reply::LeftOut,
@@ -125,12 +127,13 @@ fn server_numbers(state: &CoreParts) -> ServerNumbers
 }
 
 /// Answers with the statistics of the server.
+#[inline(never)]
 pub(crate) fn stats(state: &CoreParts, alloc: Global, answer: &mut Answer) -> Reply
     ensures { RepliesBy true stats_effect state.now result answer.new state.now }
 {
     match server_text(alloc, &server_numbers(state)) {
         Ok(text) => {
-            *answer = Answer::Ok(text);
+            set_answer(answer, Answer::Ok(text));
             Reply::Told
         }
         Err(_) => Reply::LeftOut,
@@ -138,6 +141,7 @@ pub(crate) fn stats(state: &CoreParts, alloc: Global, answer: &mut Answer) -> Re
 }
 
 /// Answers with the list of the existing tubes.
+#[inline(never)]
 pub(crate) fn list_tubes(state: &CoreParts, alloc: Global, answer: &mut Answer) -> Reply
     ensures { RepliesBy true list_tubes_effect state.now result answer.new state.now }
 {
@@ -146,7 +150,7 @@ pub(crate) fn list_tubes(state: &CoreParts, alloc: Global, answer: &mut Answer) 
     };
     match names_text(alloc, names.as_slice()) {
         Ok(text) => {
-            *answer = Answer::Ok(text);
+            set_answer(answer, Answer::Ok(text));
             Reply::Told
         }
         Err(_) => Reply::LeftOut,
@@ -154,6 +158,7 @@ pub(crate) fn list_tubes(state: &CoreParts, alloc: Global, answer: &mut Answer) 
 }
 
 /// Answers with the list of the tubes that the client watches.
+#[inline(never)]
 #[tactic(auto, using(bq_job::proofs::NameOrderLemmas::in_order_fold, bq_state::proofs::NameLemmas::list_of_order))]
 pub(crate) fn list_tubes_watched(
     state: &CoreParts,
@@ -171,7 +176,7 @@ pub(crate) fn list_tubes_watched(
     };
     match names_text(alloc, names.as_slice()) {
         Ok(text) => {
-            *answer = Answer::Ok(text);
+            set_answer(answer, Answer::Ok(text));
             Reply::Told
         }
         Err(_) => Reply::LeftOut,

@@ -5,7 +5,7 @@ ghost use Rattle.bq_jobs.specs.Searching.{Asks};
 ghost use Rattle.bq_state.specs.{Asking.AsksAsChanged, CoreParts.{AtSeat, machine_of}, JobKinds.first_of_kind, Keeping.Looks};
 ghost use Rattle.bq_job.specs.declared.answer.Answer.TheVariants as answers;
 
-use crate::acts::Reply;
+use crate::acts::{Reply, set_answer};
 use crate::job_acts::not_found;
 use bq_job::{Answer, JobId, Seat, TubeName};
 use bq_jobs::Tube;
@@ -35,15 +35,8 @@ pub(crate) fn use_tube(
     };
     let change = SeatChange::Use(Tube::new(tube, number));
     changes::change_seat(state, seat, &change);
-    tell_used(tube, answer);
+    set_answer(answer, Answer::Using(*tube));
     Reply::Told
-}
-
-// Answers with the tube that is used. A separate function: the answer that was there is dropped in it.
-fn tell_used(tube: &TubeName, answer: &mut Answer)
-    ensures { answer.new ≡ Answer.Using tube.now }
-{
-    *answer = Answer::Using(*tube);
 }
 
 /// Answers with the tube that the client's jobs go into.
@@ -55,7 +48,7 @@ pub(crate) fn list_tube_used(state: &CoreParts, seat: Seat, answer: &mut Answer)
     match seats::find(state.seats.as_slice(), seat) {
         None => Reply::Silent,
         Some(client) => {
-            *answer = Answer::Using(*client.used().name());
+            set_answer(answer, Answer::Using(*client.used().name()));
             Reply::Told
         }
     }
@@ -78,12 +71,12 @@ pub(crate) fn watch(
         return Reply::Silent;
     };
     if client.watches(tube) {
-        *answer = Answer::Watching(client.watch_count() as u64);
+        set_answer(answer, Answer::Watching(client.watch_count() as u64));
         return Reply::Told;
     }
     match changes::watch_tube(state, alloc, seat, tube) {
         Ok(count) => {
-            *answer = Answer::Watching(count);
+            set_answer(answer, Answer::Watching(count));
             Reply::Told
         }
         Err(_) => Reply::LeftOut,
@@ -107,15 +100,16 @@ pub(crate) fn ignore(
         return Reply::Silent;
     };
     if !client.watches_other(tube) {
-        *answer = Answer::NotIgnored;
+        set_answer(answer, Answer::NotIgnored);
         return Reply::Told;
     }
     let count = changes::ignore_tube(state, seat, tube);
-    *answer = Answer::Watching(count);
+    set_answer(answer, Answer::Watching(count));
     Reply::Told
 }
 
 /// Pauses a tube, if it exists.
+#[inline(never)]
 #[tactic(auto, using(bq_state::proofs::PartsLemmas::tube_has_entry))]
 pub(crate) fn pause(state: &mut CoreParts, tube: &TubeName, seconds: u32, answer: &mut Answer)
     ensures reply { pause_effect tube.now seconds (machine_of state.old)
@@ -124,15 +118,16 @@ pub(crate) fn pause(state: &mut CoreParts, tube: &TubeName, seconds: u32, answer
 {
     let hint = changes::number_of(state, tube);
     if !changes::is_tube(state, tube, hint) {
-        *answer = Answer::NotFound;
+        set_answer(answer, Answer::NotFound);
         return;
     }
     let change = TubeChange::Pause(seconds, state.moment);
     changes::change_tube(state, tube, hint, change);
-    *answer = Answer::Paused;
+    set_answer(answer, Answer::Paused);
 }
 
 // Shows the job with this id.
+#[inline(never)]
 #[tactic(auto, using(crate::proofs::ToldLemmas::shown_so))]
 fn show(state: &mut CoreParts, id: JobId, answer: &mut Answer) -> Reply
     ensures reply { RepliesBy false (peek_effect id) state.old result answer.new state.new }
@@ -141,7 +136,7 @@ fn show(state: &mut CoreParts, id: JobId, answer: &mut Answer) -> Reply
     match state.share(id) {
         None => not_found(answer),
         Some(Ok(body)) => {
-            *answer = Answer::Found(id, body);
+            set_answer(answer, Answer::Found(id, body));
             Reply::Told
         }
         Some(Err(_)) => Reply::Unshared,

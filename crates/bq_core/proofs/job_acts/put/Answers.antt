@@ -1,21 +1,4 @@
-use Rattle.std.proofs.{Common.{ap, arith, sym, ◌∙◌, ◌≡◌}, lemmas.Grind.common_steps}
-use Rattle.bq_core.proofs.ActLemmas.{after_given, put_done, used_has_entry}
-use Rattle.bq_jobs.proofs.Changes.{low_below}
-use Rattle.bq_state.specs.CoreParts.{machine_held, machine_of}
 use Rattle.bq_core.proofs.job_acts.put.Goals as goal
 
-pub add-requires : goal.add-requires
-add-requires c =
-    let made = c.new_job-job.ensures c.in-Some.client.now (sym c.used-tube.ensures) in
-    let free = c.next_is_free.ensures 1 _ _ c.args.state.now.sound.ids in
-    grind (arith, common_steps, low_below, used_has_entry)
-
 pub returns-clause-reply : goal.returns-clause-reply
-returns-clause-reply c s found =
-    let m = machine_of c.args.state.now in
-    let same = ap (λ h. h.seats) c.count_put.ensures ∙ c.in-Ok-make_room.ensures.seats in
-    let used : s.used ≡ c.used-tube.result.now = let here = c.in-Some.ensures in cc in
-    put_done m _ _ s _ _ _ _ _ _ _ c.if-state.false (sym c.if-is_full.ensures)
-    (ap machine_held c.count_put.ensures ∙ ap after_given c.in-Ok-make_room.ensures.after)
-    (ap (λ m. m.next_id) c.in-Ok-make_room.ensures.after) c.in-Ok.ensures (c.new_job-job.ensures s used) c.args.state.now.sound.ids
-    (c.adds_at_the_end.ensures 1 _ _) c.add.ensures.after
+returns-clause-reply c = rw c.in-Ok.ensures at (c.put_shared.ensures.reply c.args.answer.now)

@@ -10,4 +10,4 @@ returns-in-Some-Ok-clause-reply c =
     let m = machine_of c.args.state.now in
     let there = some_there _ (sym c.in-Some-Ok.ensures.none) in
     let text = if_ok _ _ _ c.in-Some-Ok.field-0-is c.in-Some-Ok.ensures.text m there.0 refl there.1 in
-    rw (text, ap (λ (k : Kept). k.jobs) c.in-Some-Ok.ensures.kept.same) (ap (job_statistics_or_not m) there.1)
+    rw (c.set_answer.ensures, text, ap (λ (k : Kept). k.jobs) c.in-Some-Ok.ensures.kept.same) (ap (job_statistics_or_not m) there.1)
