@@ -119,12 +119,18 @@ impl Core {
             return Err(CoreFault::NoMemory);
         };
         let Ok(waiting) = Waiting::new(alloc, config.seats) else {
+            drop(seats);
             return Err(CoreFault::NoMemory);
         };
         let Ok(tubes) = Tubes::new(alloc) else {
+            drop(seats);
+            drop(waiting);
             return Err(CoreFault::NoMemory);
         };
         let Ok(jobs) = changes::no_jobs(alloc, &tubes) else {
+            drop(seats);
+            drop(waiting);
+            drop(tubes);
             return Err(CoreFault::NoMemory);
         };
         Ok(Core {
@@ -147,6 +153,7 @@ impl Core {
         ensures settings { self.new.machine.settings ≡ self.old.machine.settings }
     {
         self.step_in_place(alloc, at, seat, &what, outs);
+        drop(what);
     }
 
     /// Does the same as `step` with a step passed by reference: it may contain a tube's name, which
