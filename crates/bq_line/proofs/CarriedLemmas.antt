@@ -16,6 +16,7 @@ use Rattle.bq_line.specs.declared.attendant.Progress.{Progress}
 use Rattle.bq_line.specs.declared.attendant.Progress.TheVariants as results
 use Rattle.bq_line.specs.Writing.{Resumes}
 use Rattle.bq_line.specs.Links.{Calls}
+use Rattle.bq_line.specs.Submitting.{IsSubmittedOn}
 use Rattle.bq_line.specs.Tending.{MayEndAt}
 use Rattle.bq_line.specs.declared.attendant.LinePlace.{LinePlace}
 use Rattle.bq_line.specs.declared.attendant.LinePlace.TheVariants as places
@@ -238,3 +239,22 @@ rests went result first last action submitted taken h c ends moved =
     let still = ends.still moved in
     subst (λ s. Calls went first s [] last) still.0 (subst (λ t. Calls went first submitted t last) still.1
     (gone went (λ s t. Calls went first s t last) first last action submitted taken (λ s t w. inl w) (λ e. inr (e, refl, refl)) h c))
+
+-- A step was submitted, or it was not accepted.
+pub ends_submission : {L : Type 0} (result : Progress) (place : LinePlace L) (line : L) (step : Step) (sent : ℕ) (old new : SeatMachine)
+    (next : Action) (submitted : List Step) (taken : List Answer)
+    → place ≡ places.On line (actions.Submit step) sent → IsSubmittedOn result old step new next submitted taken
+    → MayEndAt result place
+ends_submission result place line step sent old new next submitted taken e (inl s) =
+    subst (MayEndAt result) (sym e) (ends_submitted result old step new next submitted taken s.1 s.0).can_end
+ends_submission result place line step sent old new next submitted taken e (inr s) = subst (MayEndAt result) (sym e) (inl s.0)
+
+-- A step that was not accepted was not submitted, and no answer was taken.
+pub rests_submission : {K : Type 0} (went : K → List Step → List Answer → K → Type 0) (result : Progress) (first last : K) (step : Step)
+    (old new : SeatMachine) (next : Action) (submitted : List Step) (taken : List Answer)
+    → went first submitted taken last → IsSubmittedOn result old step new next submitted taken → (result ≡ results.Moved → ⊥)
+    → Calls went first [] [] last
+rests_submission went result first last step old new next submitted taken w (inl s) moved =
+    let still = (ends_submitted result old step new next submitted taken s.1 s.0).still moved in
+    inl (subst (λ x. went first x [] last) still.0 (subst (λ t. went first submitted t last) still.1 w))
+rests_submission went result first last step old new next submitted taken w (inr s) moved = absurd (moved s.0)

@@ -17,8 +17,10 @@ use Rattle.bq_seat.specs.declared.machine.SeatMachine.{SeatMachine}
 use Rattle.bq_line.specs.Attending.{IsOnLine}
 use Rattle.bq_line.specs.Carried.{CarriedPart, CarriesOn, HasGone}
 use Rattle.bq_line.specs.declared.attendant.Progress.{Progress}
+use Rattle.bq_line.specs.declared.attendant.Progress.TheVariants as results
 use Rattle.bq_line.specs.LineCalls.{new_line}
 use Rattle.bq_line.specs.Links.{Calls}
+use Rattle.bq_line.specs.Submitting.{IsSubmittedOn}
 use Rattle.bq_line.specs.Tending.{DoorSeen, GoesOn, IsCounted, IsNewDoor, IsNewSeat, IsTended, Tends, attendant, ended_lines, over_by}
 use Rattle.bq_line.specs.declared.attendant.Attendant.{Attendant}
 use Rattle.bq_line.specs.declared.attendant.LinePlace.{LinePlace}
@@ -152,6 +154,27 @@ tends_carried result seen old new line later action next sent now submitted take
         placed = t.placed;
       },
       record { grows = let e : over_by action ≤ over_by next = counted.0 in omega arith; unclosed = counted.1 },
+    )
+
+-- A step was submitted or was not accepted, and if it was, its answer may have been taken too.
+pub tends_submitted : {L : Type 0} (result : Progress) (seen : L → LineSeen) (old new : SeatMachine) (line : L) (step : Step)
+    (next : Action) (sent now : ℕ) (submitted : List Step) (taken : List Answer) (door : DoorSeen) → now ≡ 0
+    → IsSubmittedOn result old step new next submitted taken
+    → Tends seen (attendant old (places.On line (actions.Submit step) sent)) door submitted taken
+    (attendant new (places.On line next now)) door
+tends_submitted result seen old new line step next sent now submitted taken door none (inl s) =
+    rw none (tends_carried result seen old new line line (actions.Submit step) next sent 0 submitted taken door
+    (λ first e. (seen line, none_begun next (seen line), (e, s.0, s.1))))
+tends_submitted result seen old new line step next sent now submitted taken door none (inr s) = λ size before got t.
+    let first = tends_carried results.Moved seen old s.1 line line (actions.Submit step) actions.PollMail sent 0 submitted [] door
+    (λ first e. (seen line, refl, (e, refl, s.2))) size before got t in
+    let last = tends_carried results.Moved seen s.1 new line line actions.PollMail next 0 now [] taken door
+    (λ first e. (seen line, rw none (none_begun next (seen line)), (e, refl, s.3))) size (before ++ submitted) (got ++ []) first.0 in (
+      rw (append-nil (before ++ submitted), append-nil got) at last.0,
+      record {
+        grows = let a = first.1.grows in let b = last.1.grows in omega arith;
+        unclosed = last.1.unclosed;
+      },
     )
 
 -- the same with the link's calls

@@ -15,5 +15,6 @@ pub mod ReadingNumbers
 pub mod Ready
 pub mod ScriptPlace
 pub mod Streams
+pub mod Submitting
 pub mod Tending
 pub mod Writing

@@ -1,5 +1,5 @@
 -- What a seat's link does.
-use Rattle.std.specs.Prelude.{◌≡◌, ◌⊎◌, Bool, true, false, List, [], ◌∷◌, Result, Ok, Err, if◌then◌else◌}
+use Rattle.std.specs.Prelude.{◌≡◌, ◌⊎◌, Bool, true, false, List, [], ◌∷◌, ◌++◌, Result, Ok, Err, if◌then◌else◌}
 use Rattle.bq_job.specs.declared.answer.Answer.{Answer}
 use Rattle.bq_job.specs.declared.step.Step.{Step}
 use Rattle.bq_job.specs.promise.History.{is_tick}
@@ -27,6 +27,22 @@ SubmitsInPlace went old step false left new = (left ≡ step) × went old [] [] 
 abbrev pub TakesInPlace : {K : Type 0} → (K → List Step → List Answer → K → Type 0) → K → Action → Bool → Action → K → Type 0
 TakesInPlace went old action true next new = (answer : Answer) × (next ≡ actions.Write answer) × went old [] (answer ∷ []) new
 TakesInPlace went old action false next new = (next ≡ action) × went old [] [] new
+
+-- Whatever went over the link before, nothing more went over it then.
+abbrev pub TakesNone : {K : Type 0} → (K → List Step → List Answer → K → Type 0) → K → K → Type 0
+TakesNone {K} went old new = (first : K) (submitted : List Step) (taken : List Answer) → went first submitted taken old
+    → went first submitted taken new
+
+-- Whatever went over the link before, this answer was taken then.
+abbrev pub TakesOne : {K : Type 0} → (K → List Step → List Answer → K → Type 0) → K → Answer → K → Type 0
+TakesOne {K} went old answer new = (first : K) (submitted : List Step) (taken : List Answer) → went first submitted taken old
+    → went first submitted (taken ++ answer ∷ []) new
+
+-- An answer was taken, and the action is now to write it; or there was none, and the action is
+-- unchanged. This continues whatever went over the link before.
+abbrev pub TakesFurther : {K : Type 0} → (K → List Step → List Answer → K → Type 0) → K → Action → Bool → Action → K → Type 0
+TakesFurther went old action true next new = (answer : Answer) × (next ≡ actions.Write answer) × TakesOne went old answer new
+TakesFurther went old action false next new = (next ≡ action) × TakesNone went old new
 
 -- The seat submitted these steps and took these answers, or did not use the link.
 abbrev pub Calls : {K : Type 0} → (K → List Step → List Answer → K → Type 0) → K → List Step → List Answer → K → Type 0

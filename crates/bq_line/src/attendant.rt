@@ -13,7 +13,8 @@ ghost use Rattle.bq_job.specs.declared.step.Step.{Step};
 ghost use Rattle.bq_job.specs.promise.LineSteps.{LineSeen};
 ghost use Rattle.bq_line.specs.Streams.{StaysOver};
 ghost use Rattle.bq_line.specs.Carried.{Carried, CarriedPart, HasGone};
-ghost use Rattle.bq_line.specs.Links.{Calls, SubmitsInPlace, TakesInPlace};
+ghost use Rattle.bq_line.specs.Links.{Calls, SubmitsInPlace, TakesFurther, TakesInPlace};
+ghost use Rattle.bq_line.specs.Submitting.{HasSubmitted, HasSubmittedOn, TakesAtOnce};
 
 use crate::buffers::{Buffers, Wrote, read, write_answer};
 use crate::door::{Door, Opening};
@@ -46,6 +47,16 @@ pub trait Link {
         requires ready { is_ready self.old }
         ensures ready { is_ready self.new }
         ensures went { TakesInPlace went self.old place.old result place.new self.new };
+
+    /// Takes the oldest waiting answer as `mail` does, but never sleeps. By default it takes none:
+    /// the seat then calls `mail` for it.
+    fn mail_at_once(&mut self, place: &mut Action) -> bool
+        requires ready { is_ready self.old }
+        ensures ready { is_ready self.new }
+        ensures went { TakesFurther went self.old place.old result place.new self.new }
+    {
+        false
+    }
 }
 
 /// Whether an action of a seat moved something. Unless it is `Moved`, the seat submitted no step and
@@ -272,8 +283,9 @@ impl<L: Line + Drop> Attendant<L> {
         }
     }
 
-    /// Carries out one action of the seat. A step that was not accepted is submitted again at the
-    /// next call.
+    /// Carries out one action of the seat. If that submits a step and the link has the answer at
+    /// once, the seat takes it too. A step that was not accepted is submitted again at the next
+    /// call.
     pub fn go_on<D: Door<Line = L>, K: Link>(
         &mut self,
         alloc: Global,
@@ -307,6 +319,7 @@ impl<L: Line + Drop> Attendant<L> {
                     shut_line(&mut self.place, door, end);
                     Progress::Moved
                 }
+                Action::Submit(_) => submit_and_take(alloc, &mut self.machine, action, sent, link),
                 other => carry_out(alloc, &mut self.machine, other, sent, line, link, buffers),
             },
             LinePlace::Between => {
@@ -472,14 +485,7 @@ fn act<L: Line, K: Link>(
     ensures stays { StaysOver L.lies_over line.old line.new }
 {
     match action {
-        Action::Submit(step) => {
-            if link.submit(step) {
-                machine.submitted(alloc, action);
-                Progress::Moved
-            } else {
-                Progress::NotAccepted
-            }
-        }
+        Action::Submit(_) => submit(alloc, machine, action, link),
         Action::Read => read(alloc, machine, action, line, &mut buffers.piece),
         Action::PollMail => {
             if link.mail(action) {
@@ -495,6 +501,72 @@ fn act<L: Line, K: Link>(
         Action::Write(_) => Progress::NoRoom,
         Action::LineOver(_) => Progress::NothingToDo,
         Action::Stray => Progress::NothingToDo,
+    }
+}
+
+// Submits the step of an action.
+fn submit<K: Link>(
+    alloc: Global,
+    machine: &mut SeatMachine,
+    action: &mut Action,
+    link: &mut K,
+) -> Progress
+    requires ready { K.is_ready link.old }
+    ensures ready { K.is_ready link.new }
+    ensures submitted { (step : Step) → action.old ≡ Action.Submit step
+        → HasSubmitted K.went link.old link.new result machine.old step machine.new action.new }
+{
+    match action {
+        Action::Submit(step) => {
+            if link.submit(step) {
+                machine.submitted(alloc, action);
+                Progress::Moved
+            } else {
+                Progress::NotAccepted
+            }
+        }
+        _ => Progress::NothingToDo,
+    }
+}
+
+// Submits the step of an action. If the seat then waits for the answer and the link has it at once,
+// the seat takes it.
+fn submit_and_take<K: Link>(
+    alloc: Global,
+    machine: &mut SeatMachine,
+    action: &mut Action,
+    sent: &mut usize,
+    link: &mut K,
+) -> Progress
+    requires ready { K.is_ready link.old }
+    ensures ready { K.is_ready link.new }
+    ensures none_sent { sent.new ≡ 0 }
+    ensures submitted { (step : Step) → action.old ≡ Action.Submit step
+        → HasSubmittedOn K.went link.old link.new result machine.old step machine.new action.new }
+{
+    *sent = 0;
+    let progress = submit(alloc, machine, action, link);
+    if progress.has_moved() && polls(action) {
+        take_at_once(machine, action, link);
+    }
+    progress
+}
+
+fn polls(action: &Action) -> bool
+    ensures { result ≡ true → action.now ≡ Action.PollMail }
+{
+    matches!(action, Action::PollMail)
+}
+
+// Takes the answer that a seat waits for, if the link has it at once.
+fn take_at_once<K: Link>(machine: &mut SeatMachine, action: &mut Action, link: &mut K)
+    requires polls { action.old ≡ Action.PollMail }
+    requires ready { K.is_ready link.old }
+    ensures ready { K.is_ready link.new }
+    ensures took { TakesAtOnce K.went link.old link.new machine.old machine.new action.new }
+{
+    if link.mail_at_once(action) {
+        machine.mail(action);
     }
 }
 

@@ -1,20 +1,13 @@
-use Rattle.std.proofs.Common.{[], ◌∷◌, refl, ap}
+use Rattle.std.proofs.Common.{[], ◌∷◌, refl}
 use Rattle.bq_seat.specs.declared.machine.Action.TheVariants as actions
-use Rattle.bq_line.specs.Links.{as_submitted}
 use Rattle.bq_line.specs.declared.attendant.Progress.TheVariants as results
 use Rattle.bq_line.proofs.CarriedLemmas.{comes_by}
 use Rattle.bq_line.proofs.attendant.act.Goals as goal
 
-pub returns-then-submit-clause-carried : goal.returns-then-submit-clause-carried
-returns-then-submit-clause-carried g c =
-    comes_by g.K.Link.went results.Moved _ _ _ _ _ _ _ _ (actions.Submit c.in-Submit.step) c.in-Submit.is (as_submitted c.in-Submit.step) []
-    (rw c.if-submit.true at c.submit.ensures.went) (refl, refl, (refl, c.submitted.ensures))
-
-pub returns-else-submit-clause-carried : goal.returns-else-submit-clause-carried
-returns-else-submit-clause-carried g c =
-    let back = rw c.if-submit.false at c.submit.ensures.went in
-    comes_by g.K.Link.went results.NotAccepted _ _ _ _ _ _ _ _ (actions.Submit c.in-Submit.step) c.in-Submit.is [] [] back.1
-    (refl, refl, (refl, ap actions.Submit back.0, refl))
+pub returns-in-Submit-clause-carried : goal.returns-in-Submit-clause-carried
+returns-in-Submit-clause-carried g c =
+    let h = c.submit.ensures.submitted c.in-Submit.field-0 c.in-Submit.is in
+    comes_by g.K.Link.went _ _ _ _ _ _ _ _ _ (actions.Submit c.in-Submit.field-0) c.in-Submit.is h.0 [] h.1 (refl, refl, h.2)
 
 pub returns-in-Read-clause-carried : goal.returns-in-Read-clause-carried
 returns-in-Read-clause-carried g c = comes_by g.K.Link.went _ _ _ _ _ _ _ _ _ actions.Read c.in-Read.is [] [] refl c.read.ensures.0

@@ -4,8 +4,8 @@ use Rattle.bq_line.specs.declared.attendant.LinePlace.TheVariants as places
 use Rattle.bq_line.specs.declared.attendant.LinePlace.{LinePlace}
 use Rattle.bq_line.specs.Tending.{AreSure, MayEndAt, door_seen}
 use Rattle.bq_line.specs.declared.attendant.Progress.TheVariants as results
-use Rattle.bq_line.proofs.CarriedLemmas.{ends_on, rests}
-use Rattle.bq_line.proofs.TendingLemmas.{from_place, tends_acted, tends_still}
+use Rattle.bq_line.proofs.CarriedLemmas.{ends_on, ends_submission, rests, rests_submission}
+use Rattle.bq_line.proofs.TendingLemmas.{from_place, tends_acted, tends_still, tends_submitted}
 use Rattle.bq_line.proofs.SureLemmas.{sure_further, sure_left}
 use Rattle.bq_line.proofs.attendant.Attendant.go_on.Goals as goal
 
@@ -26,6 +26,23 @@ returns-in-LineOver-clause-went g c =
     (places.On c.in-On.line (actions.LineOver c.in-LineOver.end) c.in-On.sent) c.shut_line.new.place (at c.args.door.now)
     (at c.shut_line.new.door)
     over ([], [], inr (refl, refl, refl), c.shut_line.ensures.went m)
+
+pub returns-in-Submit-clause-went : goal.returns-in-Submit-clause-went
+returns-in-Submit-clause-went g c =
+    let at = door_seen g.D.Door.is_out g.D.Door.is_at_end g.D.Door.lines_over c.args.door.now in
+    let m = c.args.self.now.machine in
+    let new = c.submit_and_take.new in
+    let h = c.submit_and_take.ensures.submitted c.in-Submit.field-0 c.in-Submit.is in
+    let is : c.args.self.now.place ≡ places.On c.in-On.line (actions.Submit c.in-Submit.field-0) c.in-On.sent =
+    let first = c.in-On.is in let second = c.in-Submit.is in cc in
+    from_place g.K.Link.went c.args.link.now new.link g.L.Line.seen m new.machine c.args.self.now.place
+    (places.On c.in-On.line (actions.Submit c.in-Submit.field-0) c.in-On.sent) (places.On c.in-On.line new.action new.sent) at at is (
+      h.0,
+      h.1,
+      inl h.2,
+      tends_submitted c.submit_and_take.result g.L.Line.seen m new.machine c.in-On.line c.in-Submit.field-0 new.action c.in-On.sent
+          new.sent h.0 h.1 at c.submit_and_take.ensures.none_sent h.3,
+    )
 
 pub returns-in_default-clause-went : goal.returns-in_default-clause-went
 returns-in_default-clause-went g c =
@@ -55,6 +72,17 @@ pub returns-in_default-clause-still : goal.returns-in_default-clause-still
 returns-in_default-clause-still g c = λ moved.
     let h = c.carry_out.ensures.carried in
     rests g.K.Link.went _ _ _ c.in-On.action h.0 h.1 h.2 h.3.1 h.3.0 moved
+
+pub returns-in-Submit-clause-progress : goal.returns-in-Submit-clause-progress
+returns-in-Submit-clause-progress g c =
+    let h = c.submit_and_take.ensures.submitted c.in-Submit.field-0 c.in-Submit.is in
+    ends_submission _ _ c.in-On.line c.in-Submit.field-0 c.in-On.sent _ _ _ h.0 h.1
+    (let first = c.in-On.is in let second = c.in-Submit.is in cc) h.3
+
+pub returns-in-Submit-clause-still : goal.returns-in-Submit-clause-still
+returns-in-Submit-clause-still g c = λ moved.
+    let h = c.submit_and_take.ensures.submitted c.in-Submit.field-0 c.in-Submit.is in
+    rests_submission g.K.Link.went _ _ _ _ _ _ _ h.0 h.1 h.2 h.3 moved
 
 pub returns-in-LineOver-clause-progress : goal.returns-in-LineOver-clause-progress
 returns-in-LineOver-clause-progress g c =
@@ -89,6 +117,10 @@ returns-in-LineOver-clause-sure g c = λ never sure.
 pub returns-in_default-clause-sure : goal.returns-in_default-clause-sure
 returns-in_default-clause-sure g c = λ never sure.
     sure_further g.L.Line.lies_over _ c.in-On.line c.carry_out.new.line _ _ _ _ _ c.in-On.is c.carry_out.ensures.stays sure
+
+pub returns-in-Submit-clause-sure : goal.returns-in-Submit-clause-sure
+returns-in-Submit-clause-sure g c = λ never sure.
+    sure_further g.L.Line.lies_over _ c.in-On.line c.in-On.line _ _ _ _ _ c.in-On.is (λ first over. over) sure
 
 pub returns-in-Leaving-clause-sure : goal.returns-in-Leaving-clause-sure
 returns-in-Leaving-clause-sure g c = λ never sure. sure_left g.L.Line.lies_over _ _ _ c.leave.ensures.left sure
