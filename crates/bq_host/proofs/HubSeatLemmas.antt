@@ -1,16 +1,16 @@
 -- What the link of a seat to a hub did in an action.
-use Rattle.std.proofs.Common.{◌∙◌, ◌≡◌, ℕ, List, [], ap, inl, inr, refl, subst, sym}
+use Rattle.std.proofs.Common.{◌∙◌, ◌≡◌, ◌++◌, ◌∷◌, ℕ, Bool, true, false, List, [], ap, append-nil, inl, inr, refl, subst, sym}
 use Rattle.bq_job.specs.declared.answer.Answer.{Answer}
 use Rattle.bq_job.specs.declared.step.Step.{Step}
 use Rattle.bq_job.specs.machine.Machine.{Machine}
 use Rattle.bq_seat.specs.declared.machine.Action.{Action}
 use Rattle.bq_line.specs.Carried.{HasGone, MayCall}
-use Rattle.bq_line.specs.Links.{Calls}
+use Rattle.bq_line.specs.Links.{Calls, TakesFurther, TakesInPlace}
 use Rattle.bq_line.proofs.CarriedLemmas.{gone}
 use Rattle.bq_host.specs.Clocks.{Gives}
 use Rattle.bq_host.specs.Hubs.{WentAt}
 use Rattle.bq_host.specs.declared.{hub.Hub.Hub, hub_seat.HubSeat.HubSeat}
-use Rattle.bq_host.proofs.HubLemmas.{went_none}
+use Rattle.bq_host.proofs.HubLemmas.{went_none, went_then}
 
 module _ {C K : Type 0} (machine : K → Machine) (compared : K → ℕ) (given : Gives C) where
   abbrev pub LinkWent : HubSeat C K → List Step → List Answer → HubSeat C K → Type 0
@@ -34,3 +34,31 @@ module _ {C K : Type 0} (machine : K → Machine) (compared : K → ℕ) (given 
       gone LinkWent (λ s t. LinkWent first s t last) first last action submitted taken (λ s t w. w)
       (λ e. subst (λ (l : HubSeat C K). LinkWent first [] [] l) (sym e)
       (refl, refl, went_none machine compared given first.seat first.hub.now)) h c
+
+  -- Whatever the seat did before, it then took an answer, or there was none.
+  pub took_further : (old new : HubSeat C K) (place next : Action) (took : Bool) → new.hub.ghost_name ≡ old.hub.ghost_name
+      → new.seat ≡ old.seat → TakesInPlace (WentAt machine compared given old.seat) old.hub.now place took next new.hub.now
+      → TakesFurther LinkWent old place took next new
+  took_further old new place next true name seat t = (
+    t.0,
+    t.1,
+    λ first submitted taken w. (
+      name ∙ w.0,
+      seat ∙ w.1,
+      subst (λ (s : List Step). WentAt machine compared given first.seat first.hub.now s (taken ++ t.0 ∷ []) new.hub.now)
+          (append-nil submitted)
+          (went_then machine compared given first.seat old.seat first.hub.now old.hub.now new.hub.now submitted [] taken (t.0 ∷ []) w.1
+          w.2 t.2),
+    ),
+  )
+  took_further old new place next false name seat t = (
+    t.0,
+    λ first submitted taken w. (
+      name ∙ w.0,
+      seat ∙ w.1,
+      subst (λ (a : List Answer). WentAt machine compared given first.seat first.hub.now submitted a new.hub.now) (append-nil taken)
+          (subst (λ (s : List Step). WentAt machine compared given first.seat first.hub.now s (taken ++ []) new.hub.now)
+          (append-nil submitted)
+          (went_then machine compared given first.seat old.seat first.hub.now old.hub.now new.hub.now submitted [] taken [] w.1 w.2 t.1)),
+    ),
+  )

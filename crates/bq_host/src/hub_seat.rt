@@ -40,6 +40,11 @@ impl<'a, C: Clock + Drop, K: QueueCore + Drop> Link for HubSeat<'a, C, K> {
     fn mail(&mut self, place: &mut Action) -> bool {
         self.hub.take_to(self.seat, place)
     }
+
+    // The hub's mail never sleeps.
+    fn mail_at_once(&mut self, place: &mut Action) -> bool {
+        self.hub.take_to(self.seat, place)
+    }
 }
 
 /// Does one action of a seat that attends to a door, at the hub. Returns what moved or what was
