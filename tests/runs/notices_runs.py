@@ -75,6 +75,15 @@ def works_for(client, seconds, counts):
     counts.append(count)
 
 
+def run_drain_at_the_end_of_a_control_line(bqd):
+    """That draining begins is reported even if the control line ends in the line that begins it, and the server with it."""
+    with Server(bqd, "--seats", "1", "--sessions", "1") as server:
+        server.client().asks(ASK + b"quit\r\n", ANSWER)
+        same(server.goes_on(0.3), True)
+        _, errors = server.process.communicate(b"drain", PATIENCE)
+        same((server.process.returncode, errors), (0, TAKEN + b"bqd: draining\n"))
+
+
 def run_clients_beside_a_blocked_standard_error(bqd):
     """While standard error is not read, draining begins and 16 clients continue to work, the last of which took the
     last seat. Once it is read, it contains the notices."""
