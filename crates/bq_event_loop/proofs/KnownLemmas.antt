@@ -4,7 +4,7 @@ use Rattle.std.proofs.Common.{List, [], ◌∷◌, ◌++◌, length, slice_set, 
 use Rattle.std.proofs.Common.{◌∙◌, subst, arith, append-nil}
 use Rattle.std.specs.Option.{option_to_list}
 use Rattle.std.specs.Prelude.{slice_get}
-use Rattle.std.proofs.lemmas.Bool.{cases_Bool, lt-ltb}
+use Rattle.std.proofs.lemmas.Bool.{cases_Bool, eq-eqb, eqb-true, lt-ltb}
 use Rattle.std.proofs.lemmas.Bool.Decides.{eqb_tells}
 use Rattle.std.proofs.lemmas.List.{get_or-set_other, get_or-set_same, get_or_default, length-set}
 use Rattle.std.proofs.lemmas.List.Sums.{sum_by-cons}
@@ -21,6 +21,7 @@ use Rattle.bq_seat.specs.declared.machine.SeatMachine.{SeatMachine}
 use Rattle.bq_host.proofs.MarkLemmas.{one_if, same_one, times_push}
 use Rattle.bq_event_loop.specs.Known.{AreApart, AreIdle, AreKnown, AreKnownTo, AreSameLists, AreStill, ChangesOnly, ChangesOnlyIn, IsKnown}
 use Rattle.bq_event_loop.specs.Known.{IsListedIn, IsNextOf, IsTaken, KeepsAll, KnowsAll, is_listed, is_looking, is_on, is_visited}
+use Rattle.bq_event_loop.specs.Meanings.{Line}
 use Rattle.bq_event_loop.specs.Listings.{Listing, all_free, enqueued, falling, freed, is_nowhere}
 use Rattle.bq_host.specs.Marks.{times}
 use Rattle.bq_event_loop.specs.Still.{IsStill, IsStillAt, IsStillOn}
@@ -75,17 +76,9 @@ some_on xs i there = by (eqb_tells (times i xs) 0) where
   by (inl (_, none)) = absurd (omega (arith, none, there))
   by (inr (test, _)) = ap not test
 
-same_is : (i t : ℕ) → (i == t) ≡ true → i ≡ t
-same_is i t is = by (eqb_tells i t) where
-  by : ((i == t) ≡ true) × (i ≡ t) ⊎ ((i == t) ≡ false) × (i ≢ t) → i ≡ t
-  by (inl (_, same)) = same
-  by (inr (test, _)) = let e : false ≡ true = sym test ∙ is in absurd cc
-
-is_same : (i t : ℕ) → i ≡ t → (i == t) ≡ true
-is_same i t same = by (eqb_tells i t) where
-  by : ((i == t) ≡ true) × (i ≡ t) ⊎ ((i == t) ≡ false) × (i ≢ t) → (i == t) ≡ true
-  by (inl (test, _)) = test
-  by (inr (_, differs)) = absurd (differs same)
+left_only : (b : Bool) → (b || false) ≡ true → b ≡ true
+left_only true e = refl
+left_only false e = absurd cc
 
 -- Where a seat is if it is on a list with one seat more.
 on_cons : (i : ℕ) (xs : List ℕ) (t : ℕ) → is_on (i ∷ xs) t ≡ true → (is_on xs t || (i == t)) ≡ true
@@ -104,31 +97,36 @@ on_cons_back i xs t is = by (either (is_on xs t) (i == t) is) where
       let one : one_if (i == t) ≡ 1 = ap one_if same in
       some_on (i ∷ xs) t (omega (arith, sum_by-cons (λ x. one_if (x == t)) i xs, one))
 
--- What `enqueued` does to the lists.
-abbrev put_if : Bool → ℕ → Listing → Listing
-put_if b i l = if b then record l { queue = l.queue ++ i ∷ [] } else l
+-- a list with one more seat at its end, or without
+abbrev put : Bool → ℕ → List ℕ → List ℕ
+put b i xs = if b then xs ++ i ∷ [] else xs
 
-put_free : (b : Bool) (i : ℕ) (l : Listing) → (put_if b i l).free ≡ l.free
-put_free true i l = refl
-put_free false i l = refl
+enqueued_is : (b : Bool) (i : ℕ) (l : Listing)
+    → (if b then record l { queue = l.queue ++ i ∷ [] } else l) ≡ record l { queue = put b i l.queue }
+enqueued_is true i l = refl
+enqueued_is false i l = refl
 
-put_seats : (b : Bool) (i : ℕ) (l : Listing) → (put_if b i l).seats ≡ l.seats
-put_seats true i l = refl
-put_seats false i l = refl
+freed_is : (b : Bool) (i : ℕ) (l : Listing)
+    → (if b then record l { free = l.free ++ i ∷ [] } else l) ≡ record l { free = put b i l.free }
+freed_is true i l = refl
+freed_is false i l = refl
 
-put_keeps : (b : Bool) (i : ℕ) (l : Listing) (t : ℕ) → is_on l.queue t ≡ true → is_on (put_if b i l).queue t ≡ true
-put_keeps true i l t on = some_on (l.queue ++ i ∷ []) t (omega (arith, times_push t l.queue i, on_some l.queue t on))
-put_keeps false i l t on = on
+put_keeps : (b : Bool) (i : ℕ) (xs : List ℕ) (t : ℕ) → is_on xs t ≡ true → is_on (put b i xs) t ≡ true
+put_keeps true i xs t on = some_on (xs ++ i ∷ []) t (omega (arith, times_push t xs i, on_some xs t on))
+put_keeps false i xs t on = on
 
-put_only : (b : Bool) (i : ℕ) (l : Listing) (t : ℕ) → is_on (put_if b i l).queue t ≡ true
-    → (is_on l.queue t ≡ true) ⊎ ((b ≡ true) × (i ≡ t))
-put_only true i l t on = by (eqb_tells i t) where
-  by : ((i == t) ≡ true) × (i ≡ t) ⊎ ((i == t) ≡ false) × (i ≢ t) → (is_on l.queue t ≡ true) ⊎ ((true ≡ true) × (i ≡ t))
+put_only : (b : Bool) (i : ℕ) (xs : List ℕ) (t : ℕ) → is_on (put b i xs) t ≡ true → (is_on xs t ≡ true) ⊎ ((b ≡ true) × (i ≡ t))
+put_only true i xs t on = by (eqb_tells i t) where
+  by : ((i == t) ≡ true) × (i ≡ t) ⊎ ((i == t) ≡ false) × (i ≢ t) → (is_on xs t ≡ true) ⊎ ((true ≡ true) × (i ≡ t))
   by (inl (_, same)) = inr (refl, same)
   by (inr (test, _)) =
       let none : one_if (i == t) ≡ 0 = ap one_if test in
-      inl (some_on l.queue t (omega (arith, times_push t l.queue i, on_some (l.queue ++ i ∷ []) t on, none)))
-put_only false i l t on = inl on
+      inl (some_on xs t (omega (arith, times_push t xs i, on_some (xs ++ i ∷ []) t on, none)))
+put_only false i xs t on = inl on
+
+put_there : (b : Bool) (i : ℕ) (xs : List ℕ) → (b ≡ false → 0 < times i xs) → is_on (put b i xs) i ≡ true
+put_there true i xs there = some_on (xs ++ i ∷ []) i (omega (arith, times_push i xs i, same_one i))
+put_there false i xs there = some_on xs i (there refl)
 
 nowhere_none : (i : ℕ) (l : Listing) → is_nowhere i l ≡ true → times i l.queue + times i l.free ≡ 0
 nowhere_none i l is = by (nat_lt i l.seats) (eqb_tells (times i l.queue + times i l.free) 0) is where
@@ -148,10 +146,6 @@ somewhere i l below is = by (nat_lt i l.seats) (lt-ltb i l.seats below) (eqb_tel
   by true e (inr (_, differs)) f = omega (arith, differs)
   by false e h f = absurd cc
 
-put_lists : (b : Bool) (i : ℕ) (l : Listing) → (b ≡ false → 0 < times i l.queue) → is_on (put_if b i l).queue i ≡ true
-put_lists true i l there = some_on (l.queue ++ i ∷ []) i (omega (arith, times_push i l.queue i, same_one i))
-put_lists false i l there = some_on l.queue i (there refl)
-
 free_none : (i : ℕ) (l : Listing) → (is_on l.free i ≡ true → ⊥) → times i l.free ≡ 0
 free_none i l none = by (eqb_tells (times i l.free) 0) where
   by : ((times i l.free == 0) ≡ true) × (times i l.free ≡ 0) ⊎ ((times i l.free == 0) ≡ false) × (times i l.free ≢ 0) → times i l.free ≡ 0
@@ -161,74 +155,33 @@ free_none i l none = by (eqb_tells (times i l.free) 0) where
 -- A seat that does not check for a client is on the queue once it was enqueued.
 pub enqueued_lists : (i : ℕ) (l : Listing) → i < l.seats → (is_on l.free i ≡ true → ⊥) → is_on (enqueued i l).queue i ≡ true
 enqueued_lists i l below none =
-    put_lists (is_nowhere i l) i l (λ e. omega (arith, somewhere i l below e, free_none i l none))
+    subst (λ (z : Listing). is_on z.queue i ≡ true) (sym (enqueued_is (is_nowhere i l) i l))
+    (put_there (is_nowhere i l) i l.queue (λ e. omega (arith, somewhere i l below e, free_none i l none)))
 
 pub enqueued_keeps : (i : ℕ) (l : Listing) (t : ℕ) → is_on l.queue t ≡ true → is_on (enqueued i l).queue t ≡ true
-enqueued_keeps i l t on = put_keeps (is_nowhere i l) i l t on
+enqueued_keeps i l t on =
+    subst (λ (z : Listing). is_on z.queue t ≡ true) (sym (enqueued_is (is_nowhere i l) i l)) (put_keeps (is_nowhere i l) i l.queue t on)
 
 pub enqueued_free : (i : ℕ) (l : Listing) → (enqueued i l).free ≡ l.free
-enqueued_free i l = put_free (is_nowhere i l) i l
+enqueued_free i l = ap (λ (z : Listing). z.free) (enqueued_is (is_nowhere i l) i l)
 
 pub enqueued_seats : (i : ℕ) (l : Listing) → (enqueued i l).seats ≡ l.seats
-enqueued_seats i l = put_seats (is_nowhere i l) i l
-
--- Only this seat can be more on the queue, and it does not check for a client.
-enqueued_only : (i : ℕ) (l : Listing) (t : ℕ) → is_on (enqueued i l).queue t ≡ true
-    → (is_on l.queue t ≡ true) ⊎ ((i ≡ t) × (times i l.free ≡ 0))
-enqueued_only i l t on = by (put_only (is_nowhere i l) i l t on) where
-  by : (is_on l.queue t ≡ true) ⊎ ((is_nowhere i l ≡ true) × (i ≡ t)) → (is_on l.queue t ≡ true) ⊎ ((i ≡ t) × (times i l.free ≡ 0))
-  by (inl there) = inl there
-  by (inr (lost, same)) = inr (same, omega (arith, nowhere_none i l lost))
-
--- What `freed` does to the lists.
-abbrev free_if : Bool → ℕ → Listing → Listing
-free_if b i l = if b then record l { free = l.free ++ i ∷ [] } else l
-
-freed_queue_if : (b : Bool) (i : ℕ) (l : Listing) → (free_if b i l).queue ≡ l.queue
-freed_queue_if true i l = refl
-freed_queue_if false i l = refl
-
-freed_seats_if : (b : Bool) (i : ℕ) (l : Listing) → (free_if b i l).seats ≡ l.seats
-freed_seats_if true i l = refl
-freed_seats_if false i l = refl
-
-freed_keeps_if : (b : Bool) (i : ℕ) (l : Listing) (t : ℕ) → is_on l.free t ≡ true → is_on (free_if b i l).free t ≡ true
-freed_keeps_if true i l t on = some_on (l.free ++ i ∷ []) t (omega (arith, times_push t l.free i, on_some l.free t on))
-freed_keeps_if false i l t on = on
-
-freed_only_if : (b : Bool) (i : ℕ) (l : Listing) (t : ℕ) → is_on (free_if b i l).free t ≡ true
-    → (is_on l.free t ≡ true) ⊎ ((b ≡ true) × (i ≡ t))
-freed_only_if true i l t on = by (eqb_tells i t) where
-  by : ((i == t) ≡ true) × (i ≡ t) ⊎ ((i == t) ≡ false) × (i ≢ t) → (is_on l.free t ≡ true) ⊎ ((true ≡ true) × (i ≡ t))
-  by (inl (_, same)) = inr (refl, same)
-  by (inr (test, _)) =
-      let none : one_if (i == t) ≡ 0 = ap one_if test in
-      inl (some_on l.free t (omega (arith, times_push t l.free i, on_some (l.free ++ i ∷ []) t on, none)))
-freed_only_if false i l t on = inl on
-
-freed_lists_if : (b : Bool) (i : ℕ) (l : Listing) → (b ≡ false → 0 < times i l.queue + times i l.free)
-    → (is_on l.queue i ≡ true) ⊎ (is_on (free_if b i l).free i ≡ true)
-freed_lists_if true i l there = inr (some_on (l.free ++ i ∷ []) i (omega (arith, times_push i l.free i, same_one i)))
-freed_lists_if false i l there = by (eqb_tells (times i l.queue) 0) where
-  by : ((times i l.queue == 0) ≡ true) × (times i l.queue ≡ 0) ⊎ ((times i l.queue == 0) ≡ false) × (times i l.queue ≢ 0)
-      → (is_on l.queue i ≡ true) ⊎ (is_on l.free i ≡ true)
-  by (inl (_, none)) = inr (some_on l.free i (omega (arith, there refl, none)))
-  by (inr (_, differs)) = inl (some_on l.queue i (omega (arith, differs)))
+enqueued_seats i l = ap (λ (z : Listing). z.seats) (enqueued_is (is_nowhere i l) i l)
 
 on_none : (xs : List ℕ) (t : ℕ) → times t xs ≡ 0 → is_on xs t ≡ true → ⊥
 on_none xs t none on = omega (arith, none, on_some xs t on)
 
 -- The numbers that turns go by were changed, the seats and their mail were not.
-pub known_as : {L : Type 0} (gives takes : L → Bool) (many later_many : ℕ) (listed looks later later_looks : ℕ
+pub known_as : {L : Type 0} (line : Line L) (many later_many : ℕ) (listed looks later later_looks : ℕ
     → Bool) (seats : List (Attendant L))
     (mails : List (List Answer))
     → later_many ≡ many → AreApart later later_looks
     → ((t : ℕ) → later_looks t ≡ true → (looks t ≡ true) ⊎ ((a : Attendant L) → (slice_index_or seats t a).place ≡ places.Between))
     → ((t : ℕ) → t < length seats → listed t ≡ true → (later t ≡ true) ⊎ (later_looks t ≡ true)
-    ⊎ ((a : Attendant L) → IsStill gives takes (slice_index_or seats t a) (slice_index_or mails t [])))
+    ⊎ ((a : Attendant L) → IsStill line (slice_index_or seats t a) (slice_index_or mails t [])))
     → ((t : ℕ) → t < length seats → looks t ≡ true → (later t ≡ true) ⊎ (later_looks t ≡ true))
-    → AreKnown gives takes many listed looks [] seats mails → AreKnown gives takes later_many later later_looks [] seats mails
-known_as {L} gives takes many later_many listed looks later later_looks seats mails same_many apart before acts checks k = record {
+    → AreKnown line many listed looks [] seats mails → AreKnown line later_many later later_looks [] seats mails
+known_as {L} line many later_many listed looks later later_looks seats mails same_many apart before acts checks k = record {
   all = omega (arith, same_many, k.all);
   apart = apart;
   looking = λ t below is a. by t below a (before t is);
@@ -242,8 +195,8 @@ known_as {L} gives takes many later_many listed looks later later_looks seats ma
     by t below a (inr is) = is a
 
     at : (t : ℕ) → t < length seats → (a : Attendant L)
-        → IsKnown (listed t) (looks t) (times t []) (IsStill gives takes (slice_index_or seats t a) (slice_index_or mails t []))
-        → IsKnown (later t) (later_looks t) (times t []) (IsStill gives takes (slice_index_or seats t a) (slice_index_or mails t []))
+        → IsKnown (listed t) (looks t) (times t []) (IsStill line (slice_index_or seats t a) (slice_index_or mails t []))
+        → IsKnown (later t) (later_looks t) (times t []) (IsStill line (slice_index_or seats t a) (slice_index_or mails t []))
     at t below a (inl is) = elim (acts t below is) [
       | inl on ↦ inl on
       | inr (inl on) ↦ inr (inl on)
@@ -256,12 +209,12 @@ known_as {L} gives takes many later_many listed looks later later_looks seats ma
     at t below a (inr (inr (inl waits))) = absurd (omega (arith, waits))
     at t below a (inr (inr (inr still))) = inr (inr (inr still))
 
-module _ {L : Type 0} (gives takes : L → Bool) (seats : List (Attendant L)) (mails : List (List Answer)) where
+module _ {L : Type 0} (line : Line L) (seats : List (Attendant L)) (mails : List (List Answer)) where
   -- The first seat of the queue is visited.
   pub known_taken : (l later : Listing) (i : ℕ) → later.seats ≡ l.seats → l.queue ≡ i ∷ later.queue → later.free ≡ l.free
-      → AreKnownTo gives takes l None seats mails → AreKnownTo gives takes later (Some i) seats mails
+      → AreKnownTo line l None seats mails → AreKnownTo line later (Some i) seats mails
   known_taken l later i same_seats first free k =
-      known_as gives takes l.seats later.seats (is_listed l None) (is_looking l) (is_listed later (Some i)) (is_looking later) seats
+      known_as line l.seats later.seats (is_listed l None) (is_looking l) (is_listed later (Some i)) (is_looking later) seats
       mails same_seats
       (λ t looks on. k.apart t (subst (λ f. is_on f t ≡ true) free looks)
       (or_left (is_on l.queue t) false (subst (λ q. is_on q t ≡ true) (sym first) (on_cons_back i later.queue t on))))
@@ -269,17 +222,13 @@ module _ {L : Type 0} (gives takes : L → Bool) (seats : List (Attendant L)) (m
       (λ t below on. inl (on_cons i later.queue t (subst (λ q. is_on q t ≡ true) first (left_only (is_on l.queue t) on))))
       (λ t below looks. inr (subst (λ f. is_on f t ≡ true) (sym free) looks))
       k
-    where
-      left_only : (b : Bool) → (b || false) ≡ true → b ≡ true
-      left_only true e = refl
-      left_only false e = absurd cc
 
   -- A seat of the queue is visited, and stays in the queue.
   pub known_at : (l later : Listing) (i : ℕ) → later.seats ≡ l.seats → is_on l.queue i ≡ true → later.queue ≡ l.queue
       → later.free ≡ l.free
-      → AreKnownTo gives takes l None seats mails → AreKnownTo gives takes later (Some i) seats mails
+      → AreKnownTo line l None seats mails → AreKnownTo line later (Some i) seats mails
   known_at l later i same_seats there queue free k =
-      known_as gives takes l.seats later.seats (is_listed l None) (is_looking l) (is_listed later (Some i)) (is_looking later) seats
+      known_as line l.seats later.seats (is_listed l None) (is_looking l) (is_listed later (Some i)) (is_looking later) seats
       mails same_seats
       (λ t looks on. k.apart t (subst (λ f. is_on f t ≡ true) free looks) (or_left (is_on l.queue t) false (at t (either _ _ on))))
       (λ t looks. inl (subst (λ f. is_on f t ≡ true) free looks))
@@ -288,20 +237,16 @@ module _ {L : Type 0} (gives takes : L → Bool) (seats : List (Attendant L)) (m
       (λ t below looks. inr (subst (λ f. is_on f t ≡ true) (sym free) looks))
       k
     where
-      left_only : (b : Bool) → (b || false) ≡ true → b ≡ true
-      left_only true e = refl
-      left_only false e = absurd cc
-
       at : (t : ℕ) → (is_on later.queue t ≡ true) ⊎ ((i == t) ≡ true) → is_on l.queue t ≡ true
       at t (inl on) = subst (λ q. is_on q t ≡ true) queue on
-      at t (inr same) = subst (λ n. is_on l.queue n ≡ true) (same_is i t same) there
+      at t (inr same) = subst (λ n. is_on l.queue n ≡ true) (eqb-true i t same) there
 
   -- A seat that checks for a client is taken out, as the one that is visited.
   pub known_checks : (l later : Listing) (i : ℕ) → later.seats ≡ l.seats → l.free ≡ later.free ++ i ∷ []
       → times i later.free ≡ 0 → later.queue ≡ l.queue
-      → AreKnownTo gives takes l None seats mails → AreKnownTo gives takes later (Some i) seats mails
+      → AreKnownTo line l None seats mails → AreKnownTo line later (Some i) seats mails
   known_checks l later i same_seats last gone queue k =
-      known_as gives takes l.seats later.seats (is_listed l None) (is_looking l) (is_listed later (Some i)) (is_looking later) seats
+      known_as line l.seats later.seats (is_listed l None) (is_looking l) (is_listed later (Some i)) (is_looking later) seats
       mails same_seats
       (λ t looks on. apart t looks (either _ _ on))
       (λ t looks. inl (more t looks))
@@ -310,10 +255,6 @@ module _ {L : Type 0} (gives takes : L → Bool) (seats : List (Attendant L)) (m
       (λ t below looks. less t looks (eqb_tells i t))
       k
     where
-      left_only : (b : Bool) → (b || false) ≡ true → b ≡ true
-      left_only true e = refl
-      left_only false e = absurd cc
-
       more : (t : ℕ) → is_on later.free t ≡ true → is_on l.free t ≡ true
       more t on = some_on l.free t (subst (λ f. 0 < times t f) (sym last) (omega (
         arith,
@@ -324,7 +265,7 @@ module _ {L : Type 0} (gives takes : L → Bool) (seats : List (Attendant L)) (m
 
       apart : (t : ℕ) → is_on later.free t ≡ true → (is_on later.queue t ≡ true) ⊎ ((i == t) ≡ true) → ⊥
       apart t looks (inl on) = k.apart t (more t looks) (or_left (is_on l.queue t) false (subst (λ q. is_on q t ≡ true) queue on))
-      apart t looks (inr same) = on_none later.free t (subst (λ n. times n later.free ≡ 0) (same_is i t same) gone) looks
+      apart t looks (inr same) = on_none later.free t (subst (λ n. times n later.free ≡ 0) (eqb-true i t same) gone) looks
 
       less : (t : ℕ) → is_on l.free t ≡ true → ((i == t) ≡ true) × (i ≡ t) ⊎ ((i == t) ≡ false) × (i ≢ t)
           → (is_listed later (Some i) t ≡ true) ⊎ (is_on later.free t ≡ true)
@@ -336,16 +277,16 @@ module _ {L : Type 0} (gives takes : L → Bool) (seats : List (Attendant L)) (m
 
   -- The next seat is visited.
   pub known_next : (l later : Listing) (i : ℕ) → IsTaken i l later
-      → AreKnownTo gives takes l None seats mails → AreKnownTo gives takes later (Some i) seats mails
+      → AreKnownTo line l None seats mails → AreKnownTo line later (Some i) seats mails
   known_next l later i is k = elim is.queue [
     | inl first ↦ known_taken l later i is.seats first is.free k
     | inr stays ↦ known_at l later i is.seats stays.0 stays.1 is.free k
   ]
 
   pub known_same : (l later : Listing) (visited : Option ℕ) → AreSameLists l later
-      → AreKnownTo gives takes l visited seats mails → AreKnownTo gives takes later visited seats mails
+      → AreKnownTo line l visited seats mails → AreKnownTo line later visited seats mails
   known_same l later visited same k =
-      known_as gives takes l.seats later.seats (is_listed l visited) (is_looking l) (is_listed later visited) (is_looking later) seats mails
+      known_as line l.seats later.seats (is_listed l visited) (is_looking l) (is_listed later visited) (is_looking later) seats mails
       same.seats
       (λ t looks on. k.apart t (subst (λ f. is_on f t ≡ true) same.free looks)
       (subst (λ q. (is_on q t || is_visited visited t) ≡ true) same.queue on))
@@ -357,9 +298,9 @@ module _ {L : Type 0} (gives takes : L → Bool) (seats : List (Attendant L)) (m
   -- Seats changed places in the queue.
   pub known_moved : (l later : Listing) → later.seats ≡ l.seats → later.free ≡ l.free
       → ((t : ℕ) → times t later.queue ≡ times t l.queue)
-      → AreKnownTo gives takes l None seats mails → AreKnownTo gives takes later None seats mails
+      → AreKnownTo line l None seats mails → AreKnownTo line later None seats mails
   known_moved l later same free moved k =
-      known_as gives takes l.seats later.seats (is_listed l None) (is_looking l) (is_listed later None) (is_looking later) seats mails
+      known_as line l.seats later.seats (is_listed l None) (is_looking l) (is_listed later None) (is_looking later) seats mails
       same
       (λ t looks on. k.apart t (subst (λ f. is_on f t ≡ true) free looks)
       (subst (λ n. (not (n == 0) || false) ≡ true) (moved t) on))
@@ -370,118 +311,100 @@ module _ {L : Type 0} (gives takes : L → Bool) (seats : List (Attendant L)) (m
 
   -- The visited seat goes to the queue.
   pub known_enqueued : (l : Listing) (i : ℕ)
-      → AreKnownTo gives takes l (Some i) seats mails → AreKnownTo gives takes (enqueued i l) None seats mails
+      → AreKnownTo line l (Some i) seats mails → AreKnownTo line (enqueued i l) None seats mails
   known_enqueued l i k =
-      known_as gives takes l.seats later.seats (is_listed l (Some i)) (is_looking l) (is_listed later None) (is_looking later) seats mails
-      same_seats
-      (λ t looks on. k.apart t (subst (λ f. is_on f t ≡ true) (enqueued_free i l) looks) (before t (enqueued_only i l t (left_only _ on))))
-      (λ t looks. inl (subst (λ f. is_on f t ≡ true) (enqueued_free i l) looks))
-      (λ t below on. inl (or_left (is_on later.queue t) false (after t below (either _ _ on))))
-      (λ t below looks. inr (subst (λ f. is_on f t ≡ true) (sym (enqueued_free i l)) looks))
-      k
+      subst (λ (z : Listing). AreKnownTo line z None seats mails) (sym (enqueued_is lost i l))
+      (known_as line l.seats l.seats (is_listed l (Some i)) (is_looking l)
+      (is_listed (record l { queue = put lost i l.queue }) None) (is_looking l) seats mails refl
+      (λ t looks on. k.apart t looks (before t (put_only lost i l.queue t (left_only _ on))))
+      (λ t looks. inl looks)
+      (λ t below on. inl (or_left (is_on (put lost i l.queue) t) false (after t below (either _ _ on))))
+      (λ t below looks. inr looks)
+      k)
     where
-      later : Listing
-      later = enqueued i l
+      lost : Bool
+      lost = is_nowhere i l
 
-      same_seats : later.seats ≡ l.seats
-      same_seats = enqueued_seats i l
-
-      left_only : (b : Bool) → (b || false) ≡ true → b ≡ true
-      left_only true e = refl
-      left_only false e = absurd cc
-
-      before : (t : ℕ) → (is_on l.queue t ≡ true) ⊎ ((i ≡ t) × (times i l.free ≡ 0)) → is_listed l (Some i) t ≡ true
+      before : (t : ℕ) → (is_on l.queue t ≡ true) ⊎ ((lost ≡ true) × (i ≡ t)) → is_listed l (Some i) t ≡ true
       before t (inl on) = or_left (is_on l.queue t) (i == t) on
-      before t (inr (same, _)) = or_right (is_on l.queue t) (i == t) (is_same i t same)
+      before t (inr (_, same)) = or_right (is_on l.queue t) (i == t) (eq-eqb i t same)
 
-      after : (t : ℕ) → t < length seats → (is_on l.queue t ≡ true) ⊎ ((i == t) ≡ true) → is_on later.queue t ≡ true
-      after t below (inl on) = enqueued_keeps i l t on
+      after : (t : ℕ) → t < length seats → (is_on l.queue t ≡ true) ⊎ ((i == t) ≡ true) → is_on (put lost i l.queue) t ≡ true
+      after t below (inl on) = put_keeps lost i l.queue t on
       after t below (inr same) =
-          let is : i ≡ t = same_is i t same in
-          subst (λ n. is_on later.queue n ≡ true) is
-          (enqueued_lists i l (omega (arith, below, k.all, is)) (λ looks. k.apart i looks (or_right (is_on l.queue i) (i == i) (is_same
-          i i refl))))
+          let is : i ≡ t = eqb-true i t same in
+          let none = free_none i l (λ looks. k.apart i looks (or_right (is_on l.queue i) (i == i) (eq-eqb i i refl))) in
+          subst (λ n. is_on (put lost i l.queue) n ≡ true) is
+          (put_there lost i l.queue (λ e. omega (arith, somewhere i l (omega (arith, below, k.all, is)) e, none)))
 
   -- The visited seat found no client, and is between two connections.
   pub known_freed : (l : Listing) (i : ℕ) → ((a : Attendant L) → (slice_index_or seats i a).place ≡ places.Between)
-      → AreKnownTo gives takes l (Some i) seats mails → AreKnownTo gives takes (freed i l) None seats mails
+      → AreKnownTo line l (Some i) seats mails → AreKnownTo line (freed i l) None seats mails
   known_freed l i between k =
-      known_as gives takes l.seats later.seats (is_listed l (Some i)) (is_looking l) (is_listed later None) (is_looking later) seats mails
-      same_seats
-      (λ t looks on. apart t (subst (λ q. is_on q t ≡ true) same_queue (left_only _ on)) (freed_only_if (is_nowhere i l) i l t looks))
-      (λ t looks. looked t (freed_only_if (is_nowhere i l) i l t looks))
+      subst (λ (z : Listing). AreKnownTo line z None seats mails) (sym (freed_is lost i l))
+      (known_as line l.seats l.seats (is_listed l (Some i)) (is_looking l) (is_listed l None)
+      (is_looking (record l { free = put lost i l.free })) seats mails refl
+      (λ t looks on. apart t (left_only _ on) (put_only lost i l.free t looks))
+      (λ t looks. looked t (put_only lost i l.free t looks))
       (λ t below on. after t below (either _ _ on))
-      (λ t below looks. inr (freed_keeps_if (is_nowhere i l) i l t looks))
-      k
+      (λ t below looks. inr (put_keeps lost i l.free t looks))
+      k)
     where
-      later : Listing
-      later = freed i l
+      lost : Bool
+      lost = is_nowhere i l
 
-      same_seats : later.seats ≡ l.seats
-      same_seats = freed_seats_if (is_nowhere i l) i l
-
-      same_queue : later.queue ≡ l.queue
-      same_queue = freed_queue_if (is_nowhere i l) i l
-
-      left_only : (b : Bool) → (b || false) ≡ true → b ≡ true
-      left_only true e = refl
-      left_only false e = absurd cc
-
-      apart : (t : ℕ) → is_on l.queue t ≡ true → (is_on l.free t ≡ true) ⊎ ((is_nowhere i l ≡ true) × (i ≡ t)) → ⊥
+      apart : (t : ℕ) → is_on l.queue t ≡ true → (is_on l.free t ≡ true) ⊎ ((lost ≡ true) × (i ≡ t)) → ⊥
       apart t on (inl looks) = k.apart t looks (or_left (is_on l.queue t) (i == t) on)
-      apart t on (inr (lost, same)) =
+      apart t on (inr (nowhere, same)) =
           let there : 0 < times i l.queue = subst (λ n. 0 < times n l.queue) (sym same) (on_some l.queue t on) in
-          omega (arith, nowhere_none i l lost, there)
+          omega (arith, nowhere_none i l nowhere, there)
 
-      looked : (t : ℕ) → (is_on l.free t ≡ true) ⊎ ((is_nowhere i l ≡ true) × (i ≡ t))
+      looked : (t : ℕ) → (is_on l.free t ≡ true) ⊎ ((lost ≡ true) × (i ≡ t))
           → (is_looking l t ≡ true) ⊎ ((a : Attendant L) → (slice_index_or seats t a).place ≡ places.Between)
       looked t (inl looks) = inl looks
       looked t (inr (_, same)) = inr (λ a. subst (λ n. (slice_index_or seats n a).place ≡ places.Between) same (between a))
 
-      there : (t : ℕ) → i ≡ t → (is_on l.queue i ≡ true) ⊎ (is_on later.free i ≡ true)
-          → (is_listed later None t ≡ true) ⊎ (is_looking later t ≡ true)
-          ⊎ ((a : Attendant L) → IsStill gives takes (slice_index_or seats t a) (slice_index_or mails t []))
-      there t is (inl on) =
-          inl (or_left (is_on later.queue t) false (subst (λ q. is_on q t ≡ true) (sym same_queue) (subst (λ n. is_on l.queue n ≡ true)
-          is on)))
-      there t is (inr on) = inr (inl (subst (λ n. is_on later.free n ≡ true) is on))
+      there : (t : ℕ) → i ≡ t → ((times i l.queue == 0) ≡ true) × (times i l.queue ≡ 0)
+          ⊎ ((times i l.queue == 0) ≡ false) × (times i l.queue ≢ 0) → (lost ≡ false → 0 < times i l.queue + times i l.free)
+          → (is_listed l None t ≡ true) ⊎ (is_on (put lost i l.free) t ≡ true)
+          ⊎ ((a : Attendant L) → IsStill line (slice_index_or seats t a) (slice_index_or mails t []))
+      there t is (inl (_, none)) some =
+          inr (inl (subst (λ n. is_on (put lost i l.free) n ≡ true) is (put_there lost i l.free (λ e. omega (arith, some e, none)))))
+      there t is (inr (_, differs)) some =
+          inl (or_left (is_on l.queue t) false (subst (λ n. is_on l.queue n ≡ true) is (some_on l.queue i (omega (arith, differs)))))
 
       after : (t : ℕ) → t < length seats → (is_on l.queue t ≡ true) ⊎ ((i == t) ≡ true)
-          → (is_listed later None t ≡ true) ⊎ (is_looking later t ≡ true)
-          ⊎ ((a : Attendant L) → IsStill gives takes (slice_index_or seats t a) (slice_index_or mails t []))
-      after t below (inl on) = inl (or_left (is_on later.queue t) false (subst (λ q. is_on q t ≡ true) (sym same_queue) on))
+          → (is_listed l None t ≡ true) ⊎ (is_on (put lost i l.free) t ≡ true)
+          ⊎ ((a : Attendant L) → IsStill line (slice_index_or seats t a) (slice_index_or mails t []))
+      after t below (inl on) = inl (or_left (is_on l.queue t) false on)
       after t below (inr same) =
-          let is : i ≡ t = same_is i t same in
-          there t is (freed_lists_if (is_nowhere i l) i l (λ e. somewhere i l (omega (arith, below, k.all, is)) e))
+          let is : i ≡ t = eqb-true i t same in
+          there t is (eqb_tells (times i l.queue) 0) (λ e. somewhere i l (omega (arith, below, k.all, is)) e)
 
   -- Nothing moves at the visited seat.
   pub known_rests : (l : Listing) (i : ℕ)
-      → ((a : Attendant L) → IsStill gives takes (slice_index_or seats i a) (slice_index_or mails i []))
-      → AreKnownTo gives takes l (Some i) seats mails → AreKnownTo gives takes l None seats mails
+      → ((a : Attendant L) → IsStill line (slice_index_or seats i a) (slice_index_or mails i []))
+      → AreKnownTo line l (Some i) seats mails → AreKnownTo line l None seats mails
   known_rests l i still k =
-      known_as gives takes l.seats l.seats (is_listed l (Some i)) (is_looking l) (is_listed l None) (is_looking l) seats mails refl
+      known_as line l.seats l.seats (is_listed l (Some i)) (is_looking l) (is_listed l None) (is_looking l) seats mails refl
       (λ t looks on. k.apart t looks (or_left (is_on l.queue t) (i == t) (left_only _ on)))
       (λ t looks. inl looks)
       (λ t below on. after t (either _ _ on))
       (λ t below looks. inr looks)
       k
     where
-      left_only : (b : Bool) → (b || false) ≡ true → b ≡ true
-      left_only true e = refl
-      left_only false e = absurd cc
-
       after : (t : ℕ) → (is_on l.queue t ≡ true) ⊎ ((i == t) ≡ true) → (is_listed l None t ≡ true) ⊎ (is_looking l t ≡ true)
-          ⊎ ((a : Attendant L) → IsStill gives takes (slice_index_or seats t a) (slice_index_or mails t []))
+          ⊎ ((a : Attendant L) → IsStill line (slice_index_or seats t a) (slice_index_or mails t []))
       after t (inl on) = inl (or_left (is_on l.queue t) false on)
       after t (inr same) =
-          inr (inr (λ a. subst (λ n. IsStill gives takes (slice_index_or seats n a) (slice_index_or mails n [])) (same_is i t same)
+          inr (inr (λ a. subst (λ n. IsStill line (slice_index_or seats n a) (slice_index_or mails n [])) (eqb-true i t same)
           (still a)))
 
-module _ {L : Type 0} (gives takes : L → Bool) where
+module _ {L : Type 0} (line : Line L) where
   -- A seat that the turns let act was changed.
   pub known_changed : (many : ℕ) (listed looks : ℕ → Bool) (woken : List ℕ) (i : ℕ) (seats later : List (Attendant L))
       (mails : List (List Answer)) → listed i ≡ true → ChangesOnly i seats later
-      → AreKnown gives takes many listed looks woken seats mails → AreKnown gives takes many listed looks woken later mails
+      → AreKnown line many listed looks woken seats mails → AreKnown line many listed looks woken later mails
   known_changed many listed looks woken i seats later mails acts only k = record {
     all = omega (arith, only.many, k.all);
     apart = k.apart;
@@ -495,10 +418,10 @@ module _ {L : Type 0} (gives takes : L → Bool) where
       place t below is a (inr (_, differs)) = ap (λ z. z.place) (only.others t differs a) ∙ k.looking t below is a
 
       known : (t : ℕ) → t < length seats → (a : Attendant L) → ((t == i) ≡ true) × (t ≡ i) ⊎ ((t == i) ≡ false) × (t ≢ i)
-          → IsKnown (listed t) (looks t) (times t woken) (IsStill gives takes (slice_index_or later t a) (slice_index_or mails t []))
+          → IsKnown (listed t) (looks t) (times t woken) (IsStill line (slice_index_or later t a) (slice_index_or mails t []))
       known t below a (inl (_, same)) = inl (subst (λ n. listed n ≡ true) (sym same) acts)
       known t below a (inr (_, differs)) =
-          subst (λ z. IsKnown (listed t) (looks t) (times t woken) (IsStill gives takes z (slice_index_or mails t [])))
+          subst (λ z. IsKnown (listed t) (looks t) (times t woken) (IsStill line z (slice_index_or mails t [])))
           (sym (only.others t differs a)) (k.known t below a)
 
 -- A seat at a place of the queue is on it.
@@ -506,7 +429,7 @@ got_on : (xs : List ℕ) (n i : ℕ) → Some i ≡ slice_get xs n → is_on xs 
 got_on [] n i is = absurd cc
 got_on (x ∷ xs) zero i is =
     let same : i ≡ x = some_is i x is in
-    let one : one_if (x == i) ≡ 1 = ap one_if (is_same x i (sym same)) in
+    let one : one_if (x == i) ≡ 1 = ap one_if (eq-eqb x i (sym same)) in
     some_on (x ∷ xs) i (omega (arith, sum_by-cons (λ y. one_if (y == i)) x xs, one))
   where
     some_is : (a b : ℕ) → Some a ≡ Some b → a ≡ b
@@ -553,7 +476,7 @@ pub idle_visits : (may_come : Bool) (l : Listing) (visited : Option ℕ) → Are
     → visited ≡ None
 idle_visits may_come l None idle = refl
 idle_visits may_come l (Some i) idle =
-    let e : true ≡ false = sym (is_same i i refl) ∙ right_none (is_on l.queue i) (i == i) (idle.acts i) in
+    let e : true ≡ false = sym (eq-eqb i i refl) ∙ right_none (is_on l.queue i) (i == i) (idle.acts i) in
     absurd cc
 
 pub idle_queue : (may_come : Bool) (l : Listing) (visited : Option ℕ) → AreIdle may_come (is_listed l visited) (is_looking l)
@@ -565,14 +488,14 @@ pub idle_free : (may_come : Bool) (l : Listing) (visited : Option ℕ) → may_c
 idle_free may_come l visited may idle = none_on l.free (idle.checks may)
 
 pub listed_self : (l : Listing) (i : ℕ) → is_listed l (Some i) i ≡ true
-listed_self l i = or_right (is_on l.queue i) (i == i) (is_same i i refl)
+listed_self l i = or_right (is_on l.queue i) (i == i) (eq-eqb i i refl)
 
-module _ {L : Type 0} (gives takes : L → Bool) where
+module _ {L : Type 0} (line : Line L) where
   -- The visited seat was changed.
   pub known_acted : (l : Listing) (i : ℕ) (seats later : List (Attendant L)) (mails : List (List Answer)) → ChangesOnly i seats later
-      → AreKnownTo gives takes l (Some i) seats mails → AreKnownTo gives takes l (Some i) later mails
+      → AreKnownTo line l (Some i) seats mails → AreKnownTo line l (Some i) later mails
   known_acted l i seats later mails only k =
-      known_changed gives takes l.seats (is_listed l (Some i)) (is_looking l) [] i seats later mails (listed_self l i) only k
+      known_changed line l.seats (is_listed l (Some i)) (is_looking l) [] i seats later mails (listed_self l i) only k
 
 -- Seats that all check for a client are known.
 pub all_known : (seats : ℕ) (l : Listing) → l ≡ all_free seats → KnowsAll seats l.seats (is_listed l None) (is_looking l)
@@ -583,10 +506,10 @@ all_known seats l is = subst (λ z. KnowsAll seats z.seats (is_listed z None) (i
 })
 
 -- New seats are known by turns that know all seats.
-pub known_at_first : {L : Type 0} (gives takes : L → Bool) (many seats : ℕ) (listed looks : ℕ → Bool) (all : List (Attendant L))
+pub known_at_first : {L : Type 0} (line : Line L) (many seats : ℕ) (listed looks : ℕ → Bool) (all : List (Attendant L))
     (mails : List (List Answer)) (size : ℕ) → length all ≡ seats → KnowsAll seats many listed looks → All (IsNewSeat size) all
-    → AreKnown gives takes many listed looks [] all mails
-known_at_first gives takes many seats listed looks all mails size same knows new = record {
+    → AreKnown line many listed looks [] all mails
+known_at_first line many seats listed looks all mails size same knows new = record {
   all = omega (arith, same, knows.all);
   apart = knows.apart;
   looking = λ t below is a. let n = new t a below in n.place;
@@ -597,9 +520,9 @@ known_at_first gives takes many seats listed looks all mails size same knows new
 }
 
 -- The core of a loop moved on, while no seat was changed: each seat that got mail is to be woken.
-module _ {L : Type 0} (gives takes : L → Bool) (many : ℕ) (listed looks : ℕ → Bool) (seats : List (Attendant L)) where
+module _ {L : Type 0} (line : Line L) (many : ℕ) (listed looks : ℕ → Bool) (seats : List (Attendant L)) where
   still_or_woken : (a : Attendant L) (mail later : List Answer) (waits : ℕ) → (mail ≡ [] → (later ≡ []) ⊎ (0 < waits))
-      → IsStill gives takes a mail → (0 < waits) ⊎ IsStill gives takes a later
+      → IsStill line a mail → (0 < waits) ⊎ IsStill line a later
   still_or_woken a mail later waits got still = at a.place still where
     none : mail ≡ [] → (0 < waits) ⊎ (later ≡ [])
     none e = elim (got e) [
@@ -607,32 +530,32 @@ module _ {L : Type 0} (gives takes : L → Bool) (many : ℕ) (listed looks : �
       | inr woken ↦ inl woken
     ]
 
-    on : (action : Action) (line : L) → IsStillOn action a.machine (gives line) (takes line) mail
-        → (0 < waits) ⊎ IsStillOn action a.machine (gives line) (takes line) later
-    on actions.Read line s = elim s.1 [
+    on : (action : Action) (it : L) → IsStillOn action a.machine (line.may_give it) (line.may_take it) mail
+        → (0 < waits) ⊎ IsStillOn action a.machine (line.may_give it) (line.may_take it) later
+    on actions.Read it s = elim s.1 [
       | inl empty ↦ elim (none empty) [
         | inl woken ↦ inl woken
         | inr e ↦ inr (s.0, inl e)
       ]
       | inr reads ↦ inr (s.0, inr reads)
     ]
-    on actions.PollMail line s = elim (none s.0) [
+    on actions.PollMail it s = elim (none s.0) [
       | inl woken ↦ inl woken
       | inr e ↦ inr (e, s.1)
     ]
-    on (actions.Write answer) line s = inr s
-    on (actions.Submit step) line s = absurd s
-    on (actions.LineOver end) line s = absurd s
-    on actions.Stray line s = absurd s
+    on (actions.Write answer) it s = inr s
+    on (actions.Submit step) it s = absurd s
+    on (actions.LineOver end) it s = absurd s
+    on actions.Stray it s = absurd s
 
-    at : (place : LinePlace L) → IsStillAt gives takes a.machine place mail → (0 < waits) ⊎ IsStillAt gives takes a.machine place later
-    at (places.On line action sent) s = on action line s
+    at : (place : LinePlace L) → IsStillAt line a.machine place mail → (0 < waits) ⊎ IsStillAt line a.machine place later
+    at (places.On it action sent) s = on action it s
     at places.Done s = inr s
     at places.Between s = absurd s
     at places.Leaving s = absurd s
 
   pub known_woken : (mails later : List (List Answer)) (old new : WakeList) → length seats ≤ old.seats → Wakes mails later old new
-      → AreKnown gives takes many listed looks old.waiting seats mails → AreKnown gives takes many listed looks new.waiting seats later
+      → AreKnown line many listed looks old.waiting seats mails → AreKnown line many listed looks new.waiting seats later
   known_woken mails later old new within wakes k = record {
     all = k.all;
     apart = k.apart;
@@ -641,8 +564,8 @@ module _ {L : Type 0} (gives takes : L → Bool) (many : ℕ) (listed looks : �
   }
     where
       at : (t : ℕ) → t < length seats → (a : Attendant L)
-          → IsKnown (listed t) (looks t) (times t old.waiting) (IsStill gives takes (slice_index_or seats t a) (slice_index_or mails t []))
-          → IsKnown (listed t) (looks t) (times t new.waiting) (IsStill gives takes (slice_index_or seats t a) (slice_index_or later t []))
+          → IsKnown (listed t) (looks t) (times t old.waiting) (IsStill line (slice_index_or seats t a) (slice_index_or mails t []))
+          → IsKnown (listed t) (looks t) (times t new.waiting) (IsStill line (slice_index_or seats t a) (slice_index_or later t []))
       at t below a (inl acts) = inl acts
       at t below a (inr (inl checks)) = inr (inl checks)
       at t below a (inr (inr (inl waits))) = inr (inr (inl (omega (arith, waits, wakes.kept t))))
@@ -651,12 +574,12 @@ module _ {L : Type 0} (gives takes : L → Bool) (many : ℕ) (listed looks : �
           (wakes.mail t (omega (arith, below, within))) still))
 
 -- The first seat that is to be woken was reported to the turns.
-pub known_told : {L : Type 0} (gives takes : L → Bool) (many later_many : ℕ) (listed looks later later_looks : ℕ → Bool) (i : ℕ)
+pub known_told : {L : Type 0} (line : Line L) (many later_many : ℕ) (listed looks later later_looks : ℕ → Bool) (i : ℕ)
     (woken : List ℕ) (seats : List (Attendant L)) (mails : List (List Answer))
     → later_many ≡ many → (i < many → (looks i ≡ true → ⊥) → later i ≡ true) → KeepsAll listed later
     → ((t : ℕ) → later_looks t ≡ looks t) → (AreApart listed looks → AreApart later later_looks)
-    → AreKnown gives takes many listed looks (i ∷ woken) seats mails → AreKnown gives takes later_many later later_looks woken seats mails
-known_told {L} gives takes many later_many listed looks later later_looks i woken seats mails same told keeps checks apart k = record {
+    → AreKnown line many listed looks (i ∷ woken) seats mails → AreKnown line later_many later later_looks woken seats mails
+known_told {L} line many later_many listed looks later later_looks i woken seats mails same told keeps checks apart k = record {
   all = omega (arith, same, k.all);
   apart = apart k.apart;
   looking = λ t below is a. k.looking t below (sym (checks t) ∙ is) a;
@@ -664,15 +587,15 @@ known_told {L} gives takes many later_many listed looks later later_looks i woke
 }
   where
     mine : (t : ℕ) → t < length seats → (a : Attendant L) → i ≡ t → (looks t ≡ true) ⊎ (looks t ≡ false)
-        → IsKnown (later t) (later_looks t) (times t woken) (IsStill gives takes (slice_index_or seats t a) (slice_index_or mails t []))
+        → IsKnown (later t) (later_looks t) (times t woken) (IsStill line (slice_index_or seats t a) (slice_index_or mails t []))
     mine t below a is (inl looking) = inr (inl (checks t ∙ looking))
     mine t below a is (inr nor) =
         inl (subst (λ n. later n ≡ true) is (told (omega (arith, below, k.all, is))
         (λ e. let f : true ≡ false = sym e ∙ ap looks is ∙ nor in absurd cc)))
 
     at : (t : ℕ) → t < length seats → (a : Attendant L)
-        → IsKnown (listed t) (looks t) (times t (i ∷ woken)) (IsStill gives takes (slice_index_or seats t a) (slice_index_or mails t []))
-        → IsKnown (later t) (later_looks t) (times t woken) (IsStill gives takes (slice_index_or seats t a) (slice_index_or mails t []))
+        → IsKnown (listed t) (looks t) (times t (i ∷ woken)) (IsStill line (slice_index_or seats t a) (slice_index_or mails t []))
+        → IsKnown (later t) (later_looks t) (times t woken) (IsStill line (slice_index_or seats t a) (slice_index_or mails t []))
     at t below a (inl acts) = inl (keeps t acts)
     at t below a (inr (inl looking)) = inr (inl (checks t ∙ looking))
     at t below a (inr (inr (inl waits))) = elim (eqb_tells i t) [
@@ -692,32 +615,21 @@ all_checked l later rest taken = record {
 }
 
 -- A turn was taken. Each seat that got mail is to be woken.
-module _ {L : Type 0} (gives takes : L → Bool) (many : ℕ) (listed looks : ℕ → Bool) where
+module _ {L : Type 0} (line : Line L) (many : ℕ) (listed looks : ℕ → Bool) where
   known_turned : (turn : Turn) (woken : List ℕ) (seats later : List (Attendant L)) (mails : List (List Answer))
       → IsListedIn listed turn → ChangesOnlyIn turn seats later
-      → AreKnown gives takes many listed looks woken seats mails → AreKnown gives takes many listed looks woken later mails
-  known_turned (turns.Serve i extent) woken seats later mails acts only k = known_changed gives takes many listed looks woken i seats later
+      → AreKnown line many listed looks woken seats mails → AreKnown line many listed looks woken later mails
+  known_turned (turns.Serve i extent) woken seats later mails acts only k = known_changed line many listed looks woken i seats later
       mails acts only k
-  known_turned turns.Nothing woken seats later mails acts only k = subst (λ z. AreKnown gives takes many listed looks woken z mails)
-      (sym only) k
-  known_turned (turns.Look i) woken seats later mails acts only k = subst (λ z. AreKnown gives takes many listed looks woken z mails)
-      (sym only) k
-  known_turned (turns.HandOn i) woken seats later mails acts only k = subst (λ z. AreKnown gives takes many listed looks woken z mails)
-      (sym only) k
-  known_turned turns.TurnAway woken seats later mails acts only k = subst (λ z. AreKnown gives takes many listed looks woken z mails)
-      (sym only) k
-  known_turned (turns.Control reads) woken seats later mails acts only k = subst (λ z. AreKnown gives takes many listed looks woken z
-      mails) (sym only) k
-  known_turned turns.Time woken seats later mails acts only k = subst (λ z. AreKnown gives takes many listed looks woken z mails) (sym
-      only) k
+  known_turned _ woken seats later mails acts only k = subst (λ z. AreKnown line many listed looks woken z mails) (sym only) k
 
   pub known_after : (turn : Turn) (seats later : List (Attendant L)) (mails after : List (List Answer)) (old new : WakeList)
       → old ≡ none_waits (length mails) → length later ≤ length mails → Wakes mails after old new
       → IsListedIn listed turn → ChangesOnlyIn turn seats later
-      → AreKnown gives takes many listed looks [] seats mails → AreKnown gives takes many listed looks new.waiting later after
+      → AreKnown line many listed looks [] seats mails → AreKnown line many listed looks new.waiting later after
   known_after turn seats later mails after old new none within wakes acts only k =
-      known_woken gives takes many listed looks later mails after old new (let e = ap (λ w. w.seats) none in omega (arith, within, e)) wakes
-      (subst (λ xs. AreKnown gives takes many listed looks xs later mails) (sym (ap (λ w. w.waiting) none))
+      known_woken line many listed looks later mails after old new (let e = ap (λ w. w.seats) none in omega (arith, within, e)) wakes
+      (subst (λ xs. AreKnown line many listed looks xs later mails) (sym (ap (λ w. w.waiting) none))
       (known_turned turn [] seats later mails acts only k))
 
 -- The turn of a visit is one of a seat that is let act.

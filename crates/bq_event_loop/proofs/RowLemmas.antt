@@ -11,7 +11,9 @@ use Rattle.bq_job.specs.promise.LineSteps.{LineSeen}
 use Rattle.bq_line.specs.Tending.{AreSame, DoorSeen, IsCounted, IsNewDoor, IsNewSeat, IsPlaced, IsTended, Tends}
 use Rattle.bq_line.specs.declared.attendant.Attendant.{Attendant}
 use Rattle.bq_line.proofs.TendingLemmas.{tended_new, tends_still}
+use Rattle.bq_event_loop.specs.Meanings.{Door, Line, at}
 use Rattle.bq_event_loop.specs.Rows.{AllRested, AllTended, IsSomehowTended}
+use Rattle.bq_event_loop.specs.declared.row.Row.{Row}
 
 -- A seat rested, and rested again.
 tends_then : {L : Type 0} (seen : L → LineSeen) (a b c : Attendant L) (at_a at_b at_c : DoorSeen) → Tends seen a at_a [] [] b at_b
@@ -26,9 +28,9 @@ tends_then seen a b c at_a at_b at_c h k size before got t =
       record { grows = omega arith; unclosed = λ p. refl },
     )
 
-pub somehow_on : {L : Type 0} (seen : L → LineSeen) (a b : Attendant L) (at_a at_b : DoorSeen) (submitted : List Step) (taken : List Answer)
-    → Tends seen a at_a submitted taken b at_b → IsSomehowTended seen a at_a → IsSomehowTended seen b at_b
-somehow_on seen a b at_a at_b submitted taken h t =
+somehow_on : {L : Type 0} (l : Line L) (a b : Attendant L) (at_a at_b : DoorSeen) (submitted : List Step) (taken : List Answer)
+    → Tends l.seen a at_a submitted taken b at_b → IsSomehowTended l a at_a → IsSomehowTended l b at_b
+somehow_on l a b at_a at_b submitted taken h t =
     record {
       max_job_size = t.max_job_size;
       submitted = t.submitted ++ submitted;
@@ -56,161 +58,123 @@ some_door : {D : Type 0} (doors : List D) (i : ℕ) → i < length doors → D
 some_door [] i h = absurd (omega arith)
 some_door (d ∷ doors) i h = d
 
-module _ {L D : Type 0} (seen : L → LineSeen) (at : D → DoorSeen) where
-  -- A property that holds for the changed seat and its door, and held for the others before, holds
-  -- for each seat and its door.
-  pub set_each : (P : ℕ → Attendant L → D → Type 0) (seats : List (Attendant L)) (doors : List D) (i : ℕ) (new : Attendant L) (later : D)
-      → i < length seats → length doors ≡ length seats → P i new later
-      → ((t : ℕ) → t ≢ i → t < length seats → (x : Attendant L) (y : D) → P t (slice_index_or seats t x) (slice_index_or doors t y))
-      → (t : ℕ) → t < length seats → (x : Attendant L) (y : D)
-      → P t (slice_index_or (slice_set seats i new) t x) (slice_index_or (slice_set doors i later) t y)
-  set_each P seats doors i new later below doored own others t here x y = elim (cases_Bool (t == i)) [
-    | inl e ↦ subst (λ (n : ℕ). P n (slice_index_or (slice_set seats i new) n x) (slice_index_or (slice_set doors i later) n y))
-        (sym (eqb-true t i e)) mine
-    | inr e ↦
-        let differs : t ≢ i = eqb-false t i e in
-        subst (λ (z : Attendant L). P t z (slice_index_or (slice_set doors i later) t y)) (sym (get_or-set_other seats i t new x differs))
-        (subst (λ (z : D). P t (slice_index_or seats t x) z) (sym (get_or-set_other doors i t later y differs)) (others t differs here x y))
-  ]
-    where
-      mine : P i (slice_index_or (slice_set seats i new) i x) (slice_index_or (slice_set doors i later) i y)
-      mine =
-          subst (λ (z : Attendant L). P i z (slice_index_or (slice_set doors i later) i y)) (sym (get_or-set_same seats i new x below))
-          (subst (λ (z : D). P i new z) (sym (get_or-set_same doors i later y (omega (arith, doored, below)))) own)
+-- A property that holds for the changed seat and its door, and held for the others before, holds
+-- for each seat and its door.
+pub set_each : {L D : Type 0} (P : ℕ → Attendant L → D → Type 0) (seats : List (Attendant L)) (doors : List D) (i : ℕ) (new : Attendant L)
+    (next : D) (x : Attendant L) (y : D) → i < length seats → length doors ≡ length seats → P i new next
+    → ((t : ℕ) → t ≢ i → t < length seats → P t (slice_index_or seats t x) (slice_index_or doors t y))
+    → (t : ℕ) → t < length seats → P t (slice_index_or (slice_set seats i new) t x) (slice_index_or (slice_set doors i next) t y)
+set_each {L} {D} P seats doors i new next x y below doored own others t here = elim (cases_Bool (t == i)) [
+  | inl e ↦ subst (λ (n : ℕ). P n (slice_index_or (slice_set seats i new) n x) (slice_index_or (slice_set doors i next) n y))
+      (sym (eqb-true t i e)) mine
+  | inr e ↦
+      let differs : t ≢ i = eqb-false t i e in
+      subst (λ (z : Attendant L). P t z (slice_index_or (slice_set doors i next) t y)) (sym (get_or-set_other seats i t new x differs))
+      (subst (λ (z : D). P t (slice_index_or seats t x) z) (sym (get_or-set_other doors i t next y differs)) (others t differs here))
+]
+  where
+    mine : P i (slice_index_or (slice_set seats i new) i x) (slice_index_or (slice_set doors i next) i y)
+    mine =
+        subst (λ (z : Attendant L). P i z (slice_index_or (slice_set doors i next) i y)) (sym (get_or-set_same seats i new x below))
+        (subst (λ (z : D). P i new z) (sym (get_or-set_same doors i next y (omega (arith, doored, below)))) own)
 
+-- A property of a seat and its door that were looked up holds for them in their lists.
+pub looked_up : {L D : Type 0} (P : Attendant L → D → Type 0) (seats : List (Attendant L)) (doors : List D) (i : ℕ) (a x : Attendant L)
+    (b y : D) → i < length seats → length doors ≡ length seats → a ≡ slice_index_or seats i a → b ≡ slice_index_or doors i b
+    → P (slice_index_or seats i x) (slice_index_or doors i y) → P a b
+looked_up {L} {D} P seats doors i a x b y below doored a_is b_is h =
+    subst (λ (z : Attendant L). P z b) (get_or_default seats i x a below ∙ sym a_is)
+    (subst (λ (z : D). P (slice_index_or seats i x) z)
+    (get_or_default doors i y b (omega (arith, doored, below)) ∙ sym b_is) h)
+
+module _ {L D : Type 0} (l : Line L) (d : Door D L) where
   -- A seat acted, with its door.
-  pub tended_set : (seats : List (Attendant L)) (doors : List D) (i : ℕ) (a new : Attendant L) (d later : D) (submitted : List Step)
-      (taken : List Answer)
-      → i < length seats → AllTended seen at seats doors
-      → Tends seen (slice_index_or seats i a) (at (slice_index_or doors i d)) submitted taken new (at later)
-      → AllTended seen at (slice_set seats i new) (slice_set doors i later)
-  tended_set seats doors i a new d later submitted taken below all tends = record {
-    doored = length-set doors i later ∙ all.doored ∙ sym (length-set seats i new);
-    each = λ t here. set_each (λ (n : ℕ) (x : Attendant L) (y : D). IsSomehowTended seen x (at y)) seats doors i new later below all.doored
-        (somehow_on seen (slice_index_or seats i a) new (at (slice_index_or doors i d)) (at later) submitted taken tends
-        (all.each i below a d))
-        (λ n differs there. all.each n there) t (subst (λ (m : ℕ). t < m) (length-set seats i new) here);
+  pub tended_set : (seats : List (Attendant L)) (doors : List D) (i : ℕ) (a new : Attendant L) (x next : D) (submitted : List Step)
+      (taken : List Answer) → i < length seats → AllTended l d seats doors → a ≡ slice_index_or seats i a → x ≡ slice_index_or doors i x
+      → Tends l.seen a (at d x) submitted taken new (at d next) → AllTended l d (slice_set seats i new) (slice_set doors i next)
+  tended_set seats doors i a new x next submitted taken below all a_is x_is tends = record {
+    doored = length-set doors i next ∙ all.doored ∙ sym (length-set seats i new);
+    each = λ t here y z. set_each (λ (n : ℕ) (u : Attendant L) (v : D). IsSomehowTended l u (at d v)) seats doors i new next y z
+        below all.doored
+        (somehow_on l a new (at d x) (at d next) submitted taken tends
+        (looked_up (λ (u : Attendant L) (v : D). IsSomehowTended l u (at d v))
+        seats doors i a a x x below all.doored a_is x_is (all.each i below a x)))
+        (λ n differs there. all.each n there y z) t (subst (λ (m : ℕ). t < m) (length-set seats i new) here);
   }
 
   -- A seat rested with its door.
-  pub rested_set : (same : D → D → Type 0) (firsts seats : List (Attendant L)) (first_doors doors : List D) (i : ℕ)
-      (a new : Attendant L) (d later : D)
-      → i < length seats → length doors ≡ length seats
-      → Tends seen (slice_index_or seats i a) (at (slice_index_or doors i d)) [] [] new (at later)
-      → ((first : D) → same first (slice_index_or doors i d) → same first later)
-      → AllRested seen at same firsts first_doors seats doors
-      → AllRested seen at same firsts first_doors (slice_set seats i new) (slice_set doors i later)
-  rested_set same firsts seats first_doors doors i a new d later below doored tends on all = record {
+  rested_set : (firsts seats : List (Attendant L)) (first_doors doors : List D) (i : ℕ) (a new : Attendant L) (x next : D)
+      → i < length seats → length doors ≡ length seats → a ≡ slice_index_or seats i a → x ≡ slice_index_or doors i x
+      → Tends l.seen a (at d x) [] [] new (at d next) → ((first : D) → d.same first x → d.same first next)
+      → AllRested l d firsts first_doors seats doors
+      → AllRested l d firsts first_doors (slice_set seats i new) (slice_set doors i next)
+  rested_set firsts seats first_doors doors i a new x next below doored a_is x_is tends on all = record {
     many = length-set seats i new ∙ all.many;
-    doored = length-set doors i later ∙ all.doored;
-    each = λ t here x y. set_each (λ (n : ℕ) (z : Attendant L) (w : D).
-        Tends seen (slice_index_or firsts n x) (at (slice_index_or first_doors n y)) [] [] z (at w)) seats doors i new later below doored
-        (tends_then seen (slice_index_or firsts i x) (slice_index_or seats i a) new (at (slice_index_or first_doors i y))
-        (at (slice_index_or doors i d)) (at later) (both i (subst (λ (m : ℕ). i < m) all.many below) x y a d) tends)
-        (λ n differs there z w. both n (subst (λ (m : ℕ). n < m) all.many there) x y z w) t
-        (subst (λ (m : ℕ). t < m) (sym all.many) here) x y;
-    same_doors = λ handed_in h. same_set same handed_in doors i d later on (all.same_doors handed_in h);
+    doored = length-set doors i next ∙ all.doored;
+    each = λ t here y z. set_each (λ (n : ℕ) (u : Attendant L) (v : D).
+        Tends l.seen (slice_index_or firsts n y) (at d (slice_index_or first_doors n z)) [] [] u (at d v)) seats doors i new next y z
+        below doored
+        (tends_then l.seen (slice_index_or firsts i y) a new (at d (slice_index_or first_doors i z)) (at d x) (at d next)
+        (looked_up (λ (u : Attendant L) (v : D). Tends l.seen (slice_index_or firsts i y) (at d (slice_index_or first_doors i z)) [] [] u
+        (at d v)) seats doors i a y x z below doored a_is x_is (all.each i (subst (λ (m : ℕ). i < m) all.many below) y z)) tends)
+        (λ n differs there. all.each n (subst (λ (m : ℕ). n < m) all.many there) y z) t (subst (λ (m : ℕ). t < m) (sym all.many) here);
+    same_doors = λ handed_in h. same_set d.same handed_in doors i x next
+        (subst (λ (z : D). (first : D) → d.same first z → d.same first next) x_is on) (all.same_doors handed_in h);
   }
-    where
-      there : (t : ℕ) → t < length firsts → t < length first_doors
-      there t here = let e = all.doored in let f = all.many in omega (arith, doored, here)
 
-      both : (t : ℕ) → t < length firsts → (x : Attendant L) (y : D) (z : Attendant L) (w : D)
-          → Tends seen (slice_index_or firsts t x) (at (slice_index_or first_doors t y)) [] [] (slice_index_or seats t z)
-          (at (slice_index_or doors t w))
-      both t here x y z w =
-          subst (λ (f : Attendant L). Tends seen f (at (slice_index_or first_doors t y)) [] [] (slice_index_or seats t z)
-          (at (slice_index_or doors t w))) (sym (get_or_default firsts t x z here))
-          (subst (λ (f : D). Tends seen (slice_index_or firsts t z) (at f) [] [] (slice_index_or seats t z) (at (slice_index_or doors t w)))
-          (sym (get_or_default first_doors t y w (there t here)))
-          (all.each t here z w))
+  -- Both of a seat that rested with its door.
+  pub keeps_set : (seats : List (Attendant L)) (doors : List D) (i : ℕ) (a new : Attendant L) (x next : D) → i < length seats
+      → AllTended l d seats doors → a ≡ slice_index_or seats i a → x ≡ slice_index_or doors i x
+      → Tends l.seen a (at d x) [] [] new (at d next) → ((first : D) → d.same first x → d.same first next)
+      → AllTended l d (slice_set seats i new) (slice_set doors i next)
+      × ((first : Row L D) → AllRested l d first.seats.items first.doors.items seats doors
+      → AllRested l d first.seats.items first.doors.items (slice_set seats i new) (slice_set doors i next))
+  keeps_set seats doors i a new x next below all a_is x_is tends on = (
+    tended_set seats doors i a new x next [] [] below all a_is x_is tends,
+    λ first. rested_set first.seats.items seats first.doors.items doors i a new x next below all.doored a_is x_is tends on,
+  )
 
   -- The same if nothing was done with the door.
-  pub tended_seat : (seats : List (Attendant L)) (doors : List D) (i : ℕ) (a new : Attendant L) → i < length seats
-      → AllTended seen at seats doors → a ≡ slice_index_or seats i a
-      → ((door : DoorSeen) → Tends seen a door [] [] new door) → AllTended seen at (slice_set seats i new) doors
-  tended_seat seats doors i a new below all is tends =
-      let d = some_door doors i (omega (arith, all.doored, below)) in
-      subst (λ (ds : List D). AllTended seen at (slice_set seats i new) ds) (set-get_or doors i d)
-      (tended_set seats doors i a new d (slice_index_or doors i d) [] [] below all
-      (subst (λ (x : Attendant L). Tends seen x (at (slice_index_or doors i d)) [] [] new (at (slice_index_or doors i d))) is
-      (tends (at (slice_index_or doors i d)))))
-
-  pub rested_seat : (same : D → D → Type 0) (firsts seats : List (Attendant L)) (first_doors doors : List D) (i : ℕ) (a new : Attendant L)
-      → i < length seats → length doors ≡ length seats → a ≡ slice_index_or seats i a
-      → ((door : DoorSeen) → Tends seen a door [] [] new door) → AllRested seen at same firsts first_doors seats doors
-      → AllRested seen at same firsts first_doors (slice_set seats i new) doors
-  rested_seat same firsts seats first_doors doors i a new below doored is tends all =
-      let d = some_door doors i (omega (arith, doored, below)) in
-      subst (λ (ds : List D). AllRested seen at same firsts first_doors (slice_set seats i new) ds) (set-get_or doors i d)
-      (rested_set same firsts seats first_doors doors i a new d (slice_index_or doors i d) below doored
-      (subst (λ (x : Attendant L). Tends seen x (at (slice_index_or doors i d)) [] [] new (at (slice_index_or doors i d))) is
-      (tends (at (slice_index_or doors i d)))) (λ first h. h) all)
+  pub keeps_seat : (seats : List (Attendant L)) (doors : List D) (i : ℕ) (a new : Attendant L) → i < length seats
+      → AllTended l d seats doors → a ≡ slice_index_or seats i a → ((door : DoorSeen) → Tends l.seen a door [] [] new door)
+      → AllTended l d (slice_set seats i new) doors
+      × ((first : Row L D) → AllRested l d first.seats.items first.doors.items seats doors
+      → AllRested l d first.seats.items first.doors.items (slice_set seats i new) doors)
+  keeps_seat seats doors i a new below all is tends =
+      let there : i < length doors = omega (arith, all.doored, below) in
+      let x = slice_index_or doors i (some_door doors i there) in
+      subst (λ (ds : List D). AllTended l d (slice_set seats i new) ds
+      × ((first : Row L D) → AllRested l d first.seats.items first.doors.items seats doors
+      → AllRested l d first.seats.items first.doors.items (slice_set seats i new) ds)) (set-get_or doors i (some_door doors i there))
+      (keeps_set seats doors i a new x x below all is (get_or_default doors i (some_door doors i there) x there) (tends (at d x))
+      (λ first h. h))
 
   -- Nothing was done with a row.
-  pub rested_none : (same : D → D → Type 0) (seats : List (Attendant L)) (doors : List D) → AllRested seen at same seats doors seats doors
-  rested_none same seats doors = record {
+  pub rested_none : (seats : List (Attendant L)) (doors : List D) → AllRested l d seats doors seats doors
+  rested_none seats doors = record {
     many = refl;
     doored = refl;
-    each = λ n here x y. tends_still seen (slice_index_or seats n x) (at (slice_index_or doors n y));
+    each = λ n here x y. tends_still l.seen (slice_index_or seats n x) (at d (slice_index_or doors n y));
     same_doors = λ handed_in h. h;
   }
 
   -- All seats and doors are new.
   pub tended_at_first : (size : ℕ) (seats : List (Attendant L)) (doors : List D) → length doors ≡ length seats → All (IsNewSeat size) seats
-      → All (λ d. IsNewDoor (at d)) doors → AllTended seen at seats doors
+      → All (λ x. IsNewDoor (at d x)) doors → AllTended l d seats doors
   tended_at_first size seats doors doored seats_new doors_new = record {
     doored = doored;
     each = λ t here x y. record {
       max_job_size = size;
       submitted = [];
       taken = [];
-      tended = tended_new seen size (slice_index_or seats t x) (at (slice_index_or doors t y)) (seats_new t x here)
+      tended = tended_new l.seen size (slice_index_or seats t x) (at d (slice_index_or doors t y)) (seats_new t x here)
           (doors_new t y (omega (arith, doored, here)));
     };
   }
 
-  -- The seat of each number is placed with its door.
-  pub placed_at : (seats : List (Attendant L)) (doors : List D) (i : ℕ) (a : Attendant L) (d : D) → AllTended seen at seats doors
-      → i < length seats → IsPlaced (slice_index_or seats i a).place (at (slice_index_or doors i d))
-  placed_at seats doors i a d all below = let t = all.each i below a d in t.tended.placed
-
-  -- The same for a seat and a door that were looked up.
-  pub placed_there : (seats : List (Attendant L)) (doors : List D) (i : ℕ) (a : Attendant L) (d : D) → i < length seats
-      → AllTended seen at seats doors → a ≡ slice_index_or seats i a → d ≡ slice_index_or doors i d → IsPlaced a.place (at d)
-  placed_there seats doors i a d below all a_is d_is =
-      subst (λ (x : Attendant L). IsPlaced x.place (at d)) (sym a_is)
-      (subst (λ (y : D). IsPlaced (slice_index_or seats i a).place (at y)) (sym d_is) (placed_at seats doors i a d all below))
-
-  tends_there : (seats : List (Attendant L)) (doors : List D) (i : ℕ) (a new : Attendant L) (d later : D) (submitted : List Step)
-      (taken : List Answer) → a ≡ slice_index_or seats i a → d ≡ slice_index_or doors i d
-      → Tends seen a (at d) submitted taken new (at later)
-      → Tends seen (slice_index_or seats i a) (at (slice_index_or doors i d)) submitted taken new (at later)
-  tends_there seats doors i a new d later submitted taken a_is d_is tends =
-      subst (λ (x : Attendant L). Tends seen x (at (slice_index_or doors i d)) submitted taken new (at later)) a_is
-      (subst (λ (y : D). Tends seen a (at y) submitted taken new (at later)) d_is tends)
-
-  pub tended_there : (seats : List (Attendant L)) (doors : List D) (i : ℕ) (a new : Attendant L) (d later : D) → i < length seats
-      → AllTended seen at seats doors → a ≡ slice_index_or seats i a → d ≡ slice_index_or doors i d
-      → Tends seen a (at d) [] [] new (at later) → AllTended seen at (slice_set seats i new) (slice_set doors i later)
-  tended_there seats doors i a new d later below all a_is d_is tends =
-      tended_set seats doors i a new d later [] [] below all (tends_there seats doors i a new d later [] [] a_is d_is tends)
-
-  pub rested_there : (same : D → D → Type 0) (firsts seats : List (Attendant L)) (first_doors doors : List D) (i : ℕ) (a new : Attendant L)
-      (d later : D) → i < length seats → length doors ≡ length seats
-      → a ≡ slice_index_or seats i a → d ≡ slice_index_or doors i d → Tends seen a (at d) [] [] new (at later)
-      → ((first : D) → same first d → same first later)
-      → AllRested seen at same firsts first_doors seats doors
-      → AllRested seen at same firsts first_doors (slice_set seats i new) (slice_set doors i later)
-  rested_there same firsts seats first_doors doors i a new d later below doored a_is d_is tends on all =
-      rested_set same firsts seats first_doors doors i a new d later below doored
-      (tends_there seats doors i a new d later [] [] a_is d_is tends)
-      (subst (λ (y : D). (first : D) → same first y → same first later) d_is on) all
-
-  -- One action of a seat.
-  pub tended_acted : (seats : List (Attendant L)) (doors : List D) (i : ℕ) (a new : Attendant L) (d later : D) (submitted : List Step)
-      (taken : List Answer) → i < length seats → AllTended seen at seats doors → a ≡ slice_index_or seats i a → d ≡ slice_index_or doors i d
-      → Tends seen a (at d) submitted taken new (at later) → AllTended seen at (slice_set seats i new) (slice_set doors i later)
-  tended_acted seats doors i a new d later submitted taken below all a_is d_is tends =
-      tended_set seats doors i a new d later submitted taken below all
-      (tends_there seats doors i a new d later submitted taken a_is d_is tends)
+  -- A seat and a door that were looked up are placed together.
+  pub placed_there : (seats : List (Attendant L)) (doors : List D) (i : ℕ) (a : Attendant L) (x : D) → i < length seats
+      → AllTended l d seats doors → a ≡ slice_index_or seats i a → x ≡ slice_index_or doors i x → IsPlaced a.place (at d x)
+  placed_there seats doors i a x below all a_is x_is =
+      looked_up (λ (u : Attendant L) (v : D). IsPlaced u.place (at d v)) seats doors i a a x x below all.doored a_is x_is
+      (let t = all.each i below a x in t.tended.placed)

@@ -18,6 +18,7 @@ use Rattle.bq_job.specs.machine.Steps.{IsStep, Outcome}
 use Rattle.bq_job.specs.beside.Ties.{AreTied, IsJoined}
 use Rattle.bq_host.specs.MailStates.{MailState, IsNewMailState, waiting}
 use Rattle.bq_line.specs.Tending.{DoorSeen, IsDoorServed, IsNewDoor, IsNewSeat, IsTended}
+use Rattle.bq_event_loop.specs.Meanings.{Door, Line, at}
 use Rattle.bq_event_loop.specs.Rows.{AreDone}
 use Rattle.bq_event_loop.specs.Serving.{AreServed}
 use Rattle.bq_host.proofs.HasComparedLemmas.{compared_all}
@@ -95,12 +96,12 @@ up_to seat (e ∷ history) h =
         let same : (e.seat == e.seat) ≡ true = eq-eqb e.seat e.seat refl in
         let no : e.what ∷ steps_at e.seat history ≡ [] = rw (x, same) at g in cc
 
-module _ {L D : Type 0} (seen : L → LineSeen) (at : D → DoorSeen) (settings : Settings) (first : MailState) where
+module _ {L D : Type 0} (l : Line L) (d : Door D L) (settings : Settings) (first : MailState) where
   -- Nothing was served yet.
   pub begins_served : (seats : List (Attendant L)) (doors : List D)
       → IsNewMailState settings first → length seats ≡ settings.seats → length doors ≡ settings.seats
-      → All (IsNewSeat settings.max_job_size) seats → All (λ d. IsNewDoor (at d)) doors
-      → AreServed seen at settings.max_job_size [] first [] first seats doors
+      → All (IsNewSeat settings.max_job_size) seats → All (λ x. IsNewDoor (at d x)) doors
+      → AreServed l d settings.max_job_size [] first [] first seats doors
   begins_served seats doors new many doored seats_new doors_new =
       record {
         history = [];
@@ -108,11 +109,11 @@ module _ {L D : Type 0} (seen : L → LineSeen) (at : D → DoorSeen) (settings 
         went = core_none first;
         mailed = new_mails_are settings first new ∙ sym many;
         doored = doored ∙ sym many;
-        each = λ t below a d.
+        each = λ t below a x.
             let at_door : t < length doors = omega arith in
-            tended_new seen settings.max_job_size (slice_index_or seats t a) (at (slice_index_or doors t d)) (seats_new t a below)
-            (doors_new t d at_door);
-        few = λ t below none a d. omega arith;
+            tended_new l.seen settings.max_job_size (slice_index_or seats t a) (at d (slice_index_or doors t x)) (seats_new t a below)
+            (doors_new t x at_door);
+        few = λ t below none a x. omega arith;
         control_is = refl;
         nobody_else = λ t above. refl;
       }
@@ -125,15 +126,15 @@ module _ {L D : Type 0} (seen : L → LineSeen) (at : D → DoorSeen) (settings 
 
   module _ (control : List Step) (readings : List (Option ℕ)) (core : MailState) (seats : List (Attendant L)) (doors : List D)
       (new : IsNewMailState settings first) (many : length seats ≡ settings.seats)
-      (s : AreServed seen at settings.max_job_size control first readings core seats doors) (all_done : AreDone seats) where
-    door_done : (t : ℕ) → t < length doors → (d : D) → IsDoorDone s.history s.took s.went.given core t (at (slice_index_or doors t d))
-    door_done t below d =
+      (s : AreServed l d settings.max_job_size control first readings core seats doors) (all_done : AreDone seats) where
+    door_done : (t : ℕ) → t < length doors → (x : D) → IsDoorDone s.history s.took s.went.given core t (at d (slice_index_or doors t x))
+    door_done t below x =
         let here : t < length seats = let e = s.doored in omega arith in
         let mailed : t < length first.mails = let e = s.mailed in omega arith in
         let some : Attendant L = slice_index_or seats t (first_of seats here) in
         record {
-          served = tended_done seen settings.max_job_size (slice_index_or seats t some) (at (slice_index_or doors t d))
-              (steps_at t s.history) (s.took t) (all_done t here some) (s.each t here some d);
+          served = tended_done l.seen settings.max_job_size (slice_index_or seats t some) (at d (slice_index_or doors t x))
+              (steps_at t s.history) (s.took t) (all_done t here some) (s.each t here some x);
           answers_are = ap (λ (xs : List Answer). xs ++ answers_to t s.went.given) (sym (none_waits settings first t new))
               ∙ s.went.tied t mailed;
         }
@@ -143,17 +144,17 @@ module _ {L D : Type 0} (seen : L → LineSeen) (at : D → DoorSeen) (settings 
         first_of (x ∷ xs) h = x
 
     -- the doors from this seat on
-    doors_tied : (k : ℕ) (rest : List D) → ((j : ℕ) → j < length rest → (d : D)
-        → IsDoorDone s.history s.took s.went.given core (k + j) (at (slice_index_or rest j d)))
-        → AreTied settings.max_job_size k (map (λ (d : D). (at d).lines_over) rest) (λ t. steps_at t s.history) s.took
+    doors_tied : (k : ℕ) (rest : List D) → ((j : ℕ) → j < length rest → (x : D)
+        → IsDoorDone s.history s.took s.went.given core (k + j) (at d (slice_index_or rest j x)))
+        → AreTied settings.max_job_size k (map d.lines_over rest) (λ t. steps_at t s.history) s.took
         (λ t. waiting t core) s.history s.went.given
     doors_tied k [] h = tt
-    doors_tied k (d ∷ rest) h =
+    doors_tied k (x ∷ rest) h =
         let more = doors_tied (suc k) rest (λ j below e.
-        subst (λ (n : ℕ). IsDoorDone s.history s.took s.went.given core n (at (slice_index_or rest j e)))
+        subst (λ (n : ℕ). IsDoorDone s.history s.took s.went.given core n (at d (slice_index_or rest j e)))
         (let e : k + suc j ≡ suc k + j = omega arith in e) (h (suc j) (omega (arith, below)) e)) in
-        let here : IsDoorDone s.history s.took s.went.given core k (at d) =
-        subst (λ (n : ℕ). IsDoorDone s.history s.took s.went.given core n (at d)) (add-zero k) (h 0 (omega arith) d) in (
+        let here : IsDoorDone s.history s.took s.went.given core k (at d x) =
+        subst (λ (n : ℕ). IsDoorDone s.history s.took s.went.given core n (at d x)) (add-zero k) (h 0 (omega arith) x) in (
           refl,
           here.answers_are,
           here.served.done,
@@ -161,16 +162,16 @@ module _ {L D : Type 0} (seen : L → LineSeen) (at : D → DoorSeen) (settings 
         )
 
     -- All doors are at their end.
-    pub ends_closed : All (λ (d : D). ((at d).is_out ≡ false) × ((at d).is_at_end ≡ true)) doors
-    ends_closed t d below = let served = (door_done t below d).served in (served.inside, served.at_end)
+    pub ends_closed : All (λ (x : D). (d.is_out x ≡ false) × (d.is_at_end x ≡ true)) doors
+    ends_closed t x below = let served = (door_done t below x).served in (served.inside, served.at_end)
 
     -- The parts, combined.
     pub ends_joined : (text : List ℕ) (failed : Bool) → IsControlDone text failed control
-        → IsJoined settings (map (λ (d : D). (at d).lines_over) doors) text failed readings s.history s.went.given core.core
+        → IsJoined settings (map d.lines_over doors) text failed readings s.history s.went.given core.core
     ends_joined text failed said =
-        let t = doors_tied 0 doors (λ j below d.
-        subst (λ (n : ℕ). IsDoorDone s.history s.took s.went.given core n (at (slice_index_or doors j d)))
-        (let e : j ≡ 0 + j = omega arith in e) (door_done j below d)) in
+        let t = doors_tied 0 doors (λ j below x.
+        subst (λ (n : ℕ). IsDoorDone s.history s.took s.went.given core n (at d (slice_index_or doors j x)))
+        (let e : j ≡ 0 + j = omega arith in e) (door_done j below x)) in
         let control_is : steps_at settings.seats s.history ≡ control = ap (λ n. steps_at n s.history) (sym many) ∙ s.control_is in
         record {
           submitted = λ n. steps_at n s.history;
@@ -181,7 +182,7 @@ module _ {L D : Type 0} (seen : L → LineSeen) (at : D → DoorSeen) (settings 
             timed = subst (λ (n : ℕ). ArePickedFrom (map (λ (e : Entry). e.moment) s.history) (moments_heard n readings)) new.heard
                 s.went.timed.picked;
           };
-          many = length-map doors (λ (d : D). (at d).lines_over) ∙ s.doored ∙ many;
+          many = length-map doors d.lines_over ∙ s.doored ∙ many;
           tied = t;
           control_tied = refl;
           control_done = subst (λ (xs : List Step). IsControlDone text failed xs) (sym control_is) said;
@@ -190,7 +191,7 @@ module _ {L D : Type 0} (seen : L → LineSeen) (at : D → DoorSeen) (settings 
 
     -- One history of everything, along which the core stayed within its bounds.
     pub record IsEndedSo (text : List ℕ) (failed : Bool) : Type 0 where
-      pub history : IsHistoryOf settings (map (λ (d : D). (at d).lines_over) doors) text failed readings core.core
+      pub history : IsHistoryOf settings (map d.lines_over doors) text failed readings core.core
       pub compared : AreCompared (new_machine settings) history.history history.given core.core 0 core.compared
 
     pub ends_history : (text : List ℕ) (failed : Bool) → IsControlDone text failed control → IsEndedSo text failed
@@ -203,7 +204,7 @@ module _ {L D : Type 0} (seen : L → LineSeen) (at : D → DoorSeen) (settings 
             run = j.run;
             many = j.many;
             of_doors = doors_owed settings settings.max_job_size 0
-                (map (λ (d : D). (at d).lines_over) doors) j.submitted j.taken j.waiting s.history s.went.given core.core
+                (map d.lines_over doors) j.submitted j.taken j.waiting s.history s.went.given core.core
                 (let a = j.many in omega arith) j.run.runs j.tied;
             of_control = j.control_tied ∙ j.control_done;
             of_nobody_else = j.of_nobody_else;

@@ -29,14 +29,14 @@ use Rattle.bq_line.proofs.LineSoFarLemmas.{line_so_far}
 use Rattle.bq_line.specs.ControlRead.{IsReadToEnd}
 use Rattle.bq_line.specs.ControlSeen.{ControlSeen}
 use Rattle.bq_line.specs.Attending.{IsAt}
-use Rattle.bq_line.specs.Tending.{AreSame, DoorSeen, IsNewDoor, IsNewSeat, IsPlaced, IsTended, door_seen, ended_lines}
+use Rattle.bq_line.specs.Tending.{AreSame, DoorSeen, IsNewDoor, IsNewSeat, IsPlaced, IsTended, ended_lines}
 use Rattle.bq_line.specs.declared.attendant.Attendant.{Attendant}
 use Rattle.bq_line.specs.declared.attendant.LinePlace.{LinePlace}
 use Rattle.bq_line.specs.declared.attendant.LinePlace.TheVariants as places
 use Rattle.bq_seat.specs.declared.machine.SeatMachine.{SeatMachine}
-use Rattle.bq_event_loop.specs.ControlTold.{HasTold, IsAtStage, TellsOn}
-use Rattle.bq_host.specs.Hubs.{state_of}
-use Rattle.bq_event_loop.specs.Serving.{AreServed, IsServing, ServesOn}
+use Rattle.bq_event_loop.specs.ControlTold.{HasTold, IsAtStage}
+use Rattle.bq_event_loop.specs.Meanings.{Clock, Control, Core, Door, Line, at, state}
+use Rattle.bq_event_loop.specs.Serving.{AreServed, IsServing, LoopWent}
 use Rattle.bq_host.specs.declared.hub.Hub.{Hub}
 use Rattle.bq_event_loop.specs.declared.row.Row.{Row}
 use Rattle.bq_event_loop.specs.SoFar.{Beginning, beginning, IsLoopSoFar, doors_so_far, line_out}
@@ -64,23 +64,23 @@ read_of (Some x) None text failed h = absurd h
 read_of (Some x) (Some y) text failed h = h.0
 
 -- What was read and submitted of a control line so far.
-pub record IsControlBegun {I : Type 0} (seen : I → ControlSeen) (left : I → Option (List ℕ)) (first : Option (List ℕ)) (may : Bool)
-    (input : I) (told : List Step) : Type 0 where
-  pub read : Consumes first (left input) (seen input).text
-  pub fault : (seen input).failed ≡ true → may ≡ true
-  pub begun : IsControlSoFar (seen input).text (seen input).failed told
+record IsControlBegun {I : Type 0} (i : Control I) (first : Option (List ℕ)) (may : Bool) (input : I) (told : List Step) : Type 0 where
+  read : Consumes first (i.remaining input) (i.seen input).text
+  fault : (i.seen input).failed ≡ true → may ≡ true
+  begun : IsControlSoFar (i.seen input).text (i.seen input).failed told
 
-module _ {I : Type 0} (seen : I → ControlSeen) (left : I → Option (List ℕ)) (may_fail : I → Bool) where
+module _ {I : Type 0} (i : Control I) where
   begun_at : (stage : Stage) (input : I) (kept : List ℕ) (owed count : ℕ) (first : Option (List ℕ)) (may : Bool) (told : List Step)
-      → IsAtStage stage first (left input) may (seen input) kept owed count told → IsControlBegun seen left first may input told
+      → IsAtStage stage first (i.remaining input) may (i.seen input) kept owed count told → IsControlBegun i first may input told
   begun_at stages.Reads input kept owed count first may told at =
       let r = at.1 in
       record {
         read = r.read;
         fault = λ f. absurd (let well = r.well in cc);
-        begun = begun_by (seen input).text (seen input).failed count (owed + drains_from kept [] (seen input).failed) told at.0
-            (ap (λ (xs : List ℕ). drains xs (seen input).failed) (sym (append-nil (seen input).text)) ∙ r.counted [] (seen input).failed
-            ∙ plus count owed (drains_from kept [] (seen input).failed));
+        begun = begun_by (i.seen input).text (i.seen input).failed count (owed + drains_from kept [] (i.seen input).failed) told at.0
+            (ap (λ (xs : List ℕ). drains xs (i.seen input).failed) (sym (append-nil (i.seen input).text))
+            ∙ r.counted [] (i.seen input).failed
+            ∙ plus count owed (drains_from kept [] (i.seen input).failed));
       }
     where
       plus : (a b c : ℕ) → (a + b) + c ≡ a + (b + c)
@@ -88,14 +88,14 @@ module _ {I : Type 0} (seen : I → ControlSeen) (left : I → Option (List ℕ)
   begun_at stages.Ended input kept owed count first may told at =
       let r = at.1 in
       record {
-        read = read_of first (left input) (seen input).text (seen input).failed r.read;
+        read = read_of first (i.remaining input) (i.seen input).text (i.seen input).failed r.read;
         fault = r.fault;
-        begun = begun_by (seen input).text (seen input).failed count owed told at.0 r.counted;
+        begun = begun_by (i.seen input).text (i.seen input).failed count owed told at.0 r.counted;
       }
   begun_at stages.Over input kept owed count first may told at =
       let r = at.2 in
       record {
-        read = read_of first (left input) (seen input).text (seen input).failed r.read;
+        read = read_of first (i.remaining input) (i.seen input).text (i.seen input).failed r.read;
         fault = r.fault;
         begun = (
           [],
@@ -103,9 +103,9 @@ module _ {I : Type 0} (seen : I → ControlSeen) (left : I → Option (List ℕ)
         );
       }
 
-  pub control_begun : (first : Option (List ℕ)) (may : Bool) (c : ControlTurns I) (told : List Step)
-      → HasTold seen left may_fail first may c told
-      → IsControlBegun seen left first may c.input told
+  control_begun : (first : Option (List ℕ)) (may : Bool) (c : ControlTurns I) (told : List Step)
+      → HasTold i first may c told
+      → IsControlBegun i first may c.input told
   control_begun first may c told h = begun_at c.stage c.input c.line (one_if c.owes_drain) h.count first may told h.at_stage
 
 -- ---- the seats
@@ -152,12 +152,12 @@ module _ {L : Type 0} (seen : L → LineSeen) where
 
 -- ---- all of it
 
-module _ {L D : Type 0} (seen : L → LineSeen) (at : D → DoorSeen) (settings : Settings) (first : MailState) where
+module _ {L D : Type 0} (l : Line L) (d : Door D L) (settings : Settings) (first : MailState) where
   -- a seat with its door, the answers that it was given, and how many of them are `Closed`
   record IsSeatSoFar (history : List Entry) (took : ℕ → List Answer) (given : List GivenAnswer) (core : MailState) (t : ℕ)
       (a : Attendant L) (door : DoorSeen) : Type 0 where
     within : t < settings.seats
-    tended : IsTended seen settings.max_job_size a door (steps_at t history) (took t)
+    tended : IsTended l.seen settings.max_job_size a door (steps_at t history) (took t)
     answers_are : answers_to t given ≡ took t ++ waiting t core
     few : closes (took t) ≤ ended_lines a door
 
@@ -170,50 +170,51 @@ module _ {L D : Type 0} (seen : L → LineSeen) (at : D → DoorSeen) (settings 
         let did = s.tended.attends in
         seat_owed_so_far settings settings.max_job_size t door.lines_over did.before did.now did.got (did.getting ++ waiting t core)
         history given core.core s.within runs did.submitted_is
-        (s.answers_are ∙ got_first seen did.got did.getting (waiting t core) (took t) did.taken_is)
-        (got_few seen settings.max_job_size a door (steps_at t history) (took t) s.tended s.few) did.of_lines
+        (s.answers_are ∙ got_first l.seen did.got did.getting (waiting t core) (took t) did.taken_is)
+        (got_few l.seen settings.max_job_size a door (steps_at t history) (took t) s.tended s.few) did.of_lines
 
-    seat_so_far : (t : ℕ) (a : Attendant L) (d : D) → IsSeatSoFar history took given core t a (at d)
+    seat_so_far : (t : ℕ) (a : Attendant L) (x : D) → IsSeatSoFar history took given core t a (at d x)
         → IsDoorOwedSoFar settings.max_job_size
-        (record { over = (at d).lines_over; out = line_out seen a.place; is_out = (at d).is_out }) (steps_at t history)
+        (record { over = d.lines_over x; out = line_out l.seen a.place; is_out = d.is_out x }) (steps_at t history)
         (answers_to t given)
-    seat_so_far t a d s =
+    seat_so_far t a x s =
         subst (λ (xs : List Answer). IsDoorOwedSoFar settings.max_job_size
-        (record { over = (at d).lines_over; out = line_out seen a.place; is_out = (at d).is_out })
+        (record { over = d.lines_over x; out = line_out l.seen a.place; is_out = d.is_out x })
         (steps_at t history) xs) (sym s.answers_are)
-        (out_so_far seen settings.max_job_size a (at d) (steps_at t history) (took t) (waiting t core) s.tended (lines_so_far t a (at d) s))
+        (out_so_far l.seen settings.max_job_size a (at d x) (steps_at t history) (took t) (waiting t core) s.tended
+        (lines_so_far t a (at d x) s))
 
     -- the doors from this seat on
     doors_begun : (k : ℕ) (seats : List (Attendant L)) (doors : List D)
-        → ((j : ℕ) → j < length seats → (a : Attendant L) (d : D)
-        → IsSeatSoFar history took given core (k + j) (slice_index_or seats j a) (at (slice_index_or doors j d)))
+        → ((j : ℕ) → j < length seats → (a : Attendant L) (x : D)
+        → IsSeatSoFar history took given core (k + j) (slice_index_or seats j a) (at d (slice_index_or doors j x)))
         → AreDoorsOwedSoFar settings.max_job_size k
-        (doors_so_far seen (λ (d : D). (at d).lines_over) (λ (d : D). (at d).is_out) seats doors) history given
+        (doors_so_far l.seen d.lines_over d.is_out seats doors) history given
     doors_begun k [] [] h = tt
-    doors_begun k [] (d ∷ doors) h = tt
+    doors_begun k [] (x ∷ doors) h = tt
     doors_begun k (a ∷ seats) [] h = tt
-    doors_begun k (a ∷ seats) (d ∷ doors) h = (
-      seat_so_far k a d (subst (λ (n : ℕ). IsSeatSoFar history took given core n a (at d)) (add-zero k) (h 0 (omega arith) a d)),
-      doors_begun (suc k) seats doors (λ j below x y.
-          subst (λ (n : ℕ). IsSeatSoFar history took given core n (slice_index_or seats j x) (at (slice_index_or doors j y)))
-          (let e : k + suc j ≡ suc k + j = omega arith in e) (h (suc j) (omega (arith, below)) x y)),
+    doors_begun k (a ∷ seats) (x ∷ doors) h = (
+      seat_so_far k a x (subst (λ (n : ℕ). IsSeatSoFar history took given core n a (at d x)) (add-zero k) (h 0 (omega arith) a x)),
+      doors_begun (suc k) seats doors (λ j below b y.
+          subst (λ (n : ℕ). IsSeatSoFar history took given core n (slice_index_or seats j b) (at d (slice_index_or doors j y)))
+          (let e : k + suc j ≡ suc k + j = omega arith in e) (h (suc j) (omega (arith, below)) b y)),
     )
 
   many_doors : (seats : List (Attendant L)) (doors : List D) → length doors ≡ length seats
-      → length (doors_so_far seen (λ (d : D). (at d).lines_over) (λ (d : D). (at d).is_out) seats doors) ≡ length seats
+      → length (doors_so_far l.seen d.lines_over d.is_out seats doors) ≡ length seats
   many_doors [] [] e = refl
-  many_doors [] (d ∷ doors) e = refl
+  many_doors [] (x ∷ doors) e = refl
   many_doors (a ∷ seats) [] e = e
-  many_doors (a ∷ seats) (d ∷ doors) e =
+  many_doors (a ∷ seats) (x ∷ doors) e =
       ap suc (many_doors seats doors (let f : suc (length doors) ≡ suc (length seats) = e in omega arith))
 
   module _ (control : List Step) (readings : List (Option ℕ)) (core : MailState) (seats : List (Attendant L)) (doors : List D)
       (new : IsNewMailState settings first) (many : length seats ≡ settings.seats)
-      (s : AreServed seen at settings.max_job_size control first readings core seats doors) where
+      (s : AreServed l d settings.max_job_size control first readings core seats doors) where
     -- One history of everything so far, along which the core stayed within its bounds.
     pub record IsBegunSo (text : List ℕ) (failed : Bool) : Type 0 where
       pub history : IsHistorySoFar settings
-          (doors_so_far seen (λ (d : D). (at d).lines_over) (λ (d : D). (at d).is_out) seats doors) text failed readings core.core
+          (doors_so_far l.seen d.lines_over d.is_out seats doors) text failed readings core.core
       pub compared : AreCompared (new_machine settings) history.history history.given core.core 0 core.compared
 
     pub served_so_far : (text : List ℕ) (failed : Bool) → IsControlSoFar text failed control → IsBegunSo text failed
@@ -230,15 +231,15 @@ module _ {L D : Type 0} (seen : L → LineSeen) (at : D → DoorSeen) (settings 
                   s.went.timed.picked;
             };
             many = many_doors seats doors s.doored ∙ many;
-            of_doors = doors_begun s.history s.took s.went.given core runs 0 seats doors (λ j below a d.
+            of_doors = doors_begun s.history s.took s.went.given core runs 0 seats doors (λ j below a x.
                 subst (λ (n : ℕ).
-                IsSeatSoFar s.history s.took s.went.given core n (slice_index_or seats j a) (at (slice_index_or doors j d)))
+                IsSeatSoFar s.history s.took s.went.given core n (slice_index_or seats j a) (at d (slice_index_or doors j x)))
                 (let e : j ≡ 0 + j = omega arith in e) (record {
                   within = omega arith;
-                  tended = s.each j below a d;
+                  tended = s.each j below a x;
                   answers_are = ap (λ (xs : List Answer). xs ++ answers_to j s.went.given) (sym (none_waits settings first j new))
                       ∙ s.went.tied j (let m = s.mailed in omega arith);
-                  few = s.few j below (none_waits settings first j new) a d;
+                  few = s.few j below (none_waits settings first j new) a x;
                 }));
             of_control = subst (λ (xs : List Step). IsControlSoFar text failed xs) (sym control_is) told;
             of_nobody_else = up_to settings.seats s.history (λ n above. s.nobody_else n (omega arith));
@@ -249,59 +250,49 @@ module _ {L D : Type 0} (seen : L → LineSeen) (at : D → DoorSeen) (settings 
 
 -- ---- a run
 
-module _ {L D C I K : Type 0} (given : Gives C) (line_seen : L → LineSeen) (is_out is_at_end : D → Bool) (lines_over : D → List LineOver)
-    (same : D → D → Type 0) (control_seen : I → ControlSeen) (left : I → Option (List ℕ)) (may_fail : I → Bool)
-    (machine : K → Machine) (compared : K → ℕ) (begun : Beginning D C) where
-  abbrev Serving : Hub C K → Row L D → ControlTurns I → Type 0
-  Serving = IsServing given line_seen (door_seen is_out is_at_end lines_over) same control_seen left may_fail machine compared begun
-
+module _ {L D C I K : Type 0} {k : Core K} {c : Clock C} {l : Line L} {d : Door D L} {i : Control I} {begun : Beginning D C} where
   -- Nothing was served yet.
-  pub serving_first : (core : Hub C K) (row : Row L D) (control : ControlTurns I) → begun.clock ≡ core.timed.time.clock
-      → given core.timed.time.clock [] core.timed.time.clock → IsNewMailState begun.settings (state_of machine compared core)
-      → HasTold control_seen left may_fail begun.left begun.may_fail control []
+  pub serving_first : {core : Hub C K} {row : Row L D} {control : ControlTurns I} → begun.clock ≡ core.timed.time.clock
+      → c.given core.timed.time.clock [] core.timed.time.clock → IsNewMailState begun.settings (state k core)
+      → HasTold i begun.left begun.may_fail control []
       → length row.seats.items ≡ begun.settings.seats → length row.doors.items ≡ begun.settings.seats
-      → All (IsNewSeat begun.settings.max_job_size) row.seats.items
-      → All (λ d. IsNewDoor (door_seen is_out is_at_end lines_over d)) row.doors.items → AreSame same begun.doors row.doors.items
-      → Serving core row control
-  serving_first core row control clock_is none new submits many doored new_seats new_doors same_doors = record {
-    first = state_of machine compared core;
+      → All (IsNewSeat begun.settings.max_job_size) row.seats.items → All (λ x. IsNewDoor (at d x)) row.doors.items
+      → AreSame d.same begun.doors row.doors.items → IsServing k c l d i begun core row control
+  serving_first {core} {row} clock_is none new submits many doored new_seats new_doors same_doors = record {
+    first = state k core;
     told = [];
     readings = [];
     is_new = new;
-    gave = subst (λ (c : C). given c [] core.timed.time.clock) (sym clock_is) none;
+    gave = subst (λ (first : C). c.given first [] core.timed.time.clock) (sym clock_is) none;
     submits = submits;
     many = many;
-    served = begins_served line_seen (door_seen is_out is_at_end lines_over) begun.settings (state_of machine compared core) row.seats.items
-        row.doors.items new many doored new_seats new_doors;
+    served = begins_served l d begun.settings (state k core) row.seats.items row.doors.items new many doored new_seats new_doors;
     same_doors = same_doors;
   }
 
   -- The service went on.
-  pub serving_on : (old new : Hub C K) (row later : Row L D) (control next : ControlTurns I) (told : List Step)
-      → Serving old row control → TellsOn control_seen left may_fail control told next
-      → ServesOn machine compared given line_seen (door_seen is_out is_at_end lines_over) same old row told new later
-      → Serving new later next
-  serving_on old new row later control next told s tells on = record {
+  pub serving_on : {old new : Hub C K} {row later : Row L D} {control next : ControlTurns I} → IsServing k c l d i begun old row control
+      → LoopWent k c l d i old row control new later next → IsServing k c l d i begun new later next
+  serving_on s on = record {
     first = s.first;
-    told = s.told ++ told;
-    readings = s.readings ++ on.reads;
+    told = s.told ++ on.told;
+    readings = s.readings ++ on.serves.reads;
     is_new = s.is_new;
-    gave = on.gave begun.clock s.readings s.gave;
-    submits = tells begun.left begun.may_fail s.told s.submits;
-    many = on.many ∙ s.many;
-    served = (on.served begun.settings.max_job_size s.told s.first s.readings s.served).0;
-    same_doors = on.same_doors begun.doors s.same_doors;
+    gave = on.serves.gave begun.clock s.readings s.gave;
+    submits = on.tells.on begun.left begun.may_fail s.told s.submits;
+    many = on.serves.many ∙ s.many;
+    served = (on.serves.served begun.settings.max_job_size s.told s.first s.readings s.served).served;
+    same_doors = on.serves.same_doors begun.doors s.same_doors;
   }
 
   -- The promise so far.
-  pub serving_so_far : (core : Hub C K) (row : Row L D) (control : ControlTurns I) → Serving core row control
-      → IsLoopSoFar given line_seen lines_over is_out same machine compared begun
-      row.seats.items row.doors.items core.timed.time.clock (control_seen control.input) (left control.input) core.timed.core
-  serving_so_far core row control s =
-      let b = control_begun control_seen left may_fail begun.left begun.may_fail control s.told s.submits in
-      let h = served_so_far line_seen (door_seen is_out is_at_end lines_over) begun.settings s.first s.told s.readings
-      (state_of machine compared core) row.seats.items row.doors.items s.is_new s.many s.served (control_seen control.input).text
-      (control_seen control.input).failed b.begun in
+  pub serving_so_far : {core : Hub C K} {row : Row L D} {control : ControlTurns I} → IsServing k c l d i begun core row control
+      → IsLoopSoFar c.given l.seen d.lines_over d.is_out d.same k.machine k.comparisons begun row.seats.items row.doors.items
+      core.timed.time.clock (i.seen control.input) (i.remaining control.input) core.timed.core
+  serving_so_far {core} {row} {control} s =
+      let b = control_begun i begun.left begun.may_fail control s.told s.submits in
+      let h = served_so_far l d begun.settings s.first s.told s.readings (state k core) row.seats.items row.doors.items s.is_new s.many
+      s.served (i.seen control.input).text (i.seen control.input).failed b.begun in
       record {
         readings = s.readings;
         gave = s.gave;
@@ -311,21 +302,6 @@ module _ {L D C I K : Type 0} (given : Gives C) (line_seen : L → LineSeen) (is
         compared = h.compared;
         same_doors = s.same_doors;
       }
-
-  -- The same for values that are equal to these.
-  pub so_far_as : (seats : List (Attendant L)) (doors : List D) (clock clock' : C) (control control' : I) (core core' : K) → clock' ≡ clock
-      → control' ≡ control → core' ≡ core
-      → IsLoopSoFar given line_seen lines_over is_out same machine compared begun seats doors clock
-      (control_seen control) (left control) core
-      → IsLoopSoFar given line_seen lines_over is_out same machine compared begun seats doors clock' (control_seen control') (left control')
-      core'
-  so_far_as seats doors clock clock' control control' core core' a b e h =
-      subst (λ (c : C). IsLoopSoFar given line_seen lines_over is_out same machine compared begun seats doors c (control_seen control')
-      (left control') core') (sym a)
-      (subst (λ (i : I). IsLoopSoFar given line_seen lines_over is_out same machine compared begun seats doors clock (control_seen i)
-      (left i) core') (sym b)
-      (subst (λ (k : K). IsLoopSoFar given line_seen lines_over is_out same machine compared begun seats doors clock (control_seen control)
-      (left control) k) (sym e) h))
 
 -- Two beginnings are the same if their parts are.
 pub same_beginning : {D C : Type 0} (settings settings' : Settings) (doors doors' : List D) (clock clock' : C)
@@ -337,11 +313,10 @@ same_beginning settings settings' doors doors' clock clock' left left' may may' 
     ∙ ap (λ x. beginning settings doors clock left x) f
 
 -- The core's settings are those that it began with.
-pub settings_so_far : {L D C K : Type 0} (given : Gives C) (line_seen : L → LineSeen) (lines_over : D → List LineOver)
-    (is_out : D → Bool) (same : D → D → Type 0) (machine : K → Machine) (comparisons : K → ℕ) (begun : Beginning D C)
-    (seats : List (Attendant L)) (doors : List D) (clock : C) (control : ControlSeen) (left : Option (List ℕ)) (core : K)
-    → StepsKeepSettings
+pub settings_so_far : {L D C K : Type 0} {given : Gives C} {line_seen : L → LineSeen} {lines_over : D → List LineOver}
+    {is_out : D → Bool} {same : D → D → Type 0} {comparisons : K → ℕ} {seats : List (Attendant L)} {doors : List D} {clock : C}
+    {control : ControlSeen} {left : Option (List ℕ)} (machine : K → Machine) (begun : Beginning D C) (core : K) → StepsKeepSettings
     → IsLoopSoFar given line_seen lines_over is_out same machine comparisons begun seats doors clock control left core
     → (machine core).settings ≡ begun.settings
-settings_so_far given line_seen lines_over is_out same machine comparisons begun seats doors clock control left core law s =
+settings_so_far machine begun core law s =
     let r = s.history.run.runs in run_keeps law (new_machine begun.settings) r.1.taken (machine core) r.1.goes

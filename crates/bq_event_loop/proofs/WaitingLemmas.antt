@@ -8,12 +8,7 @@ use Rattle.bq_line.specs.declared.attendant.Attendant.{Attendant}
 use Rattle.bq_line.specs.declared.attendant.LinePlace.TheVariants as places
 use Rattle.bq_line.specs.declared.attendant.Looked.{Looked}
 use Rattle.bq_line.specs.declared.attendant.Looked.TheVariants as results
-use Rattle.bq_job.specs.machine.Machine.{Machine}
-use Rattle.bq_job.specs.promise.History.{LineOver}
-use Rattle.bq_job.specs.promise.LineSteps.{LineSeen}
-use Rattle.bq_host.specs.Clocks.{Gives}
-use Rattle.bq_line.specs.ControlSeen.{ControlSeen}
-use Rattle.bq_event_loop.specs.SoFar.{Beginning, IsLoopSoFar}
+use Rattle.bq_event_loop.specs.Meanings.{Line}
 use Rattle.bq_event_loop.specs.Known.{AreApart, AreKnown, AreStill, ChangesOnly, IsFreeSeat, IsKnown, IsListedIn, IsStillSeat, KeepsAll}
 use Rattle.bq_event_loop.specs.Known.{is_listed, is_looking, is_on}
 use Rattle.bq_event_loop.specs.Listings.{Listing}
@@ -24,12 +19,12 @@ use Rattle.bq_event_loop.specs.declared.turns.Turn.TheVariants as turns
 use Rattle.bq_event_loop.proofs.KnownLemmas.{known_as}
 
 -- The turns let the same seats act and check for a client.
-pub known_alike : {L : Type 0} (gives takes : L → Bool) (many later_many : ℕ) (listed looks later later_looks : ℕ → Bool)
+pub known_alike : {L : Type 0} (line : Line L) (many later_many : ℕ) (listed looks later later_looks : ℕ → Bool)
     (seats : List (Attendant L)) (mails : List (List Answer)) → later_many ≡ many → ((t : ℕ) → later t ≡ listed t)
     → ((t : ℕ) → later_looks t ≡ looks t)
-    → AreKnown gives takes many listed looks [] seats mails → AreKnown gives takes later_many later later_looks [] seats mails
-known_alike gives takes many later_many listed looks later later_looks seats mails same acts checks k =
-    known_as gives takes many later_many listed looks later later_looks seats mails same
+    → AreKnown line many listed looks [] seats mails → AreKnown line later_many later later_looks [] seats mails
+known_alike line many later_many listed looks later later_looks seats mails same acts checks k =
+    known_as line many later_many listed looks later later_looks seats mails same
     (λ t is on. k.apart t (sym (checks t) ∙ is) (sym (acts t) ∙ on))
     (λ t is. inl (sym (checks t) ∙ is))
     (λ t below on. inl (acts t ∙ on))
@@ -37,13 +32,13 @@ known_alike gives takes many later_many listed looks later later_looks seats mai
     k
 
 -- Nothing moves at any seat if none acts, and none checks for a client that may have come.
-pub all_still : {L : Type 0} (gives takes : L → Bool) (many : ℕ) (listed looks : ℕ → Bool) (seats : List (Attendant L))
+pub all_still : {L : Type 0} (line : Line L) (many : ℕ) (listed looks : ℕ → Bool) (seats : List (Attendant L))
     (mails : List (List Answer)) (may_come : Bool) → ((t : ℕ) → listed t ≡ false) → (may_come ≡ true → (t : ℕ) → looks t ≡ false)
-    → AreKnown gives takes many listed looks [] seats mails → AreStill gives takes may_come seats mails
-all_still gives takes many listed looks seats mails may_come none nobody k t below a = at (cases_Bool may_come) (k.known t below a) where
+    → AreKnown line many listed looks [] seats mails → AreStill line may_come seats mails
+all_still line many listed looks seats mails may_come none nobody k t below a = at (cases_Bool may_come) (k.known t below a) where
   at : (may_come ≡ true) ⊎ (may_come ≡ false)
-      → IsKnown (listed t) (looks t) (times t []) (IsStill gives takes (slice_index_or seats t a) (slice_index_or mails t []))
-      → IsStill gives takes (slice_index_or seats t a) (slice_index_or mails t [])
+      → IsKnown (listed t) (looks t) (times t []) (IsStill line (slice_index_or seats t a) (slice_index_or mails t []))
+      → IsStill line (slice_index_or seats t a) (slice_index_or mails t [])
       ⊎ (((slice_index_or seats t a).place ≡ places.Between) × (may_come ≡ false))
   at any (inl on) = let e : true ≡ false = sym on ∙ none t in absurd cc
   at (inl may) (inr (inl is)) = let e : true ≡ false = sym is ∙ nobody may t in absurd cc
@@ -52,13 +47,13 @@ all_still gives takes many listed looks seats mails may_come none nobody k t bel
   at any (inr (inr (inr still))) = inl still
 
 -- The turns heard of a seat that the system reported.
-pub known_reported : {L : Type 0} (gives takes : L → Bool) (many later_many : ℕ) (listed looks later later_looks : ℕ → Bool) (i : ℕ)
+pub known_reported : {L : Type 0} (line : Line L) (many later_many : ℕ) (listed looks later later_looks : ℕ → Bool) (i : ℕ)
     (seats after : List (Attendant L)) (mails : List (List Answer))
     → later_many ≡ many → (i < many → (looks i ≡ true → ⊥) → later i ≡ true) → KeepsAll listed later
     → ((t : ℕ) → later_looks t ≡ looks t) → (AreApart listed looks → AreApart later later_looks) → ChangesOnly i seats after
     → ((a : Attendant L) → (slice_index_or seats i a).place ≡ places.Between → (slice_index_or after i a).place ≡ places.Between)
-    → AreKnown gives takes many listed looks [] seats mails → AreKnown gives takes later_many later later_looks [] after mails
-known_reported {L} gives takes many later_many listed looks later later_looks i seats after mails same told
+    → AreKnown line many listed looks [] seats mails → AreKnown line later_many later later_looks [] after mails
+known_reported {L} line many later_many listed looks later later_looks i seats after mails same told
     keeps checks apart only between k =
     record {
       all = omega (arith, same, only.many, k.all);
@@ -75,7 +70,7 @@ known_reported {L} gives takes many later_many listed looks later later_looks i 
     place t below is a (inr (_, differs)) = ap (λ z. z.place) (only.others t differs a) ∙ k.looking t below is a
 
     mine : (t : ℕ) → t < length seats → (a : Attendant L) → t ≡ i → (looks i ≡ true) ⊎ (looks i ≡ false)
-        → IsKnown (later t) (later_looks t) (times t []) (IsStill gives takes (slice_index_or after t a) (slice_index_or mails t []))
+        → IsKnown (later t) (later_looks t) (times t []) (IsStill line (slice_index_or after t a) (slice_index_or mails t []))
     mine t below a equal (inl looking) = inr (inl (subst (λ n. later_looks n ≡ true) (sym equal) (checks i ∙ looking)))
     mine t below a equal (inr nor) =
         inl (subst (λ n. later n ≡ true) (sym equal)
@@ -88,10 +83,10 @@ known_reported {L} gives takes many later_many listed looks later later_looks i 
     other t Still (inr (inr rest)) = inr (inr rest)
 
     known : (t : ℕ) → t < length seats → (a : Attendant L) → ((t == i) ≡ true) × (t ≡ i) ⊎ ((t == i) ≡ false) × (t ≢ i)
-        → IsKnown (later t) (later_looks t) (times t []) (IsStill gives takes (slice_index_or after t a) (slice_index_or mails t []))
+        → IsKnown (later t) (later_looks t) (times t []) (IsStill line (slice_index_or after t a) (slice_index_or mails t []))
     known t below a (inl (_, equal)) = mine t below a equal (cases_Bool (looks i))
     known t below a (inr (_, differs)) =
-        subst (λ z. IsKnown (later t) (later_looks t) (times t []) (IsStill gives takes z (slice_index_or mails t [])))
+        subst (λ z. IsKnown (later t) (later_looks t) (times t []) (IsStill line z (slice_index_or mails t [])))
         (sym (only.others t differs a)) (other t _ (k.known t below a))
 
 -- The turns still let the seat of a turn act.
@@ -99,10 +94,7 @@ pub listed_on : (listed later : ℕ → Bool) (turn : Turn) → KeepsAll listed 
 listed_on listed later (turns.Serve i extent) keeps acts = keeps i acts
 listed_on listed later (turns.Look i) keeps acts = keeps i acts
 listed_on listed later (turns.HandOn i) keeps acts = keeps i acts
-listed_on listed later turns.Nothing keeps acts = tt
-listed_on listed later turns.TurnAway keeps acts = tt
-listed_on listed later (turns.Control reads) keeps acts = tt
-listed_on listed later turns.Time keeps acts = tt
+listed_on listed later _ keeps acts = tt
 
 -- No seat acts if none is on the queue and none is visited.
 pub none_acts : (l : Listing) (visited : Option ℕ) → visited ≡ None → l.queue ≡ [] → (t : ℕ) → is_listed l visited t ≡ false
@@ -122,35 +114,11 @@ free_found free looked seat seats found none s is a =
     let f = found s is in subst (λ n. (slice_index_or seats n a).place ≡ places.Between) (sym f.0) (none f.1 a)
 
 -- Nothing moves at a seat that was found still.
-pub still_found : {L : Type 0} (gives takes : L → Bool) (seats : List (Attendant L)) (mails : List (List Answer)) (i : ℕ)
-    → ((a : Attendant L) → IsStill gives takes (slice_index_or seats i a) (slice_index_or mails i []))
-    → IsStillSeat gives takes (Some i) seats mails
-still_found gives takes seats mails i still s is a =
-    subst (λ n. IsStill gives takes (slice_index_or seats n a) (slice_index_or mails n [])) (some_is i s is) (still a)
+pub still_found : {L : Type 0} (line : Line L) (seats : List (Attendant L)) (mails : List (List Answer)) (i : ℕ)
+    → ((a : Attendant L) → IsStill line (slice_index_or seats i a) (slice_index_or mails i []))
+    → IsStillSeat line (Some i) seats mails
+still_found line seats mails i still s is a =
+    subst (λ n. IsStill line (slice_index_or seats n a) (slice_index_or mails n [])) (some_is i s is) (still a)
   where
     some_is : (a b : ℕ) → Some a ≡ Some b → a ≡ b
     some_is a b e = cc
-
--- The same of equal seats and equal mail.
-pub known_of : {L : Type 0} (gives takes : L → Bool) (many : ℕ) (listed looks : ℕ → Bool) (seats later : List (Attendant L))
-    (mails after : List (List Answer)) → seats ≡ later → mails ≡ after
-    → AreKnown gives takes many listed looks [] seats mails → AreKnown gives takes many listed looks [] later after
-known_of gives takes many listed looks seats later mails after same_seats same_mails k =
-    subst (λ z. AreKnown gives takes many listed looks [] z after) same_seats
-    (subst (λ z. AreKnown gives takes many listed looks [] seats z) same_mails k)
-
-pub still_of : {L : Type 0} (gives takes : L → Bool) (still : Option ℕ) (seats later : List (Attendant L))
-    (mails after : List (List Answer)) → seats ≡ later → mails ≡ after → IsStillSeat gives takes still seats mails
-    → IsStillSeat gives takes still later after
-still_of gives takes still seats later mails after same_seats same_mails h =
-    subst (λ z. IsStillSeat gives takes still z after) same_seats (subst (λ z. IsStillSeat gives takes still seats z) same_mails h)
-
-pub so_far_of : {L D C K : Type 0} (given : Gives C) (line_seen : L → LineSeen) (lines_over : D → List LineOver) (is_out : D → Bool)
-    (same : D → D → Type 0) (machine : K → Machine) (compared : K → ℕ) (first : Beginning D C) (seats later : List (Attendant L))
-    (doors after : List D) (clock : C) (control : ControlSeen) (left : Option (List ℕ)) (core : K) → seats ≡ later → doors ≡ after
-    → IsLoopSoFar given line_seen lines_over is_out same machine compared first seats doors clock control left core
-    → IsLoopSoFar given line_seen lines_over is_out same machine compared first later after clock control left core
-so_far_of given line_seen lines_over is_out same machine compared first seats later doors after clock control left core
-    same_seats same_doors h =
-    subst (λ z. IsLoopSoFar given line_seen lines_over is_out same machine compared first z after clock control left core) same_seats
-    (subst (λ z. IsLoopSoFar given line_seen lines_over is_out same machine compared first seats z clock control left core) same_doors h)

@@ -6,6 +6,7 @@ use Rattle.bq_job.specs.declared.step.Step.{Step, TheVariants.{Drain, Gone}}
 use Rattle.bq_job.specs.promise.ControlDid.{drains, drains_from, one_if}
 use Rattle.bq_line.specs.ControlRead.{IsOver, IsReadToEnd}
 use Rattle.bq_line.specs.ControlSeen.{ControlSeen}
+use Rattle.bq_event_loop.specs.Meanings.{Control}
 use Rattle.bq_event_loop.specs.declared.control_turns.ControlTurns.{ControlTurns}
 use Rattle.bq_event_loop.specs.declared.control_turns.Stage.{Stage}
 use Rattle.bq_event_loop.specs.declared.control_turns.Stage.TheVariants as stages
@@ -43,16 +44,13 @@ IsAtStage stages.Over first left may_fail seen kept owed count told =
 
 -- A control line whose reader at first had these bytes left and may fail or not, and which has
 -- submitted these steps.
-pub record HasTold {I : Type 0} (seen : I → ControlSeen) (left : I → Option (List ℕ)) (may_fail : I → Bool)
-    (first : Option (List ℕ)) (may : Bool)
-    (c : ControlTurns I) (told : List Step) : Type 0 where
-  pub same : may_fail c.input ≡ may
+pub record HasTold {I : Type 0} (i : Control I) (first : Option (List ℕ)) (may : Bool) (c : ControlTurns I) (told : List Step)
+    : Type 0 where
+  pub same : i.may_fail c.input ≡ may
   pub count : ℕ
-  pub at_stage : IsAtStage c.stage first (left c.input) may (seen c.input) c.line (one_if c.owes_drain) count told
+  pub at_stage : IsAtStage c.stage first (i.remaining c.input) may (i.seen c.input) c.line (one_if c.owes_drain) count told
 
 -- Whatever was submitted before, these steps were submitted after it.
-abbrev pub TellsOn : {I : Type 0} → (I → ControlSeen) → (I → Option (List ℕ)) → (I → Bool) → ControlTurns I → List Step
-    → ControlTurns I → Type 0
-TellsOn seen left may_fail old more new =
-    (first : Option (List ℕ)) (may : Bool) (before : List Step) → HasTold seen left may_fail first may old before
-    → HasTold seen left may_fail first may new (before ++ more)
+pub record TellsOn {I : Type 0} (i : Control I) (old : ControlTurns I) (more : List Step) (new : ControlTurns I) : Type 0 where
+  pub on : (first : Option (List ℕ)) (may : Bool) (before : List Step) → HasTold i first may old before
+      → HasTold i first may new (before ++ more)

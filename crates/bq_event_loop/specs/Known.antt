@@ -6,6 +6,7 @@ use Rattle.bq_line.specs.declared.attendant.Attendant.{Attendant}
 use Rattle.bq_line.specs.declared.attendant.LinePlace.TheVariants as places
 use Rattle.bq_event_loop.specs.Listings.{Listing}
 use Rattle.bq_host.specs.Marks.{times}
+use Rattle.bq_event_loop.specs.Meanings.{Line}
 use Rattle.bq_event_loop.specs.Still.{IsStill}
 use Rattle.bq_event_loop.specs.declared.turns.Turn.{Turn}
 use Rattle.bq_event_loop.specs.declared.turns.Turn.TheVariants as turns
@@ -26,21 +27,20 @@ AreApart listed looks = (seat : ℕ) → looks seat ≡ true → listed seat ≡
 
 -- No seat is forgotten. The turns, which know this many seats, let `listed` act, and let `looks`
 -- check for a client. These seats are to be woken.
-pub record AreKnown {L : Type 0} (gives takes : L → Bool) (many : ℕ) (listed looks : ℕ → Bool) (woken : List ℕ)
+pub record AreKnown {L : Type 0} (l : Line L) (many : ℕ) (listed looks : ℕ → Bool) (woken : List ℕ)
     (seats : List (Attendant L)) (mails : List (List Answer)) : Type 0 where
   pub all : length seats ≤ many
   pub apart : AreApart listed looks
   pub looking : (seat : ℕ) → seat < length seats → looks seat ≡ true → (a : Attendant L)
       → (slice_index_or seats seat a).place ≡ places.Between
   pub known : (seat : ℕ) → seat < length seats → (a : Attendant L)
-      → IsKnown (listed seat) (looks seat) (times seat woken) (IsStill gives takes (slice_index_or seats seat a) (slice_index_or mails
-      seat []))
+      → IsKnown (listed seat) (looks seat) (times seat woken) (IsStill l (slice_index_or seats seat a) (slice_index_or mails seat []))
 
 -- Nothing moves at any seat: its next action would move nothing, or it checks for a client, and none
 -- can have come.
-abbrev pub AreStill : {L : Type 0} → (L → Bool) → (L → Bool) → Bool → List (Attendant L) → List (List Answer) → Type 0
-AreStill {L} gives takes may_come seats mails = (seat : ℕ) → seat < length seats → (a : Attendant L)
-    → IsStill gives takes (slice_index_or seats seat a) (slice_index_or mails seat [])
+abbrev pub AreStill : {L : Type 0} → Line L → Bool → List (Attendant L) → List (List Answer) → Type 0
+AreStill {L} l may_come seats mails = (seat : ℕ) → seat < length seats → (a : Attendant L)
+    → IsStill l (slice_index_or seats seat a) (slice_index_or mails seat [])
     ⊎ (((slice_index_or seats seat a).place ≡ places.Between) × (may_come ≡ false))
 
 -- At most this seat was changed.
@@ -65,9 +65,9 @@ abbrev pub IsFreeSeat : {L : Type 0} → Option ℕ → List (Attendant L) → T
 IsFreeSeat {L} free seats = (seat : ℕ) → free ≡ Some seat → (a : Attendant L) → (slice_index_or seats seat a).place ≡ places.Between
 
 -- Nothing moves at the still seat.
-abbrev pub IsStillSeat : {L : Type 0} → (L → Bool) → (L → Bool) → Option ℕ → List (Attendant L) → List (List Answer) → Type 0
-IsStillSeat {L} gives takes still seats mails = (seat : ℕ) → still ≡ Some seat → (a : Attendant L)
-    → IsStill gives takes (slice_index_or seats seat a) (slice_index_or mails seat [])
+abbrev pub IsStillSeat : {L : Type 0} → Line L → Option ℕ → List (Attendant L) → List (List Answer) → Type 0
+IsStillSeat {L} l still seats mails = (seat : ℕ) → still ≡ Some seat → (a : Attendant L)
+    → IsStill l (slice_index_or seats seat a) (slice_index_or mails seat [])
 
 -- All that were let act still are.
 abbrev pub KeepsAll : (ℕ → Bool) → (ℕ → Bool) → Type 0
@@ -88,8 +88,8 @@ abbrev pub is_looking : Listing → ℕ → Bool
 is_looking l seat = is_on l.free seat
 
 -- The same for a queue of seats and the seat that is visited. None is to be woken.
-abbrev pub AreKnownTo : {L : Type 0} → (L → Bool) → (L → Bool) → Listing → Option ℕ → List (Attendant L) → List (List Answer) → Type 0
-AreKnownTo gives takes l visited seats mails = AreKnown gives takes l.seats (is_listed l visited) (is_looking l) [] seats mails
+abbrev pub AreKnownTo : {L : Type 0} → Line L → Listing → Option ℕ → List (Attendant L) → List (List Answer) → Type 0
+AreKnownTo l lists visited seats mails = AreKnown l lists.seats (is_listed lists visited) (is_looking lists) [] seats mails
 
 -- Both lists have the same seats.
 pub record AreSameLists (old new : Listing) : Type 0 where

@@ -3,7 +3,9 @@ pub mod ControlTold
 pub mod ControlWatching
 pub mod EventLoopRuns
 pub mod Known
+pub mod KnownTurns
 pub mod Listings
+pub mod Meanings
 pub mod NewLoops
 pub mod Refused
 pub mod Reports

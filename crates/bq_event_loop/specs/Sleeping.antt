@@ -2,11 +2,10 @@
 use Rattle.std.specs.Prelude.{ℕ, ◌≡◌, ◌≤◌, ◌⊎◌, Bool, true, false, List, [], Option, Some, None}
 use Rattle.bq_job.specs.beside.NextDue.{next_due}
 use Rattle.bq_job.specs.declared.answer.Answer.{Answer}
-use Rattle.bq_job.specs.machine.Machine.{Machine}
 use Rattle.bq_line.specs.declared.attendant.Attendant.{Attendant}
 use Rattle.bq_host.specs.DueTimes.{IsWithinDue}
 use Rattle.bq_event_loop.specs.Known.{AreIdle, AreKnown}
-use Rattle.bq_host.specs.Hubs.{state_of}
+use Rattle.bq_event_loop.specs.Meanings.{Core, Line, state}
 use Rattle.bq_event_loop.specs.declared.control_turns.ControlTurns.{ControlTurns}
 use Rattle.bq_event_loop.specs.declared.control_turns.Stage.{Stage}
 use Rattle.bq_event_loop.specs.declared.control_turns.Stage.TheVariants as stages
@@ -52,13 +51,13 @@ is_awaited watch = false
 
 -- The core has sorted all answers into the mail of their seats, and a wait of at most this many
 -- milliseconds ends no later than what is due.
-pub record MayWait {C K : Type 0} (machine : K → Machine) (compared : K → ℕ) (most : Option ℕ) (core : Hub C K) : Type 0 where
-  pub sorted : (state_of machine compared core).pending ≡ []
-  pub in_time : IsWithinDue most (next_due (machine core.timed.core)) core.timed.time.moment
+pub record MayWait {C K : Type 0} (k : Core K) (most : Option ℕ) (core : Hub C K) : Type 0 where
+  pub sorted : (state k core).pending ≡ []
+  pub in_time : IsWithinDue most (next_due (k.machine core.timed.core)) core.timed.time.moment
 
 -- The same, or there is to be no wait at all.
-abbrev pub IsWaitFor : {C K : Type 0} → (K → Machine) → (K → ℕ) → Option ℕ → Hub C K → Type 0
-IsWaitFor machine compared most core = (most ≡ Some 0) ⊎ MayWait machine compared most core
+abbrev pub IsWaitFor : {C K : Type 0} → Core K → Option ℕ → Hub C K → Type 0
+IsWaitFor k most core = (most ≡ Some 0) ⊎ MayWait k most core
 
 -- Something is left to do before a wait: a seat acts, or checks for a client that may have come,
 -- connections are left to close, something is due now, or the control line owes a step or is read.
@@ -68,13 +67,13 @@ HasWork may_come listed looks are_more_away due standing reads =
 
 -- What holds between two turns. No seat is forgotten, and each seat that has mail was woken for it.
 -- A wait of `due` milliseconds ends in time. The control line stands so.
-pub record IsAtTurn {L C I K : Type 0} (gives takes : L → Bool) (machine : K → Machine) (compared : K → ℕ) (many : ℕ)
+pub record IsAtTurn {L C I K : Type 0} (l : Line L) (k : Core K) (many : ℕ)
     (listed looks : ℕ → Bool) (seats : List (Attendant L)) (mails : List (List Answer)) (due : Option ℕ) (standing : ControlStands)
     (core : Hub C K) (control : ControlTurns I) : Type 0 where
-  pub known : AreKnown gives takes many listed looks [] seats mails
+  pub known : AreKnown l many listed looks [] seats mails
   pub mails_are : mails ≡ core.mails.items
   pub woken : core.woken.waiting ≡ []
-  pub in_time : IsWaitFor machine compared due core
+  pub in_time : IsWaitFor k due core
   pub stands : standing ≡ stands_of control.owes_drain control.stage
 
 -- A wait that is no longer than this limit. `None` stands for one without a limit.

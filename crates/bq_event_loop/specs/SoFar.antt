@@ -13,6 +13,9 @@ use Rattle.bq_line.specs.Tending.{AreSame}
 use Rattle.bq_line.specs.declared.attendant.Attendant.{Attendant}
 use Rattle.bq_line.specs.declared.attendant.LinePlace.{LinePlace}
 use Rattle.bq_line.specs.declared.attendant.LinePlace.TheVariants as places
+use Rattle.bq_event_loop.specs.Meanings.{Clock, Control, Core, Door, Line}
+use Rattle.bq_event_loop.specs.declared.turns.Began.{Began}
+use Rattle.bq_event_loop.specs.declared.turns.SoFar.{SoFar}
 
 -- the connection that a seat serves
 abbrev pub line_out : {L : Type 0} → (L → LineSeen) → LinePlace L → Option LineSeen
@@ -39,6 +42,11 @@ abbrev pub beginning : {D C : Type 0} → Settings → List D → C → Option (
 beginning settings doors clock left may_fail =
     record { settings = settings; doors = doors; clock = clock; left = left; may_fail = may_fail }
 
+-- of what a run is passed
+abbrev pub began_with : {D C I : Type 0} → Control I → Began D C I → Beginning D C
+began_with i b =
+    beginning b.config.value b.doors.value.items b.clock.value (i.remaining b.control.value) (i.may_fail b.control.value)
+
 -- A run that began so, with these seats and doors, this clock, control line and core now. Its fields are
 -- those of `IsEventLoopRun`, and its doors are those that it began with.
 pub record IsLoopSoFar {L D C K : Type 0} (given : Gives C) (line_seen : L → LineSeen) (lines_over : D → List LineOver)
@@ -52,3 +60,10 @@ pub record IsLoopSoFar {L D C K : Type 0} (given : Gives C) (line_seen : L → L
       readings (machine core)
   pub compared : AreCompared (new_machine first.settings) history.history history.given (machine core) 0 (comparisons core)
   pub same_doors : AreSame same first.doors doors
+
+-- The same at a turn.
+abbrev pub IsLoopAtTurn : {L D C I K : Type 0} → Clock C → Line L → Door D L → Control I → Core K → Began D C I → SoFar L D C I K → Type 0
+IsLoopAtTurn c l d i k began so_far =
+    IsLoopSoFar c.given l.seen d.lines_over d.is_out d.same k.machine k.comparisons (began_with i began)
+    so_far.seats.value.items so_far.doors.value.items so_far.clock.value (i.seen so_far.control.value)
+    (i.remaining so_far.control.value) so_far.core.value

@@ -37,7 +37,7 @@ impl<I: ControlInput> ControlTurns<I> {
     /// Returns a control line of which nothing was read.
     pub fn new(input: I) -> ControlTurns<I>
         requires new { I.seen input ≡ new_control }
-        ensures { HasTold I.seen I.remaining I.may_fail (I.remaining input) (I.may_fail input) result [] }
+        ensures { HasTold I.ControlInput (I.remaining input) (I.may_fail input) result [] }
     {
         ControlTurns {
             input,
@@ -87,7 +87,7 @@ impl<I: ControlInput> ControlTurns<I> {
 
     /// Notes that this step was submitted.
     pub fn note_submitted(&mut self)
-        ensures { TellsOn I.seen I.remaining I.may_fail self.old
+        ensures { TellsOn I.ControlInput self.old
             (option_to_list (owed_by self.old.owes_drain self.old.stage)) self.new }
     {
         if self.owes_drain {
@@ -101,7 +101,7 @@ impl<I: ControlInput> ControlTurns<I> {
 
     /// Reads once, unless a step has to be submitted first or everything was read.
     pub fn read(&mut self)
-        ensures { TellsOn I.seen I.remaining I.may_fail self.old [] self.new }
+        ensures { TellsOn I.ControlInput self.old [] self.new }
     {
         if self.owes_drain {
             return;
@@ -115,7 +115,7 @@ impl<I: ControlInput> ControlTurns<I> {
     fn read_on(&mut self)
         requires none_owed { self.old.owes_drain ≡ false }
         requires more { self.old.stage ≡ stages.Reads }
-        ensures { TellsOn I.seen I.remaining I.may_fail self.old [] self.new }
+        ensures { TellsOn I.ControlInput self.old [] self.new }
     {
         match self.input.next() {
             Heard::Byte(byte) => {

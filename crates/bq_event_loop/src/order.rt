@@ -90,11 +90,11 @@ impl Order {
         mails: &Snapshot<Vec<Mail, Global>>,
         news: &News,
     ) -> Turn
-        requires known { AreKnownTo L.may_give L.may_take self.old.queue (visited_by self.old.stage self.old.visit)
+        requires known { AreKnownTo L.Line self.old.queue (visited_by self.old.stage self.old.visit)
             seats.now.value.items mails.now.value.items }
-        requires still { IsStillSeat L.may_give L.may_take news.now.still seats.now.value.items mails.now.value.items }
+        requires still { IsStillSeat L.Line news.now.still seats.now.value.items mails.now.value.items }
         requires free { IsFreeSeat news.now.free seats.now.value.items }
-        ensures known { AreKnownTo L.may_give L.may_take self.new.queue (visited_by self.new.stage self.new.visit)
+        ensures known { AreKnownTo L.Line self.new.queue (visited_by self.new.stage self.new.visit)
             seats.now.value.items mails.now.value.items }
         ensures acts { IsListedIn (is_listed self.new.queue (visited_by self.new.stage self.new.visit)) result }
         ensures seats { self.new.queue.seats ≡ self.old.queue.seats }
@@ -128,8 +128,8 @@ impl Order {
         mails: &Snapshot<Vec<Mail, Global>>,
         news: &News,
     ) -> Turn
-        requires known { AreKnownTo L.may_give L.may_take self.old.queue None seats.now.value.items mails.now.value.items }
-        ensures known { AreKnownTo L.may_give L.may_take self.new.queue (visited_by self.new.stage self.new.visit)
+        requires known { AreKnownTo L.Line self.old.queue None seats.now.value.items mails.now.value.items }
+        ensures known { AreKnownTo L.Line self.new.queue (visited_by self.new.stage self.new.visit)
             seats.now.value.items mails.now.value.items }
         ensures acts { IsListedIn (is_listed self.new.queue (visited_by self.new.stage self.new.visit)) result }
         ensures seats { self.new.queue.seats ≡ self.old.queue.seats }
@@ -150,8 +150,8 @@ impl Order {
         mails: &Snapshot<Vec<Mail, Global>>,
         may_come: bool,
     ) -> Turn
-        requires known { AreKnownTo L.may_give L.may_take self.old.queue None seats.now.value.items mails.now.value.items }
-        ensures known { AreKnownTo L.may_give L.may_take self.new.queue (visited_by self.new.stage self.new.visit)
+        requires known { AreKnownTo L.Line self.old.queue None seats.now.value.items mails.now.value.items }
+        ensures known { AreKnownTo L.Line self.new.queue (visited_by self.new.stage self.new.visit)
             seats.now.value.items mails.now.value.items }
         ensures acts { IsListedIn (is_listed self.new.queue (visited_by self.new.stage self.new.visit)) result }
         ensures seats { self.new.queue.seats ≡ self.old.queue.seats }
@@ -176,9 +176,9 @@ impl Order {
         seat: usize,
         free: Option<usize>,
     )
-        requires known { AreKnownTo L.may_give L.may_take self.old.queue (Some seat) seats.now.value.items mails.now.value.items }
+        requires known { AreKnownTo L.Line self.old.queue (Some seat) seats.now.value.items mails.now.value.items }
         requires free { IsFreeSeat free seats.now.value.items }
-        ensures known { AreKnownTo L.may_give L.may_take self.new.queue None seats.now.value.items mails.now.value.items }
+        ensures known { AreKnownTo L.Line self.new.queue None seats.now.value.items mails.now.value.items }
         ensures seats { self.new.queue.seats ≡ self.old.queue.seats }
     {
         if is_this(free, seat) {
@@ -197,8 +197,8 @@ impl Order {
         seats: &Snapshot<Vec<Attendant<L>, Global>>,
         mails: &Snapshot<Vec<Mail, Global>>,
     ) -> Turn
-        requires known { AreKnownTo L.may_give L.may_take self.old.queue None seats.now.value.items mails.now.value.items }
-        ensures known { AreKnownTo L.may_give L.may_take self.new.queue (visited_by self.new.stage self.new.visit)
+        requires known { AreKnownTo L.Line self.old.queue None seats.now.value.items mails.now.value.items }
+        ensures known { AreKnownTo L.Line self.new.queue (visited_by self.new.stage self.new.visit)
             seats.now.value.items mails.now.value.items }
         ensures acts { IsListedIn (is_listed self.new.queue (visited_by self.new.stage self.new.visit)) result }
         ensures seats { self.new.queue.seats ≡ self.old.queue.seats }
@@ -221,10 +221,10 @@ impl Order {
         part: Part,
         news: &News,
     ) -> Turn
-        requires known { AreKnownTo L.may_give L.may_take self.old.queue (Some self.old.visit.seat)
+        requires known { AreKnownTo L.Line self.old.queue (Some self.old.visit.seat)
             seats.now.value.items mails.now.value.items }
-        requires still { IsStillSeat L.may_give L.may_take news.now.still seats.now.value.items mails.now.value.items }
-        ensures known { AreKnownTo L.may_give L.may_take self.new.queue (visited_by self.new.stage self.new.visit)
+        requires still { IsStillSeat L.Line news.now.still seats.now.value.items mails.now.value.items }
+        ensures known { AreKnownTo L.Line self.new.queue (visited_by self.new.stage self.new.visit)
             seats.now.value.items mails.now.value.items }
         ensures acts { IsListedIn (is_listed self.new.queue (visited_by self.new.stage self.new.visit)) result }
         ensures seats { self.new.queue.seats ≡ self.old.queue.seats }
@@ -245,8 +245,8 @@ impl Order {
         mails: &Snapshot<Vec<Mail, Global>>,
         part: Part,
     ) -> Turn
-        requires known { AreKnownTo L.may_give L.may_take self.old.queue None seats.now.value.items mails.now.value.items }
-        ensures known { AreKnownTo L.may_give L.may_take self.new.queue (visited_by self.new.stage self.new.visit)
+        requires known { AreKnownTo L.Line self.old.queue None seats.now.value.items mails.now.value.items }
+        ensures known { AreKnownTo L.Line self.new.queue (visited_by self.new.stage self.new.visit)
             seats.now.value.items mails.now.value.items }
         ensures acts { IsListedIn (is_listed self.new.queue (visited_by self.new.stage self.new.visit)) result }
         ensures seats { self.new.queue.seats ≡ self.old.queue.seats }
@@ -322,10 +322,10 @@ impl Order {
         part: Part,
         news: &News,
     ) -> Option<Turn>
-        requires known { AreKnownTo L.may_give L.may_take self.old.queue (Some self.old.visit.seat)
+        requires known { AreKnownTo L.Line self.old.queue (Some self.old.visit.seat)
             seats.now.value.items mails.now.value.items }
-        requires still { IsStillSeat L.may_give L.may_take news.now.still seats.now.value.items mails.now.value.items }
-        ensures known { AreKnownTo L.may_give L.may_take self.new.queue (visited_by self.new.stage self.new.visit)
+        requires still { IsStillSeat L.Line news.now.still seats.now.value.items mails.now.value.items }
+        ensures known { AreKnownTo L.Line self.new.queue (visited_by self.new.stage self.new.visit)
             seats.now.value.items mails.now.value.items }
         ensures acts { IfSome result (IsListedIn (is_listed self.new.queue (visited_by self.new.stage self.new.visit))) }
         ensures ended { result ≡ None → visited_by self.new.stage self.new.visit ≡ None }
@@ -351,9 +351,9 @@ impl Order {
         pause: Pause,
         still: Option<usize>,
     ) -> Option<Turn>
-        requires known { AreKnownTo L.may_give L.may_take self.old.queue (Some seat) seats.now.value.items mails.now.value.items }
-        requires still { IsStillSeat L.may_give L.may_take still seats.now.value.items mails.now.value.items }
-        ensures known { AreKnownTo L.may_give L.may_take self.new.queue (visited_by self.new.stage self.new.visit)
+        requires known { AreKnownTo L.Line self.old.queue (Some seat) seats.now.value.items mails.now.value.items }
+        requires still { IsStillSeat L.Line still seats.now.value.items mails.now.value.items }
+        ensures known { AreKnownTo L.Line self.new.queue (visited_by self.new.stage self.new.visit)
             seats.now.value.items mails.now.value.items }
         ensures acts { IfSome result (IsListedIn (is_listed self.new.queue (visited_by self.new.stage self.new.visit))) }
         ensures ended { result ≡ None → visited_by self.new.stage self.new.visit ≡ None }
@@ -391,9 +391,9 @@ impl Order {
         seat: usize,
         still: Option<usize>,
     )
-        requires known { AreKnownTo L.may_give L.may_take self.old.queue (Some seat) seats.now.value.items mails.now.value.items }
-        requires still { IsStillSeat L.may_give L.may_take still seats.now.value.items mails.now.value.items }
-        ensures known { AreKnownTo L.may_give L.may_take self.new.queue None seats.now.value.items mails.now.value.items }
+        requires known { AreKnownTo L.Line self.old.queue (Some seat) seats.now.value.items mails.now.value.items }
+        requires still { IsStillSeat L.Line still seats.now.value.items mails.now.value.items }
+        ensures known { AreKnownTo L.Line self.new.queue None seats.now.value.items mails.now.value.items }
         ensures seats { self.new.queue.seats ≡ self.old.queue.seats }
     {
         if !is_this(still, seat) {
@@ -408,8 +408,8 @@ impl Order {
         mails: &Snapshot<Vec<Mail, Global>>,
         seat: usize,
     )
-        requires known { AreKnownTo L.may_give L.may_take self.old.queue (Some seat) seats.now.value.items mails.now.value.items }
-        ensures known { AreKnownTo L.may_give L.may_take self.new.queue None seats.now.value.items mails.now.value.items }
+        requires known { AreKnownTo L.Line self.old.queue (Some seat) seats.now.value.items mails.now.value.items }
+        ensures known { AreKnownTo L.Line self.new.queue None seats.now.value.items mails.now.value.items }
         ensures seats { self.new.queue.seats ≡ self.old.queue.seats }
     {
         self.queue.enqueue(seat);

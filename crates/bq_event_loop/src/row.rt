@@ -83,8 +83,8 @@ impl<L: Line + Drop, D: Door<Line = L>> Row<L, D> {
         may_have_come: bool,
         watcher: &W,
     ) -> Looked
-        requires tended { AreTended L.seen (door_seen D.is_out D.is_at_end D.lines_over) self.old }
-        ensures keeps { KeepsRow L.seen (door_seen D.is_out D.is_at_end D.lines_over) D.same self.old self.new }
+        requires tended { AreTended L.Line D.Door self.old }
+        ensures keeps { KeepsRow L.Line D.Door self.old self.new }
         ensures only { ChangesOnly seat self.old.seats.items self.new.seats.items }
         // Without a connection the seat is still between two connections.
         ensures none { (result ≡ Looked.NotYet) ⊎ (result ≡ Looked.Later) → (a : Attendant L)
@@ -104,8 +104,8 @@ impl<L: Line + Drop, D: Door<Line = L>> Row<L, D> {
 
     /// Notes what the connection of a seat is ready for, as the system reported it.
     pub fn note_ready(&mut self, seat: usize, ready: Readiness)
-        requires tended { AreTended L.seen (door_seen D.is_out D.is_at_end D.lines_over) self.old }
-        ensures keeps { KeepsRow L.seen (door_seen D.is_out D.is_at_end D.lines_over) D.same self.old self.new }
+        requires tended { AreTended L.Line D.Door self.old }
+        ensures keeps { KeepsRow L.Line D.Door self.old self.new }
         ensures only { ChangesOnly seat self.old.seats.items self.new.seats.items }
         ensures between { (a : Attendant L) → (slice_index_or self.old.seats.items seat a).place ≡ LinePlace.Between
             → (slice_index_or self.new.seats.items seat a).place ≡ LinePlace.Between }
@@ -119,8 +119,8 @@ impl<L: Line + Drop, D: Door<Line = L>> Row<L, D> {
     /// between two connections swaps that of its door, which drops what the last connection left in
     /// it.
     pub fn exchange(&mut self, seat: usize, buffer: &mut ReadBuffer)
-        requires tended { AreTended L.seen (door_seen D.is_out D.is_at_end D.lines_over) self.old }
-        ensures keeps { KeepsRow L.seen (door_seen D.is_out D.is_at_end D.lines_over) D.same self.old self.new }
+        requires tended { AreTended L.Line D.Door self.old }
+        ensures keeps { KeepsRow L.Line D.Door self.old self.new }
         ensures only { ChangesOnly seat self.old.seats.items self.new.seats.items }
     {
         if seat < self.seats.len() {
@@ -132,7 +132,7 @@ impl<L: Line + Drop, D: Door<Line = L>> Row<L, D> {
     /// `has_none` says that it has no mail now.
     pub fn is_still(&self, seat: usize, has_none: bool) -> bool
         ensures { result ≡ true → (mail : List Answer) → (has_none ≡ true → mail ≡ []) → (a : Attendant L)
-            → IsStill L.may_give L.may_take (slice_index_or self.now.seats.items seat a) mail }
+            → IsStill L.Line (slice_index_or self.now.seats.items seat a) mail }
     {
         match self.seats.get(seat) {
             Some(seat) => is_still(seat, has_none),
@@ -142,8 +142,8 @@ impl<L: Line + Drop, D: Door<Line = L>> Row<L, D> {
 
     /// Sends what the connection of a seat holds back in the expectation of more answers.
     pub fn hand_on(&mut self, seat: usize)
-        requires tended { AreTended L.seen (door_seen D.is_out D.is_at_end D.lines_over) self.old }
-        ensures keeps { KeepsRow L.seen (door_seen D.is_out D.is_at_end D.lines_over) D.same self.old self.new }
+        requires tended { AreTended L.Line D.Door self.old }
+        ensures keeps { KeepsRow L.Line D.Door self.old self.new }
         ensures only { ChangesOnly seat self.old.seats.items self.new.seats.items }
     {
         if seat < self.seats.len() {

@@ -169,7 +169,7 @@ fn new_loop<
     sleeper: Result<W, TurnsFault>,
 ) -> Result<NewLoop<T, W, L, C, K>, RunFault>
     ensures doors { IfOk result (λ made. doors ≡ config.seats) }
-    ensures new { IfOk result (λ made. IsNewLoop K.machine K.comparisons config clock made.parts) }
+    ensures new { IfOk result (λ made. IsNewLoop K.QueueCore config clock made.parts) }
     ensures turns { IfOk result (λ made. turns ≡ Ok made.turns) }
     ensures bad_configuration { IsErrOf result RunFault.BadConfiguration
         ↔ IsTrue (not (are_in_range config && doors == config.seats)) }
@@ -215,7 +215,7 @@ fn new_parts<L: Line + Drop, C: Clock + Drop, K: QueueCore + Drop>(
     clock: C,
 ) -> Result<NewParts<L, C, K>, RunFault>
     ensures doors { IfOk result (λ made. doors ≡ config.seats) }
-    ensures new { IfOk result (IsNewLoop K.machine K.comparisons config clock) }
+    ensures new { IfOk result (IsNewLoop K.QueueCore config clock) }
     ensures bad_configuration { IsErrOf result RunFault.BadConfiguration
         ↔ IsTrue (not (are_in_range config && doors == config.seats)) }
 {
@@ -291,7 +291,7 @@ fn run_at<
     turns: &mut T,
     sleeper: &mut W,
 ) -> EventLoopRun<L, D, C, I, K>
-    requires new { IsNewLoop K.machine K.comparisons config parts.core.timed.time.clock parts }
+    requires new { IsNewLoop K.QueueCore config parts.core.timed.time.clock parts }
     requires doored { length doors.items ≡ config.seats }
     requires of_run { T.is_of (beginning config doors.items parts.core.timed.time.clock (I.remaining control) (I.may_fail control)) }
     requires knows { KnowsAll config.seats (T.seats turns.old) (T.listed turns.old) (T.looks turns.old) }

@@ -1,14 +1,13 @@
 //! Many seats, which one thread serves in any order.
-ghost use Rattle.std.specs.Prelude.{◌≡◌, ◌<◌, ◌≤◌, true, false, [], List, length, slice_index_or};
-ghost use Rattle.bq_job.specs.declared.step.Step.{Step};
-ghost use Rattle.bq_line.specs.Tending.{door_seen};
-ghost use Rattle.bq_event_loop.specs.ControlTold.{TellsOn};
+ghost use Rattle.std.specs.Prelude.{◌≡◌, ◌<◌, ◌≤◌, true, false, [], length, slice_index_or};
 ghost use Rattle.bq_host.specs.MailStates.{IsInOrder};
-ghost use Rattle.bq_event_loop.specs.Known.{AreKnown, ChangesOnly, ChangesOnlyIn, KeepsAll};
-ghost use Rattle.bq_host.specs.Hubs.{WentAt, WentInOrder, state_of};
+ghost use Rattle.bq_event_loop.specs.Known.{ChangesOnly, ChangesOnlyIn, KeepsAll};
+ghost use Rattle.bq_event_loop.specs.KnownTurns.{AreKnownBy};
+ghost use Rattle.bq_event_loop.specs.Meanings.{state};
+ghost use Rattle.bq_host.specs.Hubs.{WentInOrder};
 ghost use Rattle.bq_event_loop.specs.Rows.{AreDone, AreTended, KeepsRow};
-ghost use Rattle.bq_event_loop.specs.Serving.{AreReady, AreReadyFor, IsServing, ServesOn, TurnServes};
-ghost use Rattle.bq_event_loop.specs.SoFar.{beginning};
+ghost use Rattle.bq_event_loop.specs.Serving.{AreReady, AreReadyFor, ControlWent, IsServing, LoopWent, TurnServes};
+ghost use Rattle.bq_event_loop.specs.SoFar.{began_with};
 ghost use Rattle.bq_event_loop.specs.Sleeping.{IsWaitFor, stands_of};
 ghost use Rattle.bq_host.specs.WakeLists.{Wakes, none_waits};
 ghost use Rattle.bq_event_loop.specs.declared.control_turns.Stage.TheVariants as stages;
@@ -62,20 +61,16 @@ pub fn serve<
     buffers: &mut Buffers,
     buffer: &mut ReadBuffer,
 ) -> bool
-    requires ready { AreReady K.machine K.comparisons L.seen (door_seen D.is_out D.is_at_end D.lines_over) core.old row.old }
-    requires of_run { T.is_of (beginning began.now.config.value began.now.doors.value.items began.now.clock.value
-        (I.remaining began.now.control.value) (I.may_fail began.now.control.value)) }
-    requires serving { IsServing C.given L.seen (door_seen D.is_out D.is_at_end D.lines_over) D.same I.seen I.remaining I.may_fail
-        K.machine K.comparisons (beginning began.now.config.value began.now.doors.value.items began.now.clock.value
-        (I.remaining began.now.control.value) (I.may_fail began.now.control.value)) core.old row.old control.old }
-    requires known { AreKnown L.may_give L.may_take (T.seats turns.old) (T.listed turns.old) (T.looks turns.old) []
-        row.old.seats.items core.old.mails.items }
+    requires ready { AreReady K.QueueCore L.Line D.Door core.old row.old }
+    requires of_run { T.is_of (began_with I.ControlInput began.now) }
+    requires serving { IsServing K.QueueCore C.Clock L.Line D.Door I.ControlInput
+        (began_with I.ControlInput began.now) core.old row.old control.old }
+    requires known { AreKnownBy L.Line T.Turns turns.old [] row.old.seats.items core.old.mails.items }
     requires woken { core.old.woken ≡ none_waits (length core.old.mails.items) }
     ensures done { result ≡ true → AreDone row.new.seats.items }
     ensures over { result ≡ true → control.new.stage ≡ stages.Over }
-    ensures served { (told : List Step) × TellsOn I.seen I.remaining I.may_fail control.old told control.new
-        × ServesOn K.machine K.comparisons C.given L.seen (door_seen D.is_out D.is_at_end D.lines_over) D.same
-        core.old row.old told core.new row.new }
+    ensures served { LoopWent K.QueueCore C.Clock L.Line D.Door I.ControlInput core.old row.old control.old
+        core.new row.new control.new }
 {
     let mut doors = Doors::new();
     let stands = control.stands();
@@ -157,16 +152,17 @@ fn take_turn<
     buffer: &mut ReadBuffer,
     news: &mut News,
 ) -> bool
-    requires ready { AreReady K.machine K.comparisons L.seen (door_seen D.is_out D.is_at_end D.lines_over) core.old row.old }
+    requires ready { AreReady K.QueueCore L.Line D.Door core.old row.old }
     ensures done { result ≡ true → AreDone row.new.seats.items }
     ensures over { result ≡ true → control.new.stage ≡ stages.Over }
-    ensures served { (told : List Step) × TellsOn I.seen I.remaining I.may_fail control.old told control.new
-        × TurnServes K.machine K.comparisons C.given L.seen (door_seen D.is_out D.is_at_end D.lines_over) D.same
-        core.old row.old told core.new row.new }
+    ensures order { IsInOrder (state K.QueueCore core.new) }
+    ensures tended { AreTended L.Line D.Door row.new }
+    ensures served { LoopWent K.QueueCore C.Clock L.Line D.Door I.ControlInput core.old row.old control.old
+        core.new row.new control.new }
     ensures only { ChangesOnlyIn turn row.old.seats.items row.new.seats.items }
     ensures wakes { Wakes core.old.mails.items core.new.mails.items core.old.woken core.new.woken }
-    ensures due { result ≡ false → IsWaitFor K.machine K.comparisons news.old.due core.old
-        → IsWaitFor K.machine K.comparisons news.new.due core.new }
+    ensures due { result ≡ false → IsWaitFor K.QueueCore news.old.due core.old
+        → IsWaitFor K.QueueCore news.new.due core.new }
     ensures stands { news.old.control ≡ stands_of control.old.owes_drain control.old.stage
         → news.new.control ≡ stands_of control.new.owes_drain control.new.stage }
 {
@@ -196,9 +192,9 @@ fn take_turn<
 // Passes time. Returns how long the loop may wait, in milliseconds: not at all if an answer is left
 // to be sorted.
 fn pass_time<C: Clock + Drop, K: QueueCore + Drop>(core: &mut Hub<C, K>) -> Option<u64>
-    requires order { IsInOrder (state_of K.machine K.comparisons core.old) }
+    requires order { IsInOrder (state K.QueueCore core.old) }
     ensures went { WentInOrder K.machine K.comparisons C.given 0 core.old [] [] core.new }
-    ensures due { IsWaitFor K.machine K.comparisons result core.new }
+    ensures due { IsWaitFor K.QueueCore result core.new }
 {
     let due = core.pass_time();
     if core.is_sorted { due } else { Some(0) }
@@ -221,10 +217,8 @@ fn wake_all<T: Turns, L: Line + Drop, D: Door<Line = L>, C: Clock + Drop, K: Que
     row: &Row<L, D>,
     core: &mut Hub<C, K>,
 )
-    requires known { AreKnown L.may_give L.may_take (T.seats turns.old) (T.listed turns.old) (T.looks turns.old)
-        core.old.woken.waiting row.now.seats.items core.old.mails.items }
-    ensures known { AreKnown L.may_give L.may_take (T.seats turns.new) (T.listed turns.new) (T.looks turns.new) []
-        row.now.seats.items core.new.mails.items }
+    requires known { AreKnownBy L.Line T.Turns turns.old core.old.woken.waiting row.now.seats.items core.old.mails.items }
+    ensures known { AreKnownBy L.Line T.Turns turns.new [] row.now.seats.items core.new.mails.items }
     ensures keeps { KeepsAll (T.listed turns.old) (T.listed turns.new) }
     ensures none { core.new.woken ≡ none_waits core.old.woken.seats }
     ensures rest { core.new ≡ record core.old { woken = core.new.woken } }
@@ -245,9 +239,8 @@ fn serve_seat<L: Line + Drop, D: Door<Line = L>, C: Clock + Drop, K: QueueCore +
     buffer: &mut ReadBuffer,
     extent: Extent,
 ) -> Progress
-    requires ready { AreReady K.machine K.comparisons L.seen (door_seen D.is_out D.is_at_end D.lines_over) core.old row.old }
-    ensures served { TurnServes K.machine K.comparisons C.given L.seen (door_seen D.is_out D.is_at_end D.lines_over) D.same
-        core.old row.old [] core.new row.new }
+    requires ready { AreReady K.QueueCore L.Line D.Door core.old row.old }
+    ensures served { TurnServes K.QueueCore C.Clock L.Line D.Door core.old row.old core.new row.new }
     ensures only { ChangesOnly seat row.old.seats.items row.new.seats.items }
     ensures wakes { Wakes core.old.mails.items core.new.mails.items core.old.woken core.new.woken }
     ensures between { (a : Attendant L) → (slice_index_or row.old.seats.items seat a).place ≡ places.Between
@@ -300,9 +293,8 @@ fn act_with_buffer<L: Line + Drop, D: Door<Line = L>, C: Clock + Drop, K: QueueC
     buffer: &mut ReadBuffer,
     extent: Extent,
 ) -> Progress
-    requires ready { AreReadyFor K.machine K.comparisons L.seen (door_seen D.is_out D.is_at_end D.lines_over) seat core.old row.old }
-    ensures served { TurnServes K.machine K.comparisons C.given L.seen (door_seen D.is_out D.is_at_end D.lines_over) D.same
-        core.old row.old [] core.new row.new }
+    requires ready { AreReadyFor K.QueueCore L.Line D.Door seat core.old row.old }
+    ensures served { TurnServes K.QueueCore C.Clock L.Line D.Door core.old row.old core.new row.new }
     ensures only { ChangesOnly seat row.old.seats.items row.new.seats.items }
     ensures wakes { Wakes core.old.mails.items core.new.mails.items core.old.woken core.new.woken }
 {
@@ -332,8 +324,8 @@ fn exchange_if<L: Line + Drop, D: Door<Line = L>>(
     seat: usize,
     buffer: &mut ReadBuffer,
 )
-    requires tended { AreTended L.seen (door_seen D.is_out D.is_at_end D.lines_over) row.old }
-    ensures keeps { KeepsRow L.seen (door_seen D.is_out D.is_at_end D.lines_over) D.same row.old row.new }
+    requires tended { AreTended L.Line D.Door row.old }
+    ensures keeps { KeepsRow L.Line D.Door row.old row.new }
     ensures only { ChangesOnly seat row.old.seats.items row.new.seats.items }
 {
     if lends {
@@ -350,9 +342,8 @@ fn act_to_extent<L: Line + Drop, D: Door<Line = L>, C: Clock + Drop, K: QueueCor
     buffers: &mut Buffers,
     extent: Extent,
 ) -> Progress
-    requires ready { AreReadyFor K.machine K.comparisons L.seen (door_seen D.is_out D.is_at_end D.lines_over) seat core.old row.old }
-    ensures served { TurnServes K.machine K.comparisons C.given L.seen (door_seen D.is_out D.is_at_end D.lines_over) D.same
-        core.old row.old [] core.new row.new }
+    requires ready { AreReadyFor K.QueueCore L.Line D.Door seat core.old row.old }
+    ensures served { TurnServes K.QueueCore C.Clock L.Line D.Door core.old row.old core.new row.new }
     ensures only { ChangesOnly seat row.old.seats.items row.new.seats.items }
     ensures wakes { Wakes core.old.mails.items core.new.mails.items core.old.woken core.new.woken }
 {
@@ -394,9 +385,8 @@ fn act<L: Line + Drop, D: Door<Line = L>, C: Clock + Drop, K: QueueCore + Drop>(
     seat: usize,
     buffers: &mut Buffers,
 ) -> Progress
-    requires ready { AreReadyFor K.machine K.comparisons L.seen (door_seen D.is_out D.is_at_end D.lines_over) seat core.old row.old }
-    ensures served { TurnServes K.machine K.comparisons C.given L.seen (door_seen D.is_out D.is_at_end D.lines_over) D.same
-        core.old row.old [] core.new row.new }
+    requires ready { AreReadyFor K.QueueCore L.Line D.Door seat core.old row.old }
+    ensures served { TurnServes K.QueueCore C.Clock L.Line D.Door core.old row.old core.new row.new }
     ensures only { ChangesOnly seat row.old.seats.items row.new.seats.items }
     ensures wakes { Wakes core.old.mails.items core.new.mails.items core.old.woken core.new.woken }
 {
@@ -416,11 +406,9 @@ fn serve_control<C: Clock + Drop, I: ControlInput, K: QueueCore + Drop>(
     core: &mut Hub<C, K>,
     reads: ControlReads,
 )
-    requires order { IsInOrder (state_of K.machine K.comparisons core.old) }
+    requires order { IsInOrder (state K.QueueCore core.old) }
     requires few { length core.old.mails.items ≤ 65535 }
-    ensures order { IsInOrder (state_of K.machine K.comparisons core.new) }
-    ensures served { (told : List Step) × TellsOn I.seen I.remaining I.may_fail control.old told control.new
-        × WentAt K.machine K.comparisons C.given (length core.old.mails.items) core.old told [] core.new }
+    ensures { ControlWent K.QueueCore C.Clock I.ControlInput core.old control.old core.new control.new }
 {
     let mut may_wait = reads != ControlReads::Buffered;
     for _ in 0..u64::MAX {
@@ -446,12 +434,9 @@ fn submit_owed<C: Clock + Drop, I: ControlInput, K: QueueCore + Drop>(
     control: &mut ControlTurns<I>,
     core: &mut Hub<C, K>,
 ) -> bool
-    requires order { IsInOrder (state_of K.machine K.comparisons core.old) }
+    requires order { IsInOrder (state K.QueueCore core.old) }
     requires few { length core.old.mails.items ≤ 65535 }
-    ensures order { IsInOrder (state_of K.machine K.comparisons core.new) }
-    ensures many { length core.new.mails.items ≡ length core.old.mails.items }
-    ensures served { (told : List Step) × TellsOn I.seen I.remaining I.may_fail control.old told control.new
-        × WentAt K.machine K.comparisons C.given (length core.old.mails.items) core.old told [] core.new }
+    ensures { ControlWent K.QueueCore C.Clock I.ControlInput core.old control.old core.new control.new }
 {
     if !submit_one(control, core) {
         return false;
@@ -464,12 +449,9 @@ fn submit_one<C: Clock + Drop, I: ControlInput, K: QueueCore + Drop>(
     control: &mut ControlTurns<I>,
     core: &mut Hub<C, K>,
 ) -> bool
-    requires order { IsInOrder (state_of K.machine K.comparisons core.old) }
+    requires order { IsInOrder (state K.QueueCore core.old) }
     requires few { length core.old.mails.items ≤ 65535 }
-    ensures order { IsInOrder (state_of K.machine K.comparisons core.new) }
-    ensures many { length core.new.mails.items ≡ length core.old.mails.items }
-    ensures served { (told : List Step) × TellsOn I.seen I.remaining I.may_fail control.old told control.new
-        × WentAt K.machine K.comparisons C.given (length core.old.mails.items) core.old told [] core.new }
+    ensures { ControlWent K.QueueCore C.Clock I.ControlInput core.old control.old core.new control.new }
 {
     let Some(step) = control.owed() else {
         return true;

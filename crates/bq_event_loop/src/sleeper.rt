@@ -73,7 +73,7 @@ pub trait Sleeper {
     )
         // Nothing moves at any seat: its next action would move nothing, or it checks for a client,
         // and none can have come.
-        requires seats { AreStill L.may_give L.may_take (may_come doors.now.accepts) row.now.seats.items mails.now.items }
+        requires seats { AreStill L.Line (may_come doors.now.accepts) row.now.seats.items mails.now.items }
         requires mails { mails.now.items ≡ so_far.now.whole_core.value.mails.items }
         // No seat is left to be visited, and no connection is left to be closed.
         requires unvisited { (seat : ℕ) → T.listed turns.now seat ≡ false }
@@ -81,7 +81,7 @@ pub trait Sleeper {
         // No seat has mail for which it was not woken.
         requires woken { so_far.now.whole_core.value.woken.waiting ≡ [] }
         // All answers are in the mail of their seats, and the next due moment is not missed.
-        requires due { MayWait K.machine K.comparisons due so_far.now.whole_core.value }
+        requires due { MayWait K.QueueCore due so_far.now.whole_core.value }
         requires limit { IsNoLonger most due }
         requires rest { rests doors.now.accepts.rest ≡ true → IsNoLonger most (Some 100) }
         // The control line owes nothing, and the system reports when there is more of it.

@@ -15,7 +15,7 @@ use std::alloc::Global;
 /// Returns true if the next action of a seat would move nothing, and so would the one after it.
 /// `has_none` says that it has no mail now.
 pub fn is_still<L: Line + Drop>(seat: &Attendant<L>, has_none: bool) -> bool
-    ensures { result ≡ true → (mail : List Answer) → (has_none ≡ true → mail ≡ []) → IsStill L.may_give L.may_take seat.now mail }
+    ensures { result ≡ true → (mail : List Answer) → (has_none ≡ true → mail ≡ []) → IsStill L.Line seat.now mail }
 {
     match &seat.place {
         LinePlace::On(line, action, _) => is_still_on(action, &seat.machine, line, has_none),

@@ -2,7 +2,7 @@
 ghost use Rattle.std.specs.Prelude.{ℕ, ◌≡◌, ◌<◌, [], Bool, true, false};
 ghost use Rattle.bq_event_loop.specs.Known.{AreApart, AreIdle, AreKnown, IsFreeSeat, IsListedIn, IsStillSeat, KeepsAll};
 ghost use Rattle.bq_event_loop.specs.Sleeping.{IsAtTurn};
-ghost use Rattle.bq_event_loop.specs.SoFar.{IsLoopSoFar, beginning};
+ghost use Rattle.bq_event_loop.specs.SoFar.{IsLoopAtTurn, began_with};
 
 use crate::control_turns::ControlTurns;
 use bq_core_api::{Config, QueueCore};
@@ -197,27 +197,22 @@ pub trait Turns {
         K: QueueCore + Drop,
     >(&mut self, news: &News, began: &Began<D, C, I>, so_far: SoFar<L, D, C, I, K>) -> Turn
         // `began` is what the run of these turns began with.
-        requires of_run { is_of (beginning began.now.config.value began.now.doors.value.items began.now.clock.value
-            (I.remaining began.now.control.value) (I.may_fail began.now.control.value)) }
+        requires of_run { is_of (began_with I.ControlInput began.now) }
         // The promise, at this moment: there is one history of all steps so far, the core
         // represents the model after it, and each client has received the bytes that it is owed
         // along it. If its connection is open, it has received a beginning of them.
-        requires so_far { IsLoopSoFar C.given L.seen D.lines_over D.is_out D.same K.machine K.comparisons
-            (beginning began.now.config.value began.now.doors.value.items began.now.clock.value
-            (I.remaining began.now.control.value) (I.may_fail began.now.control.value))
-            so_far.seats.value.items so_far.doors.value.items so_far.clock.value (I.seen so_far.control.value)
-            (I.remaining so_far.control.value) so_far.core.value }
+        requires so_far { IsLoopAtTurn C.Clock L.Line D.Door I.ControlInput K.QueueCore began.now so_far }
         // No seat is forgotten: it acts, or it checks for a client, or nothing moves at it. Each
         // seat that has mail was woken for it. A wait of `news.due` ends in time.
-        requires turn { IsAtTurn L.may_give L.may_take K.machine K.comparisons (seats self.old) (listed self.old) (looks self.old)
+        requires turn { IsAtTurn L.Line K.QueueCore (seats self.old) (listed self.old) (looks self.old)
             so_far.seats.value.items so_far.mails.value.items news.now.due news.now.control
             so_far.whole_core.value so_far.whole_control.value }
         // The seat that checked for a client and found none is between two connections.
         requires free { IsFreeSeat news.now.free so_far.seats.value.items }
         // Nothing moves at the still seat.
-        requires still { IsStillSeat L.may_give L.may_take news.now.still so_far.seats.value.items so_far.mails.value.items }
+        requires still { IsStillSeat L.Line news.now.still so_far.seats.value.items so_far.mails.value.items }
         ensures seats { seats self.new ≡ seats self.old }
-        ensures known { AreKnown L.may_give L.may_take (seats self.new) (listed self.new) (looks self.new) []
+        ensures known { AreKnown L.Line (seats self.new) (listed self.new) (looks self.new) []
             so_far.seats.value.items so_far.mails.value.items }
         // Only a seat that is let act does.
         ensures acts { IsListedIn (listed self.new) result };

@@ -1,11 +1,11 @@
 //! What a loop does after a turn: it looks at doors, and it waits for the system.
 ghost use Rattle.std.specs.Prelude.{◌≡◌, ◌⊎◌, ℕ, [], true, false, None, Some};
-ghost use Rattle.bq_line.specs.Tending.{door_seen};
 ghost use Rattle.bq_event_loop.specs.Accepting.{may_come};
-ghost use Rattle.bq_event_loop.specs.Known.{AreKnown, ChangesOnly, IsFreeSeat, IsListedIn, IsStillSeat, KeepsAll};
+ghost use Rattle.bq_event_loop.specs.Known.{ChangesOnly, IsFreeSeat, IsListedIn, IsStillSeat, KeepsAll};
+ghost use Rattle.bq_event_loop.specs.KnownTurns.{AreKnownBy, IsAtTurnOf};
 ghost use Rattle.bq_event_loop.specs.Reports.{ChangesOnlyBy, IsAfterTurn, IsToldOf, MayHaveCome, doors_after};
 ghost use Rattle.bq_event_loop.specs.Rows.{AreTended, KeepsRow};
-ghost use Rattle.bq_event_loop.specs.Sleeping.{HasWork, IsAtTurn};
+ghost use Rattle.bq_event_loop.specs.Sleeping.{HasWork};
 
 use crate::doors::Doors;
 use crate::row::Row;
@@ -58,15 +58,13 @@ pub fn end_turn<
     news: &mut News,
     so_far: &SoFar<L, D, C, I, K>,
 )
-    requires tended { AreTended L.seen (door_seen D.is_out D.is_at_end D.lines_over) row.old }
-    requires turn { IsAtTurn L.may_give L.may_take K.machine K.comparisons (T.seats turns.old) (T.listed turns.old) (T.looks turns.old)
-        row.old.seats.items mails.now.items news.old.due news.old.control so_far.now.whole_core.value so_far.now.whole_control.value }
+    requires tended { AreTended L.Line D.Door row.old }
+    requires turn { IsAtTurnOf L.Line K.QueueCore T.Turns turns.old row.old.seats.items mails.now.items news.old so_far.now }
     requires acts { IsListedIn (T.listed turns.old) turn }
-    ensures keeps { KeepsRow L.seen (door_seen D.is_out D.is_at_end D.lines_over) D.same row.old row.new }
-    ensures known { AreKnown L.may_give L.may_take (T.seats turns.new) (T.listed turns.new) (T.looks turns.new) []
-        row.new.seats.items mails.now.items }
+    ensures keeps { KeepsRow L.Line D.Door row.old row.new }
+    ensures known { AreKnownBy L.Line T.Turns turns.new [] row.new.seats.items mails.now.items }
     ensures free { IsFreeSeat news.new.free row.new.seats.items }
-    ensures still { IsStillSeat L.may_give L.may_take news.new.still row.new.seats.items mails.now.items }
+    ensures still { IsStillSeat L.Line news.new.still row.new.seats.items mails.now.items }
     ensures due { news.new.due ≡ news.old.due }
     ensures control { news.new.control ≡ news.old.control }
     // The turns learn whether a door should be checked.
@@ -98,10 +96,10 @@ fn note_seat<L: Line + Drop, D: Door<Line = L>>(
     seat: usize,
     news: &mut News,
 )
-    requires tended { AreTended L.seen (door_seen D.is_out D.is_at_end D.lines_over) row.old }
-    ensures keeps { KeepsRow L.seen (door_seen D.is_out D.is_at_end D.lines_over) D.same row.old row.new }
+    requires tended { AreTended L.Line D.Door row.old }
+    ensures keeps { KeepsRow L.Line D.Door row.old row.new }
     ensures only { ChangesOnly seat row.old.seats.items row.new.seats.items }
-    ensures still { IsStillSeat L.may_give L.may_take news.new.still row.new.seats.items mails.now.items }
+    ensures still { IsStillSeat L.Line news.new.still row.new.seats.items mails.now.items }
     ensures rest { news.new ≡ record news.old { stands = news.new.stands; tries_again = news.new.tries_again; still = news.new.still } }
 {
     news.stands = row.stands(seat);
@@ -128,7 +126,7 @@ fn still_seat<L: Line + Drop, D: Door<Line = L>>(
     mails: &Vec<Mail, Global>,
     seat: usize,
 ) -> Option<usize>
-    ensures { IsStillSeat L.may_give L.may_take result row.now.seats.items mails.now.items }
+    ensures { IsStillSeat L.Line result row.now.seats.items mails.now.items }
 {
     if row.is_still(seat, has_no_mail(mails, seat)) {
         Some(seat)
@@ -146,8 +144,8 @@ fn look<W: Sleeper, L: Line + Drop, D: Door<Line = L>>(
     seat: usize,
     news: &mut News,
 )
-    requires tended { AreTended L.seen (door_seen D.is_out D.is_at_end D.lines_over) row.old }
-    ensures keeps { KeepsRow L.seen (door_seen D.is_out D.is_at_end D.lines_over) D.same row.old row.new }
+    requires tended { AreTended L.Line D.Door row.old }
+    ensures keeps { KeepsRow L.Line D.Door row.old row.new }
     ensures only { ChangesOnly seat row.old.seats.items row.new.seats.items }
     ensures free { IsFreeSeat news.new.free row.new.seats.items }
     ensures may_come { news.new.may_come ≡ may_come doors.new.accepts }
@@ -201,12 +199,10 @@ fn wait<
     news: &mut News,
     so_far: &SoFar<L, D, C, I, K>,
 )
-    requires tended { AreTended L.seen (door_seen D.is_out D.is_at_end D.lines_over) row.old }
-    requires turn { IsAtTurn L.may_give L.may_take K.machine K.comparisons (T.seats turns.old) (T.listed turns.old) (T.looks turns.old)
-        row.old.seats.items mails.now.items news.old.due news.old.control so_far.now.whole_core.value so_far.now.whole_control.value }
-    ensures keeps { KeepsRow L.seen (door_seen D.is_out D.is_at_end D.lines_over) D.same row.old row.new }
-    ensures known { AreKnown L.may_give L.may_take (T.seats turns.new) (T.listed turns.new) (T.looks turns.new) []
-        row.new.seats.items mails.now.items }
+    requires tended { AreTended L.Line D.Door row.old }
+    requires turn { IsAtTurnOf L.Line K.QueueCore T.Turns turns.old row.old.seats.items mails.now.items news.old so_far.now }
+    ensures keeps { KeepsRow L.Line D.Door row.old row.new }
+    ensures known { AreKnownBy L.Line T.Turns turns.new [] row.new.seats.items mails.now.items }
     ensures may_come { news.new.may_come ≡ may_come doors.new.accepts }
     ensures rest { news.new ≡ record news.old { may_come = news.new.may_come; reads = news.new.reads } }
     ensures come { doors.old.accepts.may_have_come ≡ true → doors.new.accepts.may_have_come ≡ true }
@@ -236,10 +232,8 @@ fn sleep_or_ask<
     news: &News,
     so_far: &SoFar<L, D, C, I, K>,
 )
-    requires turn { IsAtTurn L.may_give L.may_take K.machine K.comparisons (T.seats turns.old) (T.listed turns.old) (T.looks turns.old)
-        row.now.seats.items mails.now.items news.now.due news.now.control so_far.now.whole_core.value so_far.now.whole_control.value }
-    ensures { AreKnown L.may_give L.may_take (T.seats turns.new) (T.listed turns.new) (T.looks turns.new) []
-        row.now.seats.items mails.now.items }
+    requires turn { IsAtTurnOf L.Line K.QueueCore T.Turns turns.old row.now.seats.items mails.now.items news.now so_far.now }
+    ensures { AreKnownBy L.Line T.Turns turns.new [] row.now.seats.items mails.now.items }
 {
     let reads = sleeper.control_reads(news.control);
     if is_busy(turns, doors, news, reads) {
@@ -297,12 +291,10 @@ fn note_reports<T: Turns, W: Sleeper, L: Line + Drop, D: Door<Line = L>>(
     row: &mut Row<L, D>,
     mails: &Vec<Mail, Global>,
 )
-    requires tended { AreTended L.seen (door_seen D.is_out D.is_at_end D.lines_over) row.old }
-    requires known { AreKnown L.may_give L.may_take (T.seats turns.old) (T.listed turns.old) (T.looks turns.old) []
-        row.old.seats.items mails.now.items }
-    ensures keeps { KeepsRow L.seen (door_seen D.is_out D.is_at_end D.lines_over) D.same row.old row.new }
-    ensures known { AreKnown L.may_give L.may_take (T.seats turns.new) (T.listed turns.new) (T.looks turns.new) []
-        row.new.seats.items mails.now.items }
+    requires tended { AreTended L.Line D.Door row.old }
+    requires known { AreKnownBy L.Line T.Turns turns.old [] row.old.seats.items mails.now.items }
+    ensures keeps { KeepsRow L.Line D.Door row.old row.new }
+    ensures known { AreKnownBy L.Line T.Turns turns.new [] row.new.seats.items mails.now.items }
     ensures listed { KeepsAll (T.listed turns.old) (T.listed turns.new) }
     ensures doors { MayHaveCome doors.old doors.new }
 {
@@ -320,12 +312,10 @@ fn note_report<T: Turns, L: Line + Drop, D: Door<Line = L>>(
     row: &mut Row<L, D>,
     mails: &Vec<Mail, Global>,
 )
-    requires tended { AreTended L.seen (door_seen D.is_out D.is_at_end D.lines_over) row.old }
-    requires known { AreKnown L.may_give L.may_take (T.seats turns.old) (T.listed turns.old) (T.looks turns.old) []
-        row.old.seats.items mails.now.items }
-    ensures keeps { KeepsRow L.seen (door_seen D.is_out D.is_at_end D.lines_over) D.same row.old row.new }
-    ensures known { AreKnown L.may_give L.may_take (T.seats turns.new) (T.listed turns.new) (T.looks turns.new) []
-        row.new.seats.items mails.now.items }
+    requires tended { AreTended L.Line D.Door row.old }
+    requires known { AreKnownBy L.Line T.Turns turns.old [] row.old.seats.items mails.now.items }
+    ensures keeps { KeepsRow L.Line D.Door row.old row.new }
+    ensures known { AreKnownBy L.Line T.Turns turns.new [] row.new.seats.items mails.now.items }
     ensures woken { IsToldOf report (T.seats turns.old) (T.looks turns.old) (T.listed turns.new) }
     ensures listed { KeepsAll (T.listed turns.old) (T.listed turns.new) }
     ensures only { ChangesOnlyBy report row.old.seats.items row.new.seats.items }

@@ -1,17 +1,14 @@
 use Rattle.std.proofs.Common.{◌<◌, refl, subst, sym}
-use Rattle.bq_line.specs.Tending.{door_seen}
 use Rattle.bq_event_loop.proofs.KnownLemmas.{changed_one}
 use Rattle.bq_host.proofs.HubLemmas.{wakes_called}
-use Rattle.bq_event_loop.proofs.RowLemmas.{placed_there, tended_acted}
+use Rattle.bq_event_loop.proofs.RowLemmas.{placed_there, tended_set}
 use Rattle.bq_event_loop.proofs.ServingLemmas.{serves_acted}
 use Rattle.bq_event_loop.proofs.serve.act.Goals as goal
 
 pub attend-requires-clause-placed : goal.attend-requires-clause-placed
 attend-requires-clause-placed g c =
-    let at = door_seen g.D.Door.is_out g.D.Door.is_at_end g.D.Door.lines_over in
-    let row = c.args.row.now in
-    placed_there g.L.Line.seen at row.seats.items row.doors.items c.args.seat c.index_mut.result.now c.index_mut-2.result.now
-    c.requires.ready.1 c.requires.ready.0.1 c.index_mut.ensures.value c.index_mut-2.ensures.value
+    placed_there g.L.Line g.D.Door c.args.row.now.seats.items c.args.row.now.doors.items c.args.seat c.index_mut.result.now
+    c.index_mut-2.result.now c.requires.ready.1 c.requires.ready.0.1 c.index_mut.ensures.value c.index_mut-2.ensures.value
 
 pub attend-requires-clause-ready : goal.attend-requires-clause-ready
 attend-requires-clause-ready g c =
@@ -20,19 +17,18 @@ attend-requires-clause-ready g c =
 
 pub returns : goal.returns
 returns g c =
-    let at = door_seen g.D.Door.is_out g.D.Door.is_at_end g.D.Door.lines_over in
     let row = c.args.row.now in
+    let ready = c.requires.ready in
     let goes = c.attend.ensures.went in
+    let seat_is = c.index_mut.ensures.value in
+    let door_is = c.index_mut-2.ensures.value in
     record {
       served = (
         c.attend.ensures.order,
-        tended_acted g.L.Line.seen at row.seats.items row.doors.items c.args.seat c.index_mut.result.now c.attend.new.attendant
-            c.index_mut-2.result.now c.attend.new.door goes.0 goes.1 c.requires.ready.1 c.requires.ready.0.1 c.index_mut.ensures.value
-            c.index_mut-2.ensures.value goes.3,
-        serves_acted g.L.Line.seen at g.K.QueueCore.machine g.K.QueueCore.comparisons g.C.Clock.given g.D.Door.same c.args.core.now
-            c.attend.new.hub row _ c.args.seat c.args.seat c.index_mut.result.now c.attend.new.attendant
-            c.index_mut-2.result.now c.attend.new.door refl c.requires.ready.1 c.index_mut.ensures.value c.index_mut-2.ensures.value
-            c.attend.ensures.went c.attend.ensures.same refl refl,
+        tended_set g.L.Line g.D.Door row.seats.items row.doors.items c.args.seat c.index_mut.result.now c.attend.new.attendant
+            c.index_mut-2.result.now c.attend.new.door goes.0 goes.1 ready.1 ready.0.1 seat_is door_is goes.3,
+        serves_acted c.args.seat c.index_mut.result.now c.attend.new.attendant c.index_mut-2.result.now c.attend.new.door
+            ready.1 ready.0.1.doored seat_is door_is goes c.attend.ensures.same refl refl,
       );
       only = changed_one row.seats.items c.args.seat c.attend.new.attendant;
       wakes = wakes_called g.K.QueueCore.machine g.K.QueueCore.comparisons g.C.Clock.given c.args.seat c.args.core.now c.attend.new.hub

@@ -1,5 +1,3 @@
-use Rattle.std.proofs.Common.{[]}
-use Rattle.bq_line.specs.Tending.{door_seen}
 use Rattle.bq_event_loop.specs.Known.{ChangesOnly}
 use Rattle.bq_event_loop.specs.Serving.{TurnServes}
 use Rattle.bq_host.specs.WakeLists.{Wakes}
@@ -7,8 +5,7 @@ use Rattle.bq_event_loop.proofs.serve.act_to_extent.Given as goal
 
 abbrev pub invariant-loop-done : goal.invariant-loop-done
 invariant-loop-done g l = record {
-  served : TurnServes g.K.QueueCore.machine g.K.QueueCore.comparisons g.C.Clock.given g.L.Line.seen
-      (door_seen g.D.Door.is_out g.D.Door.is_at_end g.D.Door.lines_over) g.D.Door.same l.fn.core l.fn.row [] l.core l.row;
+  served : TurnServes g.K.QueueCore g.C.Clock g.L.Line g.D.Door l.fn.core l.fn.row l.core l.row;
   only : ChangesOnly l.fn.seat l.fn.row.seats.items l.row.seats.items;
   wakes : Wakes l.fn.core.mails.items l.core.mails.items l.fn.core.woken l.core.woken;
 }

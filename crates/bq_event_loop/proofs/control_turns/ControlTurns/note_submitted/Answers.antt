@@ -4,5 +4,5 @@ use Rattle.bq_event_loop.proofs.control_turns.ControlTurns.note_submitted.Goals 
 pub returns-then-self : goal.returns-then-self
 returns-then-self g c =
     let old = c.args.self.now in
-    tells_drain_if g.I.ControlInput.seen g.I.ControlInput.remaining g.I.ControlInput.may_fail old.input old.line old.owes_drain
+    tells_drain_if g.I.ControlInput old.input old.line old.owes_drain
     old.stage c.if-self.true

@@ -7,10 +7,10 @@ begin_next-requires g c =
     let p = c.put_last.ensures.queue in
     let e = c.begin_round.ensures in
     record {
-      known = known_same g.L.Line.may_give g.L.Line.may_take
+      known = known_same g.L.Line
           c.args.seats.now.value.items c.args.mails.now.value.items c.put_last.new.self c.begin_round.new.self None
           (record { seats = ap (λ z. z.seats) e; queue = ap (λ z. z.queue) e; free = ap (λ z. z.free) e })
-          (known_moved g.L.Line.may_give g.L.Line.may_take
+          (known_moved g.L.Line
           c.args.seats.now.value.items c.args.mails.now.value.items c.args.self.now.queue c.put_last.new.self
           (ap (λ z. z.seats) p) (ap (λ z. z.free) p) c.put_last.ensures.same c.requires.known);
     }

@@ -7,11 +7,11 @@ pub returns-then-not-is_this-clause-known : goal.returns-then-not-is_this-clause
 returns-then-not-is_this-clause-known g c =
     let seats = c.args.seats.now.value.items in
     let mails = c.args.mails.now.value.items in
-    subst (λ l. AreKnownTo g.L.Line.may_give g.L.Line.may_take l None seats mails) (sym c.enqueue.ensures)
-    (known_enqueued g.L.Line.may_give g.L.Line.may_take seats mails c.args.self.now.queue c.args.seat c.requires.known)
+    subst (λ l. AreKnownTo g.L.Line l None seats mails) (sym c.enqueue.ensures)
+    (known_enqueued g.L.Line seats mails c.args.self.now.queue c.args.seat c.requires.known)
 
 pub returns-else-not-is_this-clause-known : goal.returns-else-not-is_this-clause-known
 returns-else-not-is_this-clause-known g c =
-    known_rests g.L.Line.may_give g.L.Line.may_take
+    known_rests g.L.Line
     c.args.seats.now.value.items c.args.mails.now.value.items c.args.self.now.queue c.args.seat
     (c.requires.still c.args.seat (c.is_this.ensures c.if-not-is_this.false)) c.requires.known

@@ -8,7 +8,7 @@ begin_visits-requires g c = record { known = c.requires.known }
 pub returns-clause-known : goal.returns-clause-known
 returns-clause-known g c =
     let e = c.next_free.ensures.rest in
-    known_checks g.L.Line.may_give g.L.Line.may_take c.args.seats.now.value.items c.args.mails.now.value.items c.args.self.now.queue
+    known_checks g.L.Line c.args.seats.now.value.items c.args.mails.now.value.items c.args.self.now.queue
     c.next_free.new.self
     c.in-Some.seat (ap (λ z. z.seats) e) c.in-Some.ensures.taken c.in-Some.ensures.gone (ap (λ z. z.queue) e) c.requires.known
 

@@ -7,5 +7,5 @@ pub returns-clause-known : goal.returns-clause-known
 returns-clause-known g c =
     let seats = c.args.seats.now.value.items in
     let mails = c.args.mails.now.value.items in
-    subst (λ l. AreKnownTo g.L.Line.may_give g.L.Line.may_take l None seats mails) (sym c.enqueue.ensures)
-    (known_enqueued g.L.Line.may_give g.L.Line.may_take seats mails c.args.self.now.queue c.args.seat c.requires.known)
+    subst (λ l. AreKnownTo g.L.Line l None seats mails) (sym c.enqueue.ensures)
+    (known_enqueued g.L.Line seats mails c.args.self.now.queue c.args.seat c.requires.known)

@@ -1,23 +1,14 @@
 use Rattle.std.proofs.Common.{arith}
-use Rattle.bq_line.specs.Tending.{door_seen}
 use Rattle.bq_event_loop.proofs.KnownLemmas.{changed_one}
-use Rattle.bq_event_loop.proofs.RowLemmas.{rested_seat, tended_seat}
+use Rattle.bq_event_loop.proofs.RowLemmas.{keeps_seat}
 use Rattle.bq_event_loop.proofs.row.Row.hand_on.Goals as goal
 
 pub returns-then-seat-len : goal.returns-then-seat-len
 returns-then-seat-len g c =
-    let at = door_seen g.D.Door.is_out g.D.Door.is_at_end g.D.Door.lines_over in
     let row = c.args.self.now in
     record {
-      keeps = (
-        tended_seat g.L.Line.seen at row.seats.items row.doors.items c.args.seat c.index_mut.result.now c.hand_on.new.self
-            (let e = c.len.ensures in let b = c.if-seat-len.true in
-            omega arith) c.requires.tended c.index_mut.ensures.value c.hand_on.ensures,
-        λ first rests.
-            rested_seat g.L.Line.seen at g.D.Door.same first.seats.items row.seats.items first.doors.items row.doors.items c.args.seat
-            c.index_mut.result.now c.hand_on.new.self
-            (let e = c.len.ensures in let b = c.if-seat-len.true in
-            omega arith) c.requires.tended.doored c.index_mut.ensures.value c.hand_on.ensures rests,
-      );
+      keeps = keeps_seat g.L.Line g.D.Door row.seats.items row.doors.items c.args.seat c.index_mut.result.now c.hand_on.new.self
+          (let e = c.len.ensures in let b = c.if-seat-len.true in omega arith) c.requires.tended c.index_mut.ensures.value
+          c.hand_on.ensures;
       only = changed_one row.seats.items c.args.seat c.hand_on.new.self;
     }
