@@ -325,6 +325,9 @@ fn run_at<
         &mut buffers,
         &mut buffer,
     );
+    drop(began);
+    drop(buffers);
+    drop(buffer);
     steps_keep_settings();
     let (clock, core) = core.into_parts();
     EventLoopRun {

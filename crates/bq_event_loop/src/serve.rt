@@ -89,6 +89,7 @@ pub fn serve<
     for _ in 0..u64::MAX {
         let turn = turns.next(&news, began, so_far(row, control, core));
         if take_turn(turn, row, control, core, buffers, buffer, &mut news) {
+            drop(doors);
             return true;
         }
         news.elapsed = core.timed.time.clock.elapsed();
@@ -105,7 +106,9 @@ pub fn serve<
             &mut news,
             &now,
         );
+        drop(now);
     }
+    drop(doors);
     false
 }
 
