@@ -67,6 +67,8 @@ pub fn seat_work<R: Wait, L: Line + Drop, D: Door<Line = L> + Drop>(
     let mut pace = Pace::new();
     for _ in rt.forever() {
         if attendant.is_done() {
+            drop(attendant);
+            drop(buffers);
             return (end, door);
         }
         let progress = attend_at(
@@ -271,6 +273,7 @@ impl<'a, R: Wait> ControlLink for SeatLink<'a, R> {
 
     fn submit(&mut self, mut step: Step) -> Result<(), Step> {
         if submit_at(self.rt, self.intake, self.end, &mut step) {
+            drop(step);
             Ok(())
         } else {
             Err(step)
@@ -423,7 +426,16 @@ fn take_mail_to(end: &mut SeatEnd, place: &mut Action)
     requires { 0 < length end.old.waiting }
     ensures { TakesInPlace EndWent end.old place.old true place.new end.new }
 {
-    *place = Action::Write(end.take_mail());
+    put(place, Action::Write(end.take_mail()));
+}
+
+// Stores a value in a place. An assignment would do the same, but a proof about it has to consider
+// every value that the place may have held.
+#[inline(always)]
+fn put<T: Drop>(place: &mut T, value: T)
+    ensures { place.new ≡ value }
+{
+    *place = value;
 }
 
 /// Does one action of a seat that attends to a door, at its end of the links. Returns what moved or

@@ -27,9 +27,12 @@ impl CoreRoom {
             return Err(NoMemory);
         };
         let Ok(aside) = VecDeque::with_capacity(alloc, ends) else {
+            drop(kept);
             return Err(NoMemory);
         };
         let Ok(gone) = Vec::from_elem(alloc, false, ends) else {
+            drop(kept);
+            drop(aside);
             return Err(NoMemory);
         };
         Ok(CoreRoom {

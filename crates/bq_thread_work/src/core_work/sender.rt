@@ -110,6 +110,7 @@ impl Sender {
         ensures aside { self.new.aside ≡ self.old.aside }
     {
         if usize::from(seat) >= self.ends {
+            drop(answer);
             return;
         }
         if self.can_send(seat) {
