@@ -1,7 +1,8 @@
 -- How the turns of the core's driver combine.
-use Rattle.std.proofs.Common.{◌≡◌, ℕ, Bool, true, false, List, [], ◌∷◌, ◌++◌, Option, Some, None}
-use Rattle.std.proofs.Common.{◌≤◌, ◌⊎◌, ◌∙◌, arith, refl, ap, subst, inl, inr}
+use Rattle.std.proofs.Common.{◌≡◌, ℕ, Bool, true, false, not, List, [], ◌∷◌, ◌++◌, Option, Some, None}
+use Rattle.std.proofs.Common.{◌≤◌, ◌⊎◌, ◌∙◌, arith, refl, ap, sym, subst, inl, inr}
 use Rattle.std.proofs.Math.Nat.{le-max_left}
+use Rattle.bq_job.specs.beside.NextDue.{is_before, next_due}
 use Rattle.bq_job.specs.declared.settings.Settings.{Settings}
 use Rattle.bq_job.specs.declared.step.Step.{Step}
 use Rattle.bq_job.specs.declared.step.Step.TheVariants.{Tick}
@@ -9,11 +10,16 @@ use Rattle.bq_job.specs.machine.Machine.{Machine}
 use Rattle.bq_job.specs.machine.Steps.{IsStep}
 use Rattle.bq_job.specs.promise.History.{moment_heard}
 use Rattle.bq_core_api.specs.Outbox.{Outbox}
+use Rattle.bq_link.specs.Submissions.{Invariant}
 use Rattle.bq_host.specs.Clocks.{Gives}
 use Rattle.bq_host.specs.Timed.{HasHeard, HasLooked, IsReady, LooksAndSteps, PassesOver}
 use Rattle.bq_host.specs.declared.timed_core.HeardClock.{HeardClock}
 use Rattle.bq_host.specs.declared.timed_core.TimedCore.{TimedCore}
-use Rattle.bq_thread_work.specs.Worked.{HasTicked, HasWorked, IsInOrder, TookOne, WorksOn, driver_state}
+use Rattle.bq_thread_work.specs.Sending.{AreStuck}
+use Rattle.bq_thread_work.specs.Worked.{FindsWork, HasTicked, HasWorked, IsInOrder, TookOne, WorkWent, WorksOn, driver_state}
+use Rattle.bq_thread_work.specs.declared.core_work.polling.Polling.{Polling}
+use Rattle.bq_thread_work.specs.declared.core_work.sender.Sender.{Sender}
+use Rattle.bq_thread_work.specs.declared.core_work.yielding.Yielding.{Yielding}
 use Rattle.bq_thread_work.specs.declared.core_work.core_driver.CoreDriver.{CoreDriver}
 use Rattle.bq_thread_work.proofs.WorkedLemmas.{pending_on, worked_heard, worked_looked, worked_tick}
 
@@ -21,6 +27,16 @@ use Rattle.bq_thread_work.proofs.WorkedLemmas.{pending_on, worked_heard, worked_
 pub on_still : {C K : Type 0} (given : Gives C) (machine : K → Machine) (compared : K → ℕ) (h : CoreDriver C K) → IsInOrder machine h
     → WorksOn given machine compared h h
 on_still given machine compared h order = record { order = order; end = (refl, refl); settings = refl; work = λ settings from first w. w }
+
+-- Nothing but the pace of the thread changed.
+pub on_paced : {C K : Type 0} (given : Gives C) (machine : K → Machine) (compared : K → ℕ) (h : CoreDriver C K) (yielding : Yielding)
+    (polling : Polling) → IsInOrder machine h → WorksOn given machine compared h (record h { yielding = yielding; polling = polling })
+on_paced given machine compared h yielding polling order = record {
+  order = record { ready = order.ready; sender = order.sender; many = order.many; all = order.all };
+  end = (refl, refl);
+  settings = refl;
+  work = λ settings from first w. w;
+}
 
 -- One thing was done, and then another.
 pub on_both : {C K : Type 0} (given : Gives C) (machine : K → Machine) (compared : K → ℕ) (old mid new : CoreDriver C K)
@@ -140,14 +156,29 @@ has_ticked given machine compared old t (looked, l, s) = record {
   step = subst (λ (m : Machine). IsStep m t.time.moment 0 Tick s.outcome t.outs.given (machine t.core)) l.same s.step.step;
 }
 
--- What was taken after the clock was read and answers were sent.
-pub busy_from : {C K : Type 0} (machine : K → Machine) (old mid new : CoreDriver C K) → mid.sender.end.taken ≡ old.sender.end.taken
-    → mid.timed.core ≡ old.timed.core → TookOne mid.sender.end new.sender.end ⊎ HasTicked machine mid new
-    → TookOne old.sender.end new.sender.end ⊎ HasTicked machine old new
-busy_from {C} {K} machine old mid new taken core busy = elim busy [
+-- What the core did after answers were sent or the clock was read.
+pub went_from : {C K : Type 0} (machine : K → Machine) (old mid new : CoreDriver C K) → mid.sender.end.taken ≡ old.sender.end.taken
+    → mid.timed.core ≡ old.timed.core → WorkWent machine mid new → WorkWent machine old new
+went_from {C} {K} machine old mid new taken core went = elim went [
   | inl t ↦ inl (t.0, t.1 ∙ ap (λ (steps : List (ℕ × Step)). steps ++ t.0 ∷ []) taken)
-  | inr h ↦ inr (record {
-    outcome = h.outcome;
-    step = rw core at h.step;
-  })
+  | inr more ↦ inr (elim more [
+    | inl h ↦ inl (record { outcome = h.outcome; step = rw core at h.step })
+    | inr idle ↦ inr (subst (λ (k : K). is_before new.timed.time.moment (next_due (machine k)) ≡ true) core idle)
+  ])
 ]
+
+idle_of : (before : Bool) → not before ≡ false → before ≡ true
+idle_of true e = refl
+idle_of false e = sym e
+
+-- There was no step, and the core took a tick if one was due.
+pub finds_tick : {C K : Type 0} (was : Invariant) (machine : K → Machine) (old new : CoreDriver C K) (ticks : Bool)
+    → new.sender ≡ old.sender → was old.sender.end.taken []
+    → ticks ≡ not (is_before new.timed.time.moment (next_due (machine old.timed.core)))
+    → (ticks ≡ true → HasTicked machine old new) → FindsWork was machine old new ticks
+finds_tick was machine old new ticks sender empty due ticked = (
+  λ stuck. subst (λ (s : Sender). AreStuck s.end s.kept.items) (sym sender) stuck,
+  λ _. empty,
+  λ e. idle_of (is_before new.timed.time.moment (next_due (machine old.timed.core))) (sym due ∙ e),
+  λ e. inr (ticked e),
+)

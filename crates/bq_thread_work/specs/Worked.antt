@@ -111,12 +111,14 @@ pub record HasTicked {C K : Type 0} (machine : K → Machine) (old new : CoreDri
 abbrev pub IsIdle : {C K : Type 0} → (K → Machine) → CoreDriver C K → CoreDriver C K → Type 0
 IsIdle machine old new = is_before new.timed.time.moment (next_due (machine old.timed.core)) ≡ true
 
+-- A step or a tick was taken, or nothing is due.
+abbrev pub WorkWent : {C K : Type 0} → (K → Machine) → CoreDriver C K → CoreDriver C K → Type 0
+WorkWent machine old new = TookOne old.sender.end new.sender.end ⊎ (HasTicked machine old new ⊎ IsIdle machine old new)
+
 -- The result of a turn that is not the last one: no more answers can be kept for full rings, or a
 -- step or a tick was taken, or nothing is due.
 abbrev pub TurnWent : {C K : Type 0} → (K → Machine) → CoreDriver C K → CoreDriver C K → Type 0
-TurnWent machine old new =
-    (length new.sender.kept.items ≡ new.sender.ends)
-    ⊎ (TookOne old.sender.end new.sender.end ⊎ (HasTicked machine old new ⊎ IsIdle machine old new))
+TurnWent machine old new = (length new.sender.kept.items ≡ new.sender.ends) ⊎ WorkWent machine old new
 
 -- What the core found when it looked for work. Answers that were stuck at full rings still are. If the
 -- result is false, the intake's invariant held of an empty intake after the last step that was taken,

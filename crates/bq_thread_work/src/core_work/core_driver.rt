@@ -52,6 +52,7 @@ impl<C: Clock + Drop, K: QueueCore + Drop> CoreDriver<C, K> {
       IsInOrderAt,
       IsOver,
       TurnWent,
+      WorkWent,
       WorksOn,
       gone_after,
       driver_state,
@@ -115,11 +116,23 @@ impl<C: Clock + Drop, K: QueueCore + Drop> CoreDriver<C, K> {
         if self.is_over() {
             return true;
         }
+        self.work(rt, intake);
+        false
+    }
+
+    // Takes a step or a tick, or waits for a step. It may yield before.
+    fn work<R: Wait>(&mut self, rt: &R, intake: &Intake<NoTicks>)
+        requires order { IsInOrderAt K.machine intake.now self.old }
+        requires none { self.old.timed.outs.given ≡ [] }
+        ensures on { WorksOn C.given K.machine K.comparisons self.old self.new }
+        ensures stuck { AreStuck self.old.sender.end self.old.sender.kept.items
+            → AreStuck self.new.sender.end self.new.sender.kept.items }
+        ensures worked { WorkWent K.machine self.old self.new }
+    {
         self.give_way(intake);
         if !self.go_on(rt, intake) {
             self.await_step(rt, intake);
         }
-        false
     }
 
     // Sends pending answers, as far as the rings and the room to keep answers allow. Returns true
@@ -157,11 +170,23 @@ impl<C: Clock + Drop, K: QueueCore + Drop> CoreDriver<C, K> {
         ensures waits { 0 < self.old.yielding.left
             → (self.new.timed ≡ self.old.timed) × (self.new.yielding.pause ≡ self.old.yielding.pause) }
     {
-        if !self.sender.has_none(intake) || !self.yielding.is_next() {
-            return;
+        if self.is_yield_next(intake) {
+            let took = self.yield_once();
+            intake.note_slow_yields(self.yielding.is_slow(took));
         }
-        let took = self.yield_once();
-        intake.note_slow_yields(self.yielding.is_slow(took));
+    }
+
+    // Counts a wait if no step waits, and returns true if it begins with a yield.
+    fn is_yield_next(&mut self, intake: &Intake<NoTicks>) -> bool
+        requires intake { self.old.sender.end.intake ≡ intake.now.id }
+        ensures left { result ≡ true → self.old.yielding.left ≡ 0 }
+        ensures pause { self.new.yielding.pause ≡ self.old.yielding.pause }
+        ensures rest { self.new ≡ record self.old { yielding = self.new.yielding } }
+    {
+        if !self.sender.has_none(intake) {
+            return false;
+        }
+        self.yielding.is_next()
     }
 
     // Yields to other threads, and returns how many milliseconds passed.
@@ -234,6 +259,7 @@ impl<C: Clock + Drop, K: QueueCore + Drop> CoreDriver<C, K> {
         match self.sender.next_step(rt, intake) {
             Some(taken) => {
                 self.take_step(taken.0, &taken.1);
+                drop(taken);
                 true
             }
             None => self.tick_if_due(),
@@ -291,23 +317,21 @@ impl<C: Clock + Drop, K: QueueCore + Drop> CoreDriver<C, K> {
         ensures noted { self.new.polling.last ≡ self.old.timed.time.moment }
     {
         let looks = self.polling.begin(self.timed.time.moment);
-        if !self.look_often(intake, looks) {
-            self.rest(rt, intake);
-        }
+        self.look_often(rt, intake, looks);
     }
 
-    // Polls up to this many times. Returns true if a step waits.
-    fn look_often(&mut self, intake: &Intake<NoTicks>, looks: u32) -> bool
+    // Polls up to this many times, and sleeps if no step waits by then.
+    fn look_often<R: Wait>(&mut self, rt: &R, intake: &Intake<NoTicks>, looks: u32)
         requires intake { self.old.sender.end.intake ≡ intake.now.id }
         ensures { self.new ≡ self.old }
     {
         for _ in 0..looks {
             if !self.sender.has_none(intake) {
-                return true;
+                return;
             }
             spin_loop();
         }
-        false
+        self.rest(rt, intake);
     }
 
     // Sleeps until a step arrives or it is time to check again.
@@ -339,10 +363,14 @@ impl<C: Clock + Drop, K: QueueCore + Drop> CoreDriver<C, K> {
         let CoreDriver {
             timed,
             sender,
-            gone: _,
+            gone,
             yielding: _,
             polling: _,
         } = self;
+        drop(timed.outs);
+        drop(sender.kept);
+        drop(sender.aside);
+        drop(gone);
         (sender.end, timed.core, timed.time.clock)
     }
 }
