@@ -52,9 +52,11 @@ pub fn serve_at_desk<
 {
     let seats = doors.len() as u16;
     let Ok(bells) = Bells::new(alloc, seats) else {
+        drop(doors);
         return Err(RunFault::NoMemory);
     };
     let Ok(posts) = new_posts(alloc, max_job_size, doors) else {
+        drop(bells);
         return Err(RunFault::NoMemory);
     };
     let posts = SeatPosts {
@@ -134,14 +136,18 @@ fn new_posts<D: Door + Drop>(
         (λ posts. reverse (map (λ post. post.door) posts.items) ≡ doors.items) }
 {
     let Ok(mut posts) = Vec::with_capacity(alloc, doors.len()) else {
+        drop(doors);
         return Err(NoMemory);
     };
     while let Some(door) = doors.pop() {
         let Ok(post) = Post::new(alloc, max_job_size, doors.len() as u16, door) else {
+            drop(posts);
+            drop(doors);
             return Err(NoMemory);
         };
         posts.push_reserved(post);
     }
+    drop(doors);
     Ok(posts)
 }
 
@@ -194,6 +200,7 @@ fn serve_all<
     };
     let Ok(doors) = Vec::with_capacity(alloc, seats) else {
         drop(all);
+        drop(threads);
         return Err(RunFault::NoMemory);
     };
     let all_started = start_threads(
@@ -209,6 +216,8 @@ fn serve_all<
     start.tell(rt, all_started);
     if !all_started {
         // The scope waits for the threads that were started.
+        drop(threads);
+        drop(doors);
         return Err(RunFault::ThreadRefused);
     }
     let mut link = SharedSeat {
@@ -253,17 +262,42 @@ fn start_threads<
         → map (λ thread. thread.promise.door.value) threads.new.items ≡ reverse (map (λ post. post.door) posts.items) }
 {
     while let Some(post) = posts.pop() {
-        let promise = DoorPromise {
-            max_job_size: post.max_job_size,
-            door: Snapshot::of(&post.door),
-        };
-        let Ok(thread) = scope.spawn_with(promise, move || post.serve(rt, desk, bells, start))
-        else {
+        let Some(thread) = start_thread(scope, rt, post, desk, bells, start) else {
+            drop(posts);
             return false;
         };
         threads.push_reserved(thread);
     }
+    drop(posts);
     true
+}
+
+// Starts a thread for this seat, if possible.
+fn start_thread<
+    's,
+    E,
+    R: Threads + Wait + Sync,
+    L: Line + Drop + Send + 's,
+    D: Door<Line = L> + Drop + Send + 's,
+    K: SharedDesk + Sync,
+>(
+    scope: &'s Scope<'s, E>,
+    rt: &'s R,
+    post: Post<D>,
+    desk: &'s K,
+    bells: &'s Bells,
+    start: &'s Start,
+) -> Option<PromisedHandle<Option<D>, DoorPromise<D>>>
+    ensures limit { IfSome result (λ t. t.promise.max_job_size ≡ post.max_job_size) }
+    ensures door { IfSome result (λ t. t.promise.door.value ≡ post.door) }
+{
+    let promise = DoorPromise {
+        max_job_size: post.max_job_size,
+        door: Snapshot::of(&post.door),
+    };
+    scope
+        .spawn_with(promise, move || post.serve(rt, desk, bells, start))
+        .ok()
 }
 
 // Waits for all threads and appends their doors, for which there is room.
@@ -286,6 +320,7 @@ fn join_all<R: Threads, D: Door + Drop + Send>(
 {
     for thread in threads {
         let Some(door) = thread.join(rt) else {
+            drop(doors);
             return Err(RunFault::ThreadRefused);
         };
         doors.push_reserved(door);

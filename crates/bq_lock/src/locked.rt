@@ -56,9 +56,12 @@ impl<K: QueueCore + Drop> Locked<K> {
     {
         let (core, outs) = new_core::<K>(alloc, config)?;
         let Ok(outboxes) = Outboxes::new(alloc, config.seats) else {
+            drop(outs);
             return Err(RunFault::NoMemory);
         };
         let Ok(journal) = Journal::new(alloc, capacity) else {
+            drop(outs);
+            drop(outboxes);
             return Err(RunFault::NoMemory);
         };
         Ok(Locked {
@@ -103,6 +106,7 @@ impl<K: QueueCore + Drop> Locked<K> {
             .step_in_place(self.alloc, at, seat, &what, &mut self.outs);
         self.journal.note(at, seat, copy, &self.outs);
         self.outboxes.deliver(&mut self.outs);
+        drop(what);
     }
 
     /// Takes the oldest answer out of a seat's outbox. Returns `None` if the outbox is empty or the

@@ -69,6 +69,7 @@ pub fn run_locked<
         ↔ IsTrue (not (are_in_range config && vec_len doors == config.seats)) }
 {
     if doors.len() != usize::from(config.seats) {
+        drop(doors);
         return Err(RunFault::BadConfiguration);
     }
     let locked = Locked::new(alloc, config, capacity)?;
@@ -76,7 +77,10 @@ pub fn run_locked<
     let served = serve_at_desk(rt, alloc, config.max_job_size, doors, &desk, &mut control);
     let doors = match served {
         Ok(doors) => doors,
-        Err(fault) => return Err(fault),
+        Err(fault) => {
+            drop(desk);
+            return Err(fault);
+        }
     };
     let desk = desk.into_inner();
     Ok(LockedRun {

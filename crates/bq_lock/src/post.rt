@@ -72,6 +72,10 @@ impl<L: Line + Drop, D: Door<Line = L> + Drop> Post<D> {
             (door_seen D.is_out D.is_at_end D.lines_over door)) }
         ensures same { IfSome result (D.same self.door) }
     {
+        if !start.wait(rt) {
+            drop(self);
+            return None;
+        }
         let Post {
             alloc,
             seat,
@@ -79,10 +83,6 @@ impl<L: Line + Drop, D: Door<Line = L> + Drop> Post<D> {
             machine,
             mut door,
         } = self;
-        if !start.wait(rt) {
-            drop(machine);
-            return None;
-        }
         let mut attendant = Attendant {
             machine,
             place: LinePlace::Between,
@@ -100,6 +100,7 @@ impl<L: Line + Drop, D: Door<Line = L> + Drop> Post<D> {
             if attendant.is_done() {
                 drop(attendant);
                 drop(link);
+                drop(buffers);
                 return Some(door);
             }
             let progress = attendant.go_on(alloc, &mut door, &mut link, &mut buffers);

@@ -84,7 +84,7 @@ impl<'a, R: Wait, K: SharedDesk> SharedSeat<'a, R, K> {
     fn serve(&mut self, step: Step) {
         let (answer, rings) = self.desk.serve(self.rt, self.seat, step);
         self.bells.ring(&rings);
-        self.at_hand = answer;
+        drop(mem::replace(&mut self.at_hand, answer));
     }
 
     fn step(&self, step: Step) {
@@ -157,7 +157,7 @@ impl<'a, R: Wait, K: SharedDesk> Link for SharedSeat<'a, R, K> {
     fn mail(&mut self, place: &mut Action) -> bool {
         match self.next_answer() {
             Some(answer) => {
-                *place = Action::Write(answer);
+                drop(mem::replace(place, Action::Write(answer)));
                 true
             }
             None => false,

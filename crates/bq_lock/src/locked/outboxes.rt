@@ -29,7 +29,10 @@ impl Outboxes {
         };
         match Vec::with_capacity(alloc, usize::from(seats) + 1) {
             Ok(answered) => Ok(Outboxes { mails, answered }),
-            Err(_) => Err(NoMemory),
+            Err(_) => {
+                drop(mails);
+                Err(NoMemory)
+            }
         }
     }
 
@@ -70,5 +73,7 @@ fn post(mails: &mut Vec<Mail, Global>, seat: Seat, answer: Answer)
 {
     if let Some(mail) = mails.get_mut(usize::from(seat)) {
         mail.put_newest(answer);
+    } else {
+        drop(answer);
     }
 }
