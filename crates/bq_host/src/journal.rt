@@ -9,8 +9,8 @@ use bq_job::{Entry, Moment, NoMemory, Seat, Step};
 use std::alloc::Global;
 use std::marker::Model;
 
-/// The source of the copy of a step for its entry: `SharedBodies` in a run, in a test a source that
-/// refuses some.
+/// The source of the copy of a step for its entry: `SharedBodies` in a run. Contracts say by it that
+/// a copy was refused.
 pub trait CopySource {
     /// This source, as it was before, refused a copy of this step.
     ghost refused: { Self → Step → Type 0 };
