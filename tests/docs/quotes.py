@@ -28,7 +28,7 @@ def quoted():
         given = [file for begun, file in OF_THE_TOOLCHAIN.items() if found[1].startswith(begun)]
         if given:
             yield TOOLCHAIN / given[0], found[1].splitlines()
-        elif links and not found[1].startswith("./proofs/"):
+        elif links and not found[1].startswith(("./proofs/", "note: ")):
             yield (PAGE.parent / links[-1]).resolve(), found[1].splitlines()
 
 
