@@ -9,7 +9,7 @@ use Rattle.bq_job.specs.{beside.waiting_count, machine.{empty_seat, is_held_by, 
 use Rattle.bq_job.specs.machine.{reserve_effect, silent, state_once_left, telling, waiting_from, with_end}
 use Rattle.bq_job.specs.{machine.{with_seat}, Types.{Answer, Job, Request, Step}}
 use Rattle.bq_job.specs.declared.answer.Answer.TheVariants as answers
-use Rattle.bq_job.proofs.KeptLemmas.{IsMild, Keeps, has_holder, kept_of_close, kept_of_drain, kept_of_filter}
+use Rattle.bq_job.proofs.KeptLemmas.{Keeps, has_holder, kept_of_close, kept_of_drain, kept_of_filter}
 use Rattle.bq_job.proofs.KeptLemmas.{kept_of_jobs, kept_of_push, kept_of_seat, numbers_above, only_seat}
 use Rattle.bq_job.proofs.EffectKinds.{IsFreeOrOwn, Kind, adds, changes_jobs, changes_seat, changes_tube, deletes, passes, tells, waits}
 use Rattle.bq_job.proofs.{BecomeLemmas.free_by_delay, CommandKinds.kind_of, EachEvent.{IsSeat, each_event}}
@@ -53,8 +53,7 @@ pub kept_of_quiet_seat : (number : ℕ) (f : SeatRecord → SeatRecord) (m : Mac
     → ((s : SeatRecord) → (f s).connected ≡ s.connected) → ((s : SeatRecord) → (f s).wait ≡ s.wait) → Keeps (with_seat number f m)
 kept_of_quiet_seat number f m h same stays waits_as =
     kept_of_seat number f h
-    (all_always (λ s. s.number ≡ number → IsMild s (f s)) m.seats
-    (λ s e. record { number = same s; stays = λ c. stays s ∙ c; waits = λ w. rw (waits_as s, stays s) w }))
+    (all_always _ m.seats (λ s e. record { number = same s; stays = λ c. stays s ∙ c; waits = λ w. rw (waits_as s, stays s) w }))
 
 -- A change of one seat that makes no client wait does not add a waiting client.
 no_more_wait : (number : ℕ) (f : SeatRecord → SeatRecord) (m : Machine) → ((s : SeatRecord) → is_waiting (f s) ≡ true → is_waiting s ≡ true)
@@ -86,8 +85,7 @@ one_more_waits f low (suc n) number (s ∷ seats) e =
       | inl b ↦
           let at : s.number ≡ number = eqb-true s.number number b in
           let others : count_by is_waiting (map (λ s. cond (s.number == number) (f s) s) seats) ≤ count_by is_waiting seats =
-          count_of_map is_waiting (λ s. cond (s.number == number) (f s) s) seats
-          (all_weaker (λ u. suc low ≤ u.number) (λ u. is_waiting (cond (u.number == number) (f u) u) ≡ true → is_waiting u ≡ true) seats
+          count_of_map is_waiting (λ s. cond (s.number == number) (f s) s) seats (all_weaker _ _ seats
           (λ u above. cond_both (u.number == number) (f u) u (λ t. is_waiting t ≡ true → is_waiting u ≡ true)
           (λ c. let is : u.number ≡ number = eqb-true u.number number c in absurd (omega arith)) (λ c w. w))
           (numbers_above (suc low) n seats rest)) in
@@ -100,7 +98,7 @@ leaves_reserve : (until : Option ℕ) (m : Machine) (s : SeatRecord) → Keeps m
     → Leaves m (reserve_effect until m s)
 leaves_reserve until m s h there c = record {
   keeps = kept_of_seat s.number (waiting_from (raised m.tickets) until) h
-      (all_weaker (λ t. t.number ≡ s.number → t ≡ s) (λ t. t.number ≡ s.number → IsMild t (waiting_from (raised m.tickets) until t)) m.seats
+      (all_weaker _ _ m.seats
       (λ t only e. record { number = refl; stays = λ d. d; waits = λ w. ap (λ (u : SeatRecord). u.connected) (only e) ∙ c }) there.alone);
   waiting = let more = one_more_waits (waiting_from (raised m.tickets) until) 0 m.settings.seats s.number m.seats h.seated in omega arith;
 }
@@ -126,8 +124,7 @@ leaves_connect : (m : Machine) (seat : ℕ) → Keeps m → Leaves m (silent (af
 leaves_connect m seat h =
     leaves_silent m (after_connect m seat)
     (kept_of_seat seat (λ s. record (empty_seat s.number) { connected = true }) h
-    (all_always (λ s. s.number ≡ seat → IsMild s (record (empty_seat s.number) { connected = true })) m.seats
-    (λ s e. record { number = refl; stays = λ d. refl; waits = λ w. refl })))
+    (all_always _ m.seats (λ s e. record { number = refl; stays = λ d. refl; waits = λ w. refl })))
     (no_more_wait seat (λ s. record (empty_seat s.number) { connected = true }) m (λ s w. absurd cc))
 
 leaves_close : (m : Machine) (seat : ℕ) → Keeps m → Leaves m (telling answers.Closed (after_close m seat))
@@ -138,7 +135,7 @@ leaves_close m seat h =
 
 there_of : (m : Machine) (seat : ℕ) (s : SeatRecord) → Keeps m → IsSeat m seat s → IsThere m s
 there_of m seat s h is = record {
-  alone = all_weaker (λ t. t.number ≡ seat → t ≡ s) (λ t. t.number ≡ s.number → t ≡ s) m.seats (λ t only i. only (i ∙ is.number))
+  alone = all_weaker _ _ m.seats (λ t only i. only (i ∙ is.number))
       (only_seat 0 m.settings.seats seat m.seats s h.seated is.found);
   seated = is.there;
 }

@@ -2,10 +2,10 @@
 use Rattle.std.proofs.Common.{ℕ, ◌≡◌, Bool, true, false, not, List, [], ◌∷◌, ◌++◌, append_assoc, arith, refl}
 use Rattle.std.proofs.Common.{sym, ap, ◌∙◌, subst, inl, inr, ◌⊎◌, Option, Some, None, append-nil}
 use Rattle.std.proofs.lemmas.{Bool.{both_ways, cases_Bool, or_from}, Grind.common_steps}
-use Rattle.std.proofs.lemmas.List.{Elements.Contains-append_cases, Folds.list_any-append}
+use Rattle.std.proofs.lemmas.List.{Elements.{All-contains, Contains-append_cases, filter_passes}, Folds.list_any-append}
 use Rattle.std.specs.{List.{AllByRecursion as All, Contains}, Prelude.{◌==◌, IsTrue, filter, flat_map}}
 use Rattle.bq_job.specs.machine.{Chain, DispatchTurn, Dispatches, Effect, EndsWaits, GivenAnswer, IsStep, Machine.Machine}
-use Rattle.bq_job.specs.machine.{Memory, Outcome, WaitEndTurn, acted, addressed, after_timers, at_moment, forgetting}
+use Rattle.bq_job.specs.machine.{Memory, WaitEndTurn, acted, addressed, after_timers, at_moment, forgetting}
 use Rattle.bq_job.specs.laws.{GivesLeast, IsDeletion, IsDispatchedLeast, has_inserted, is_inserted}
 use Rattle.bq_job.specs.machine.{is_held_by, is_possible, is_reserved, job_with, last_id}
 use Rattle.bq_job.specs.{promise.{GoesBy, IsTransition, Parts, Transition, parts_of}, Types.{Answer, Job, Step}}
@@ -14,7 +14,7 @@ use Rattle.bq_job.specs.declared.request.Request.TheVariants as requests
 use Rattle.bq_job.specs.declared.step.Step.TheVariants as steps
 use Rattle.bq_job.proofs.Trace.{IsServing, IsTrace, of_serves, of_turns, steady}
 use Rattle.bq_job.proofs.{DispatchLemmas.{reserved_is_least, turn_of}, EffectKinds.is_common, LawfulLemmas.end_of}
-use Rattle.bq_job.proofs.{ListLemmas.{all_always, all_at, all_of_append, all_of_filter}, LookupLemmas.found_job, OwnAnswerLemmas.Tells}
+use Rattle.bq_job.proofs.{ListLemmas.{all_at, all_of_append}, LookupLemmas.found_job, OwnAnswerLemmas.Tells}
 use Rattle.bq_job.proofs.OwnAnswerLemmas.{drains_acted, tells_acted}
 
 -- an element of two joined lists: in the first, or in the second
@@ -119,60 +119,14 @@ dispatched_least first before handed given more early seat id body last d is pla
 -- the command's own answer
 own_place : (seat : ℕ) (o : Option Answer) (early : List GivenAnswer) (g : GivenAnswer) (more : List GivenAnswer)
     → addressed seat o ≡ early ++ g ∷ more → (early ≡ []) × (more ≡ []) × (g.0 ≡ seat) × (o ≡ Some g.1)
-own_place seat None [] g more e = absurd cc
+own_place seat o [] g more e = grind (arith, common_steps)
 own_place seat None (x ∷ early) g more e = absurd cc
-own_place seat (Some answer) [] g more e = grind (arith, common_steps)
 own_place seat (Some answer) (x ∷ []) g more e = absurd cc
 own_place seat (Some answer) (x ∷ y ∷ early) g more e = absurd cc
 
 reserves_by_id : (m : Machine) (seat : ℕ) (what : Step) (e : Effect) (id : ℕ) (body : List ℕ) → Tells m seat what e
     → e.answer ≡ Some (answers.Reserved id body) → what ≡ steps.Ask (requests.ReserveJob id)
 reserves_by_id m seat what e id body h is = grind (arith, common_steps)
-
--- the command's own answers in a step
-abbrev own_answers : (t : Transition) (memory : Memory) (before : Machine) → List GivenAnswer
-own_answers t memory before = addressed t.entry.seat (acted memory before t.entry.seat t.entry.what).answer
-
--- Each RESERVED of a step is one of three: the command's own, or dispatch gives it, before or after the command.
-step_gives_least : (t : Transition) (s : IsStep t.first t.entry.moment t.entry.seat t.entry.what t.outcome t.given t.last)
-    → GivesLeast (record t { parts = parts_of s })
-step_gives_least t s early more seat id body split =
-    let x : GivenAnswer = (seat, answers.Reserved id body) in
-    let timed = forgetting (after_timers (at_moment t.entry.moment t.first)) in
-    let own = own_answers t s.memory s.before in
-    let a = in_first IsCommon (s.handed ++ s.ended ++ own ++ s.handed_then) s.ended_then early x more (sym s.answers_are ∙ split)
-    (λ e. absurd cc) (ends_common _ _ _ s.serves_then.ends_waits) in
-    elim (split_at (s.handed ++ s.ended ++ own) s.handed_then early x a.rest a.first_is) [
-      | inl i ↦ elim (split_at (s.handed ++ s.ended) own early x i.rest i.first_is) [
-        | inl j ↦
-            let k = in_first IsCommon s.handed s.ended early x j.rest j.first_is (λ e. absurd cc) (ends_common _ _ _ s.serves.ends_waits) in
-            inr (inl (dispatched_least timed [] s.handed early k.rest early seat id body s.serves.between s.serves.dispatches
-            k.first_is refl))
-        | inr j ↦
-            let o = own_place t.entry.seat (acted s.memory s.before t.entry.seat t.entry.what).answer j.begin x i.rest j.second_is in
-            inl (record {
-              asks = reserves_by_id s.before t.entry.seat t.entry.what (acted s.memory s.before t.entry.seat t.entry.what) id body
-                  (tells_acted s.memory s.before t.entry.seat t.entry.what) o.3;
-              by = sym o.2;
-              place = j.early_is ∙ ap (λ xs. s.handed ++ s.ended ++ xs) o.0 ∙ append-nil (s.handed ++ s.ended);
-            })
-      ]
-      | inr i ↦ inr (inr (dispatched_least s.after (s.handed ++ s.ended ++ own) s.handed_then i.begin a.rest early seat id body
-          s.serves_then.between s.serves_then.dispatches i.second_is i.early_is))
-    ]
-
-pub transition_gives_least : (t : Transition) → IsTransition t → GivesLeast t
-transition_gives_least t is =
-    subst (λ (ps : Parts). GivesLeast (record t { parts = ps })) (sym is.parts_are) (step_gives_least t is.step)
-
--- each step of a run
-pub step_of_run : (first : Machine) (taken : List Transition) (last : Machine) → GoesBy first taken last → All IsTransition taken
-step_of_run first [] last goes = tt
-step_of_run first (t ∷ taken) last goes = (goes.1, step_of_run t.last taken last goes.2)
-
-pub run_gives_least : (first : Machine) (taken : List Transition) (last : Machine) (t : Transition) → GoesBy first taken last
-    → Contains taken t → GivesLeast t
-run_gives_least first taken last t goes i = transition_gives_least t (all_at IsTransition taken t (step_of_run first taken last goes) i)
 
 none_served : (given : List GivenAnswer) → All IsServed given → has_inserted given ≡ false
 none_served [] h = refl
@@ -194,103 +148,9 @@ pub record StaysDraining (given : List GivenAnswer) (last : Machine) : Type 0 wh
   pub draining : last.draining ≡ true
   pub none : has_inserted given ≡ false
 
-module _ (first last : Machine) (at seat : ℕ) (what : Step) (outcome : Outcome) (given : List GivenAnswer)
-    (s : IsStep first at seat what outcome given last) where
-  abbrev timed : Machine
-  timed = forgetting (after_timers (at_moment at first))
-
-  abbrev own : List GivenAnswer
-  own = addressed seat (acted s.memory s.before seat what).answer
-
-  served : All IsServed (s.handed ++ s.ended)
-  served = of_serves serving timed s.handed s.ended s.before s.serves
-
-  served_then : All IsServed (s.handed_then ++ s.ended_then)
-  served_then = of_serves serving s.after s.handed_then s.ended_then last s.serves_then
-
-  given_is : given ≡ (s.handed ++ s.ended) ++ own ++ (s.handed_then ++ s.ended_then)
-  given_is = s.answers_are ∙ append_assoc (s.handed ++ s.ended ++ own) s.handed_then s.ended_then
-
-  drains_then : (acted s.memory s.before seat what).machine.draining ≡ true → last.draining ≡ true
-  drains_then drains = (of_serves steady s.after s.handed_then s.ended_then last s.serves_then).draining
-      ∙ ap (λ (l : Machine). l.draining) s.acts ∙ drains
-
-  drained_step : (acted s.memory s.before seat what).machine.draining ≡ true → has_inserted own ≡ false → StaysDraining given last
-  drained_step drains none = record {
-    draining = drains_then drains;
-    none = ap has_inserted given_is ∙ none_joined (s.handed ++ s.ended ++ own) (s.handed_then ++ s.ended_then)
-        (none_joined (s.handed ++ s.ended) own (none_served (s.handed ++ s.ended) served) none)
-        (none_served (s.handed_then ++ s.ended_then) served_then);
-  }
-
-  stays_draining : first.draining ≡ true → StaysDraining given last
-  stays_draining d =
-      let before : s.before.draining ≡ true = (of_serves steady timed s.handed s.ended s.before s.serves).draining ∙ d in
-      drained_step (drains_acted s.memory s.before seat what before)
-      (own_none s.before seat what (acted s.memory s.before seat what) (tells_acted s.memory s.before seat what) before)
-
-  -- after the answer to the put of the last id
-  after_last_at : (early : List GivenAnswer) (by : ℕ) (more : List GivenAnswer) → given ≡ early ++ (by, answers.Inserted last_id) ∷ more
-      → StaysDraining more last
-  after_last_at early by more split =
-      let x : GivenAnswer = (by, answers.Inserted last_id) in
-      let a = in_first IsServed (s.handed ++ s.ended ++ own) (s.handed_then ++ s.ended_then) early x more (sym given_is ∙ split)
-      (λ e. absurd cc) served_then in
-      let b = in_second IsServed (s.handed ++ s.ended) own early x a.rest a.first_is (λ e. absurd cc) served in
-      let o = own_place seat (acted s.memory s.before seat what).answer b.begin x a.rest b.second_is in
-      record {
-        draining = drains_then (drains_at_last s.before seat what (acted s.memory s.before seat what)
-            (tells_acted s.memory s.before seat what) o.3);
-        none = ap has_inserted (a.more_is ∙ ap (λ xs. xs ++ (s.handed_then ++ s.ended_then)) o.1)
-            ∙ none_served (s.handed_then ++ s.ended_then) served_then;
-      }
-
-  own_deleted : (by : ℕ) → Contains given (by, answers.Deleted) → Contains own (by, answers.Deleted)
-  own_deleted by i = contains_own IsServed (s.handed ++ s.ended) own (s.handed_then ++ s.ended_then) (by, answers.Deleted)
-      (λ e. absurd cc) served served_then
-      (rw given_is at i)
-
-begins_draining : (first last : Machine) (at seat : ℕ) (outcome : Outcome) (given : List GivenAnswer)
-    → IsStep first at seat steps.Drain outcome given last → StaysDraining given last
-begins_draining first last at seat outcome given s =
-    let so = of_memory s.memory s.possible in
-    drained_step first last at seat steps.Drain outcome given s so.0 (ap (λ (o : Option Answer). has_inserted (addressed seat o)) so.1)
-  where
-    of_memory : (memory : Memory) → IsTrue (is_possible memory s.before seat steps.Drain)
-        → ((acted memory s.before seat steps.Drain).machine.draining ≡ true) × ((acted memory s.before seat steps.Drain).answer ≡ None)
-    of_memory memory p = grind (arith, common_steps)
-
-pub none_while_draining : (first : Machine) (taken : List Transition) (last : Machine) → GoesBy first taken last → first.draining ≡ true
-    → has_inserted (flat_map (λ (t : Transition). t.given) taken) ≡ false
-none_while_draining first [] last goes d = refl
-none_while_draining first (t ∷ taken) last goes d =
-    let s = stays_draining t.first t.last t.entry.moment t.entry.seat t.entry.what t.outcome t.given goes.1.step
-    (ap (λ (l : Machine). l.draining) goes.0 ∙ d) in
-    none_joined t.given (flat_map (λ (t : Transition). t.given) taken) s.none (none_while_draining t.last taken last goes.2 s.draining)
-
-pub none_after_drain : (first : Machine) (early : List Transition) (t : Transition) (more : List Transition) (last : Machine)
-    → GoesBy first (early ++ t ∷ more) last → t.entry.what ≡ steps.Drain
-    → has_inserted (flat_map (λ (t : Transition). t.given) (t ∷ more)) ≡ false
-none_after_drain first [] t more last goes drains =
-    let s = begins_draining t.first t.last t.entry.moment t.entry.seat t.outcome t.given
-    (rw drains at goes.1.step) in
-    none_joined t.given (flat_map (λ (t : Transition). t.given) more) s.none (none_while_draining t.last more last goes.2 s.draining)
-none_after_drain first (u ∷ early) t more last goes drains = none_after_drain u.last early t more last goes.2 drains
-
-pub none_after_last_id : (first : Machine) (taken : List Transition) (last : Machine) (early : List GivenAnswer) (seat : ℕ)
-    (more : List GivenAnswer) → GoesBy first taken last
-    → flat_map (λ (t : Transition). t.given) taken ≡ early ++ (seat, answers.Inserted last_id) ∷ more → has_inserted more ≡ false
-none_after_last_id first [] last [] seat more goes e = absurd cc
-none_after_last_id first [] last (g ∷ early) seat more goes e = absurd cc
-none_after_last_id first (t ∷ taken) last early seat more goes e =
-    elim (split_at t.given (flat_map (λ (t : Transition). t.given) taken) early (seat, answers.Inserted last_id) more e) [
-      | inl i ↦
-          let a = after_last_at t.first t.last t.entry.moment t.entry.seat t.entry.what t.outcome t.given goes.1.step early seat i.rest
-          i.first_is in
-          ap has_inserted i.more_is ∙ none_joined i.rest (flat_map (λ (t : Transition). t.given) taken) a.none
-          (none_while_draining t.last taken last goes.2 a.draining)
-      | inr i ↦ none_after_last_id t.last taken last i.begin seat more goes.2 i.second_is
-    ]
+drain_acts : (memory : Memory) (m : Machine) (seat : ℕ) → IsTrue (is_possible memory m seat steps.Drain)
+    → ((acted memory m seat steps.Drain).machine.draining ≡ true) × ((acted memory m seat steps.Drain).answer ≡ None)
+drain_acts memory m seat p = grind (arith, common_steps)
 
 -- a job that its client may delete, and does
 record Deletes (m : Machine) (seat : ℕ) (what : Step) (e : Effect) : Type 0 where
@@ -310,32 +170,158 @@ own_contains : (seat by : ℕ) (answer : Answer) (o : Option Answer) → Contain
     → (seat ≡ by) × (o ≡ Some answer)
 own_contains seat by answer o i = grind (arith, common_steps, cases_Bool, all_at)
 
-deletion_at : (t : Transition) (s : IsStep t.first t.entry.moment t.entry.seat t.entry.what t.outcome t.given t.last) (seat : ℕ)
-    → Contains (own_answers t s.memory s.before) (seat, answers.Deleted) → IsDeletion (record t { parts = parts_of s }) seat
-deletion_at t s seat i =
-    let own = own_contains t.entry.seat seat answers.Deleted (acted s.memory s.before t.entry.seat t.entry.what).answer i in
-    let d = deletes s.before t.entry.seat t.entry.what (acted s.memory s.before t.entry.seat t.entry.what)
-    (tells_acted s.memory s.before t.entry.seat t.entry.what) own.1 in
-    let found = found_job d.id s.before.jobs d.job d.found in
-    let jobs : s.after.jobs ≡ filter (λ k. not (k.id == d.job.id)) s.before.jobs = ap (λ (l : Machine). l.jobs) s.acts ∙ d.jobs in
-    record {
-      id = d.id;
-      job = d.job;
-      asks = d.asks;
-      by = own.0;
-      there = found.1;
-      id_is = found.0;
-      free = subst (λ n. (is_reserved d.job.state ≡ false) ⊎ (is_held_by n d.job ≡ true)) own.0 d.free;
-      gone = λ k j.
-          rw found.0 at (all_at (λ l. Unit {0} × (not (l.id == d.job.id) ≡ true)) (filter (λ k. not (k.id == d.job.id)) s.before.jobs) k
-          (all_of_filter (λ l. Unit {0}) (λ k. not (k.id == d.job.id)) s.before.jobs
-          (all_always (λ (l : Job). Unit {0}) s.before.jobs (λ l. tt))) (rw jobs at j)).1;
-    }
+-- the answers of one step
+module _ (t : Transition) (s : IsStep t.first t.entry.moment t.entry.seat t.entry.what t.outcome t.given t.last) where
+  -- what the command itself does, and its answer
+  abbrev act : Effect
+  act = acted s.memory s.before t.entry.seat t.entry.what
 
-deletion_of : (t : Transition) → IsTransition t → (seat : ℕ) → Contains t.given (seat, answers.Deleted) → IsDeletion t seat
-deletion_of t is seat i = rw is.parts_are
-    (deletion_at t is.step seat (own_deleted t.first t.last t.entry.moment t.entry.seat t.entry.what t.outcome t.given is.step seat i))
+  abbrev own : List GivenAnswer
+  own = addressed t.entry.seat act.answer
+
+  abbrev timed : Machine
+  timed = forgetting (after_timers (at_moment t.entry.moment t.first))
+
+  tells : Tells s.before t.entry.seat t.entry.what act
+  tells = tells_acted s.memory s.before t.entry.seat t.entry.what
+
+  served : All IsServed (s.handed ++ s.ended)
+  served = of_serves serving timed s.handed s.ended s.before s.serves
+
+  served_then : All IsServed (s.handed_then ++ s.ended_then)
+  served_then = of_serves serving s.after s.handed_then s.ended_then t.last s.serves_then
+
+  given_is : t.given ≡ (s.handed ++ s.ended) ++ own ++ (s.handed_then ++ s.ended_then)
+  given_is = s.answers_are ∙ append_assoc (s.handed ++ s.ended ++ own) s.handed_then s.ended_then
+
+  -- Each RESERVED of a step is one of three: the command's own, or dispatch gives it, before or after the command.
+  step_gives_least : GivesLeast (record t { parts = parts_of s })
+  step_gives_least early more seat id body split =
+      let x : GivenAnswer = (seat, answers.Reserved id body) in
+      let a = in_first IsCommon (s.handed ++ s.ended ++ own ++ s.handed_then) s.ended_then early x more (sym s.answers_are ∙ split)
+      (λ e. absurd cc) (ends_common _ _ _ s.serves_then.ends_waits) in
+      elim (split_at (s.handed ++ s.ended ++ own) s.handed_then early x a.rest a.first_is) [
+        | inl i ↦ elim (split_at (s.handed ++ s.ended) own early x i.rest i.first_is) [
+          | inl j ↦
+              let k = in_first IsCommon s.handed s.ended early x j.rest j.first_is (λ e. absurd cc)
+              (ends_common _ _ _ s.serves.ends_waits) in
+              inr (inl (dispatched_least timed [] s.handed early k.rest early seat id body s.serves.between s.serves.dispatches
+              k.first_is refl))
+          | inr j ↦
+              let o = own_place t.entry.seat act.answer j.begin x i.rest j.second_is in
+              inl (record {
+                asks = reserves_by_id s.before t.entry.seat t.entry.what act id body tells o.3;
+                by = sym o.2;
+                place = j.early_is ∙ ap (λ xs. s.handed ++ s.ended ++ xs) o.0 ∙ append-nil (s.handed ++ s.ended);
+              })
+        ]
+        | inr i ↦ inr (inr (dispatched_least s.after (s.handed ++ s.ended ++ own) s.handed_then i.begin a.rest early seat id body
+            s.serves_then.between s.serves_then.dispatches i.second_is i.early_is))
+      ]
+
+  drains_then : act.machine.draining ≡ true → t.last.draining ≡ true
+  drains_then drains = (of_serves steady s.after s.handed_then s.ended_then t.last s.serves_then).draining
+      ∙ ap (λ (l : Machine). l.draining) s.acts ∙ drains
+
+  drained_step : act.machine.draining ≡ true → has_inserted own ≡ false → StaysDraining t.given t.last
+  drained_step drains none = record {
+    draining = drains_then drains;
+    none = ap has_inserted given_is ∙ none_joined (s.handed ++ s.ended ++ own) (s.handed_then ++ s.ended_then)
+        (none_joined (s.handed ++ s.ended) own (none_served (s.handed ++ s.ended) served) none)
+        (none_served (s.handed_then ++ s.ended_then) served_then);
+  }
+
+  stays_draining : t.first.draining ≡ true → StaysDraining t.given t.last
+  stays_draining d =
+      let before : s.before.draining ≡ true = (of_serves steady timed s.handed s.ended s.before s.serves).draining ∙ d in
+      drained_step (drains_acted s.memory s.before t.entry.seat t.entry.what before)
+      (own_none s.before t.entry.seat t.entry.what act tells before)
+
+  begins_draining : t.entry.what ≡ steps.Drain → StaysDraining t.given t.last
+  begins_draining drains =
+      let so : (act.machine.draining ≡ true) × (act.answer ≡ None) =
+      rw drains (drain_acts s.memory s.before t.entry.seat (rw drains at s.possible)) in
+      drained_step so.0 (ap (λ (o : Option Answer). has_inserted (addressed t.entry.seat o)) so.1)
+
+  -- after the answer to the put of the last id
+  after_last_at : (early : List GivenAnswer) (by : ℕ) (more : List GivenAnswer) → t.given ≡ early ++ (by, answers.Inserted last_id) ∷ more
+      → StaysDraining more t.last
+  after_last_at early by more split =
+      let x : GivenAnswer = (by, answers.Inserted last_id) in
+      let a = in_first IsServed (s.handed ++ s.ended ++ own) (s.handed_then ++ s.ended_then) early x more (sym given_is ∙ split)
+      (λ e. absurd cc) served_then in
+      let b = in_second IsServed (s.handed ++ s.ended) own early x a.rest a.first_is (λ e. absurd cc) served in
+      let o = own_place t.entry.seat act.answer b.begin x a.rest b.second_is in
+      record {
+        draining = drains_then (drains_at_last s.before t.entry.seat t.entry.what act tells o.3);
+        none = ap has_inserted (a.more_is ∙ ap (λ xs. xs ++ (s.handed_then ++ s.ended_then)) o.1)
+            ∙ none_served (s.handed_then ++ s.ended_then) served_then;
+      }
+
+  deletion_at : (seat : ℕ) → Contains t.given (seat, answers.Deleted) → IsDeletion (record t { parts = parts_of s }) seat
+  deletion_at seat i =
+      let mine = contains_own IsServed (s.handed ++ s.ended) own (s.handed_then ++ s.ended_then) (seat, answers.Deleted)
+      (λ e. absurd cc) served served_then (rw given_is at i) in
+      let asker = own_contains t.entry.seat seat answers.Deleted act.answer mine in
+      let d = deletes s.before t.entry.seat t.entry.what act tells asker.1 in
+      let found = found_job d.id s.before.jobs d.job d.found in
+      let jobs : s.after.jobs ≡ filter (λ k. not (k.id == d.job.id)) s.before.jobs = ap (λ (l : Machine). l.jobs) s.acts ∙ d.jobs in
+      record {
+        id = d.id;
+        job = d.job;
+        asks = d.asks;
+        by = asker.0;
+        there = found.1;
+        id_is = found.0;
+        free = subst (λ n. (is_reserved d.job.state ≡ false) ⊎ (is_held_by n d.job ≡ true)) asker.0 d.free;
+        gone = λ k j.
+            let passes = filter_passes (λ l. not (l.id == d.job.id)) s.before.jobs in
+            rw found.0 at (All-contains (λ (l : Job). not (l.id == d.job.id) ≡ true) _ k passes (rw jobs at j));
+      }
+
+-- each step of a run
+pub step_of_run : (first : Machine) (taken : List Transition) (last : Machine) → GoesBy first taken last → All IsTransition taken
+step_of_run first [] last goes = tt
+step_of_run first (t ∷ taken) last goes = (goes.1, step_of_run t.last taken last goes.2)
+
+pub transition_gives_least : (t : Transition) → IsTransition t → GivesLeast t
+transition_gives_least t is =
+    subst (λ (ps : Parts). GivesLeast (record t { parts = ps })) (sym is.parts_are) (step_gives_least t is.step)
+
+pub run_gives_least : (first : Machine) (taken : List Transition) (last : Machine) (t : Transition) → GoesBy first taken last
+    → Contains taken t → GivesLeast t
+run_gives_least first taken last t goes i = transition_gives_least t (all_at IsTransition taken t (step_of_run first taken last goes) i)
 
 pub run_deletes : (first : Machine) (taken : List Transition) (last : Machine) (t : Transition) (seat : ℕ) → GoesBy first taken last
     → Contains taken t → Contains t.given (seat, answers.Deleted) → IsDeletion t seat
-run_deletes first taken last t seat goes i c = deletion_of t (all_at IsTransition taken t (step_of_run first taken last goes) i) seat c
+run_deletes first taken last t seat goes i c =
+    let is = all_at IsTransition taken t (step_of_run first taken last goes) i in rw is.parts_are (deletion_at t is.step seat c)
+
+pub none_while_draining : (first : Machine) (taken : List Transition) (last : Machine) → GoesBy first taken last → first.draining ≡ true
+    → has_inserted (flat_map (λ (t : Transition). t.given) taken) ≡ false
+none_while_draining first [] last goes d = refl
+none_while_draining first (t ∷ taken) last goes d =
+    let s = stays_draining t goes.1.step (ap (λ (l : Machine). l.draining) goes.0 ∙ d) in
+    none_joined t.given (flat_map (λ (t : Transition). t.given) taken) s.none (none_while_draining t.last taken last goes.2 s.draining)
+
+pub none_after_drain : (first : Machine) (early : List Transition) (t : Transition) (more : List Transition) (last : Machine)
+    → GoesBy first (early ++ t ∷ more) last → t.entry.what ≡ steps.Drain
+    → has_inserted (flat_map (λ (t : Transition). t.given) (t ∷ more)) ≡ false
+none_after_drain first [] t more last goes drains =
+    let s = begins_draining t goes.1.step drains in
+    none_joined t.given (flat_map (λ (t : Transition). t.given) more) s.none (none_while_draining t.last more last goes.2 s.draining)
+none_after_drain first (u ∷ early) t more last goes drains = none_after_drain u.last early t more last goes.2 drains
+
+pub none_after_last_id : (first : Machine) (taken : List Transition) (last : Machine) (early : List GivenAnswer) (seat : ℕ)
+    (more : List GivenAnswer) → GoesBy first taken last
+    → flat_map (λ (t : Transition). t.given) taken ≡ early ++ (seat, answers.Inserted last_id) ∷ more → has_inserted more ≡ false
+none_after_last_id first [] last [] seat more goes e = absurd cc
+none_after_last_id first [] last (g ∷ early) seat more goes e = absurd cc
+none_after_last_id first (t ∷ taken) last early seat more goes e =
+    elim (split_at t.given (flat_map (λ (t : Transition). t.given) taken) early (seat, answers.Inserted last_id) more e) [
+      | inl i ↦
+          let a = after_last_at t goes.1.step early seat i.rest i.first_is in
+          ap has_inserted i.more_is ∙ none_joined i.rest (flat_map (λ (t : Transition). t.given) taken) a.none
+          (none_while_draining t.last taken last goes.2 a.draining)
+      | inr i ↦ none_after_last_id t.last taken last i.begin seat more goes.2 i.second_is
+    ]

@@ -50,10 +50,8 @@ IsAside jobs k = (job_with k.id jobs ≡ Some k) × (is_reserved k.state ≡ tru
 aside_of_filter : (jobs : List Job) (p : Job → Bool) (next : ℕ) → AreIdsWithin 1 jobs next
     → ((j : Job) → p j ≡ true → (is_buried j.state || is_delayed j.state) ≡ true) → All (IsAside jobs) (filter p jobs)
 aside_of_filter jobs p next ids only =
-    all_weaker (λ j. (job_with j.id jobs ≡ Some j) × (p j ≡ true)) (IsAside jobs) (filter p jobs)
-    (λ j h. (h.0, put_aside_not_held j.state (only j h.1)))
-    (all_of_filter (λ j. job_with j.id jobs ≡ Some j) p jobs
-    (all_from_members (λ j. job_with j.id jobs ≡ Some j) jobs (λ j i. (job_found 1 next jobs j ids i).0)))
+    all_weaker _ (IsAside jobs) (filter p jobs) (λ j h. (h.0, put_aside_not_held j.state (only j h.1)))
+    (all_of_filter _ p jobs (all_from_members (λ j. job_with j.id jobs ≡ Some j) jobs (λ j i. (job_found 1 next jobs j ids i).0)))
 
 pub kickable_aside : (tube : List ℕ) (jobs : List Job) (next : ℕ) → AreIdsWithin 1 jobs next → All (IsAside jobs) (kickable tube jobs)
 kickable_aside tube jobs next ids =

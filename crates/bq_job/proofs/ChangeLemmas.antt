@@ -122,8 +122,7 @@ move_of_jobs what m n ids (changed f after next same becomes) =
       next = next;
       plain = plain_changes what m.jobs n.jobs
           (subst (All (λ j. is_none (job_with j.id m.jobs) ≡ false)) (sym after)
-          (all_of_map (λ j. is_none (job_with j.id m.jobs) ≡ false) f m.jobs
-          (all_weaker (λ j. is_none (job_with j.id m.jobs) ≡ false) (λ j. is_none (job_with (f j).id m.jobs) ≡ false) m.jobs
+          (all_of_map _ f m.jobs (all_weaker _ _ m.jobs
           (λ j h. subst (λ id. is_none (job_with id m.jobs) ≡ false) (sym (same j)) h) (were_there m.jobs m.next_id ids))));
       fates = λ id. subst (Fate id (changes what m.jobs n.jobs) (job_with id m.jobs)) (sym (lookup id))
           (changed_fate what m.jobs n.jobs f id (job_with id m.jobs) refl (lookup id) becomes);

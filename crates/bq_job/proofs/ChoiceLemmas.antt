@@ -85,18 +85,12 @@ first_of_none passes before xs h = sym (first_of_is_some passes before xs) ∙ a
 -- if none passes, none is chosen
 pub first_of_none_passes : {X : Type 0} (passes : X → Bool) (before : X → X → Bool) (xs : List X) → list_any passes xs ≡ false
     → first_of passes before xs ≡ None
-first_of_none_passes passes before xs h = none_chosen (first_of passes before xs) (first_of_is_some passes before xs ∙ h)
-  where
-    none_chosen : {X : Type 0} (o : Option X) → is_some o ≡ false → o ≡ None
-    none_chosen o e = grind (arith, common_steps)
+first_of_none_passes passes before xs h = let is = first_of_is_some passes before xs in grind (arith, common_steps)
 
 -- if one passes, one is chosen
 pub first_of_some : {X : Type 0} (passes : X → Bool) (before : X → X → Bool) (xs : List X) → list_any passes xs ≡ true
     → (z : X) × (first_of passes before xs ≡ Some z)
-first_of_some passes before xs h = one_chosen (first_of passes before xs) (first_of_is_some passes before xs ∙ h)
-  where
-    one_chosen : {X : Type 0} (o : Option X) → is_some o ≡ true → (z : X) × (o ≡ Some z)
-    one_chosen o e = grind (arith, common_steps)
+first_of_some passes before xs h = let is = first_of_is_some passes before xs in grind (arith, common_steps)
 
 -- An element of the list that passes is the chosen one if none that passes comes before it and no
 -- other ties with it.

@@ -1,21 +1,22 @@
 -- What a step gives to one client: to the client that takes it, and to every other one.
-use Rattle.std.proofs.Common.{ℕ, ◌≡◌, ◌<◌, Bool, true, false, ◌&&◌, ◌||◌, List, [], ◌++◌, map}
+use Rattle.std.proofs.Common.{ℕ, ◌≡◌, ◌<◌, Bool, true, false, ◌&&◌, ◌||◌, List, [], ◌++◌}
 use Rattle.std.proofs.Common.{length, length-append, append_assoc, arith, refl, sym, ap, ◌∙◌, subst, inl, inr, Option, Some, None}
 use Rattle.std.proofs.lemmas.{Bool.{and_parts, both_ways, cases_Bool, cond_both}, Grind.common_steps}
-use Rattle.std.specs.{List.AllByRecursion as All, Prelude.{◌==◌, IsTrue}}
+use Rattle.std.specs.{List.{AllByRecursion as All, list_any}, Prelude.{◌==◌, IsTrue}}
 use Rattle.bq_job.specs.machine.{Effect, GivenAnswer, IsStep, Machine.Machine, Memory, Outcome, SeatRecord}
 use Rattle.bq_job.specs.machine.{at_found, at_moment, effect, empty_seat, end_effect, ends_waiting}
 use Rattle.bq_job.specs.machine.{forgetting, is_connected_at, is_deadline_soon, is_possible}
 use Rattle.bq_job.specs.machine.{is_until_over, is_wait_before, is_waiting, seat_with, silent}
 use Rattle.bq_job.specs.beside.{GetsAnswer, GetsAtMost, GetsClosed, GetsWhatWaits, GivesClient, IsLawful, owing}
-use Rattle.bq_job.specs.machine.{acted, addressed, after_close, after_connect, after_timers, step_takes_memory}
+use Rattle.bq_job.specs.machine.{acted, addressed, after_close, after_connect, after_timers, shares_body, step_takes_memory}
 use Rattle.bq_job.specs.{machine.{telling, with_end, with_seat}, promise.answers_to, Types.{Answer, Request, Step}}
 use Rattle.bq_job.specs.declared.answer.Answer.TheVariants as answers
 use Rattle.bq_job.specs.declared.step.Step.TheVariants as steps
 use Rattle.bq_job.proofs.Trace.{of_serves, steady}
-use Rattle.bq_job.proofs.ListLemmas.{all_always, all_at, all_both, all_pass, all_weaker, keys_of_map, list_any_not, none_pass}
-use Rattle.bq_job.proofs.OneClientLemmas.{Found, Passes, answers_append, changed, changed_none, changed_quiet, changed_some}
-use Rattle.bq_job.proofs.OneClientLemmas.{connected_in, ended_in, finds, one_for, passes_serves, unclosed_append, waits_in}
+use Rattle.bq_job.proofs.ListLemmas.{all_at, all_both, all_pass, all_weaker, list_any_not, none_pass}
+use Rattle.bq_job.proofs.OneClientLemmas.{Found, Passes, answers_append, changed_none, changed_numbers, changed_quiet}
+use Rattle.bq_job.proofs.OneClientLemmas.{changed_some}
+use Rattle.bq_job.proofs.OneClientLemmas.{connected_in, finds, one_for, passes_serves, unclosed_append, waits_in}
 use Rattle.bq_job.proofs.{ChoiceLemmas.first_of_none, KeptLemmas.is_open_wait}
 use Rattle.bq_job.proofs.{LawfulLemmas.{step_is_lawful}, ReplyLemmas.{replies_acted, replies_effect}}
 use Rattle.bq_job.proofs.ReplyLemmas.{stays_acted, told, told_elsewhere}
@@ -57,21 +58,15 @@ gets_quiet client first last seat what given p takes untold waits connects =
 end_untold : (m : Machine) (o : Option SeatRecord) → (at_found end_effect m o).answer ≡ None
 end_untold m o = grind (arith, common_steps, cases_Bool, cond_both)
 
-end_waits : (client : ℕ) (m : Machine) (o : Option SeatRecord)
-    → waits_in client ((at_found end_effect m o).machine).seats ≡ waits_in client m.seats
-end_waits client m None = refl
-end_waits client m (Some s) =
+-- A test of clients that the end of their input does not change.
+end_quiet : (client : ℕ) (q : SeatRecord → Bool) → ((s : SeatRecord) → q (with_end s) ≡ q s) → (m : Machine) (o : Option SeatRecord)
+    → list_any (λ s. s.number == client && q s) ((at_found end_effect m o).machine).seats
+    ≡ list_any (λ s. s.number == client && q s) m.seats
+end_quiet client q same m None = refl
+end_quiet client q same m (Some s) =
     cond_both s.connected (silent (with_seat s.number with_end m)) (silent m)
-    (λ e. waits_in client (e.machine).seats ≡ waits_in client m.seats)
-    (λ e. changed_quiet client s.number with_end is_waiting m.seats (λ t. refl) (λ t. refl)) (λ e. refl)
-
-end_connects : (client : ℕ) (m : Machine) (o : Option SeatRecord)
-    → connected_in client ((at_found end_effect m o).machine).seats ≡ connected_in client m.seats
-end_connects client m None = refl
-end_connects client m (Some s) =
-    cond_both s.connected (silent (with_seat s.number with_end m)) (silent m)
-    (λ e. connected_in client (e.machine).seats ≡ connected_in client m.seats)
-    (λ e. changed_quiet client s.number with_end (λ t. t.connected) m.seats (λ t. refl) (λ t. refl)) (λ e. refl)
+    (λ e. list_any (λ s. s.number == client && q s) (e.machine).seats ≡ list_any (λ s. s.number == client && q s) m.seats)
+    (λ e. changed_quiet client s.number with_end q m.seats (λ t. refl) same) (λ e. refl)
 
 no_length : (xs : List Answer) → length xs ≡ 0 → xs ≡ []
 no_length xs h = grind (arith, common_steps, cases_Bool)
@@ -85,17 +80,21 @@ answers_of_parts seat o early late given e = grind (arith, common_steps, answers
 unconnected_waits_not : (seat : ℕ) (seats : List SeatRecord) → All (λ s. is_open_wait s ≡ true) seats → connected_in seat seats ≡ false
     → waits_in seat seats ≡ false
 unconnected_waits_not seat seats waits c =
-    list_any_not (λ s. s.number == seat && is_waiting s) seats
-    (all_weaker (λ s. (is_open_wait s ≡ true) × ((s.number == seat && s.connected) ≡ false))
-    (λ s. (s.number == seat && is_waiting s) ≡ false) seats
-    (λ s h. grind (arith, common_steps, cases_Bool))
-    (all_both (λ s. is_open_wait s ≡ true) (λ s. (s.number == seat && s.connected) ≡ false) seats waits
-    (none_pass (λ s. s.number == seat && s.connected) seats c)))
+    list_any_not _ seats (all_weaker _ _ seats (λ s h. grind (arith, common_steps, cases_Bool))
+    (all_both _ _ seats waits (none_pass (λ s. s.number == seat && s.connected) seats c)))
 
 -- the seat that the step is at, before the command's own effect
 found_before : (first last : Machine) (seat : ℕ) (what : Step) (given : List GivenAnswer) → IsLawful first → seat < first.settings.seats
     → (p : Parts seat first last seat what given) → Found seat (p.before).seats
 found_before first last seat what given h there p = finds first.settings.seats seat (p.before).seats (p.comes.numbers ∙ h.seats) there
+
+-- the effect of a command that allocates nothing and shares no body, and how the step goes on from there
+own_effect : (seat : ℕ) (first last : Machine) (what : Step) (given : List GivenAnswer) (p : Parts seat first last seat what given)
+    (e : Effect) → step_takes_memory what ≡ false → shares_body e.answer ≡ false → effect p.before seat what ≡ e
+    → (acted p.memory p.before seat what ≡ e) × Passes seat (e.machine).seats last.seats p.late
+own_effect seat first last what given p e takes shares is =
+    let acts : acted p.memory p.before seat what ≡ e = grind (arith, common_steps, both_ways, and_parts) in
+    (acts, subst (λ (x : Effect). Passes seat (x.machine).seats last.seats p.late) acts p.goes)
 
 abbrev seated : SeatRecord → SeatRecord
 seated s = record (empty_seat s.number) { connected = true }
@@ -111,17 +110,9 @@ gives_connect first last seat given h there p c =
     unconnected_waits_not seat first.seats (all_pass is_open_wait first.seats h.waits) c in
     let begin : ((length (answers_to seat p.early)) ≡ 0) × ((waits_in seat m.seats) ≡ false) = grind (arith, common_steps, cases_Bool) in
     let gone : s.connected ≡ false = sym f.connected ∙ p.comes.connected ∙ c in
-    let effect_is : effect m seat steps.Connect ≡ silent (after_connect m s.number) = grind (arith, common_steps) in
-    let e : acted p.memory m seat steps.Connect ≡ silent (after_connect m s.number) =
-    (grind (arith, common_steps, both_ways, and_parts)) ∙ effect_is in
-    let goes : Passes seat (changed s.number seated m.seats) last.seats p.late =
-    subst (λ (x : Effect). Passes seat (x.machine).seats last.seats p.late) e p.goes in
-    let waits_after : waits_in seat (changed s.number seated m.seats) ≡ false =
-    subst (λ n. waits_in n (changed s.number seated m.seats) ≡ false) f.number
-    (changed_none s.number seated is_waiting m.seats (λ t. refl)) in
-    let connected_after : connected_in seat (changed s.number seated m.seats) ≡ true =
-    subst (λ n. connected_in n (changed s.number seated m.seats) ≡ true) f.number
-    (changed_some seated (λ t. t.connected) m.seats s f.there (λ t. refl) (λ t. refl)) in
+    let e = own_effect seat first last steps.Connect given p (silent (after_connect m s.number)) refl refl (grind (arith, common_steps)) in
+    let waits_after = changed_none seat s.number seated is_waiting m.seats f.number (λ t. refl) in
+    let connected_after = changed_some seat seated (λ t. t.connected) m.seats s f.number f.there (λ t. refl) (λ t. refl) in
     grind (arith, common_steps, no_length, answers_of_parts)
 
 gives_answer : (first last : Machine) (seat : ℕ) (request : Request) (given : List GivenAnswer) → IsLawful first
@@ -143,18 +134,10 @@ gives_closed first last seat given h there p c =
     let f = found_before first last seat steps.Close given h there p in
     let s = f.client in
     let here : s.connected ≡ true = sym f.connected ∙ p.comes.connected ∙ c in
-    let effect_is : effect m seat steps.Close ≡ telling answers.Closed (after_close m s.number) = grind (arith, common_steps) in
-    let e : acted p.memory m seat steps.Close ≡ telling answers.Closed (after_close m s.number) =
-    (grind (arith, common_steps, both_ways, and_parts)) ∙ effect_is in
-    let emptied : SeatRecord → SeatRecord = λ s. empty_seat s.number in
-    let goes : Passes seat (changed s.number emptied m.seats) last.seats p.late =
-    subst (λ (x : Effect). Passes seat (x.machine).seats last.seats p.late) e p.goes in
-    let waits_after : waits_in seat (changed s.number emptied m.seats) ≡ false =
-    subst (λ n. waits_in n (changed s.number emptied m.seats) ≡ false) f.number
-    (changed_none s.number emptied is_waiting m.seats (λ t. refl)) in
-    let connected_after : connected_in seat (changed s.number emptied m.seats) ≡ false =
-    subst (λ n. connected_in n (changed s.number emptied m.seats) ≡ false) f.number
-    (changed_none s.number emptied (λ t. t.connected) m.seats (λ t. refl)) in
+    let e = own_effect seat first last steps.Close given p (telling answers.Closed (after_close m s.number)) refl refl
+    (grind (arith, common_steps)) in
+    let waits_after = changed_none seat s.number (λ t. empty_seat t.number) is_waiting m.seats f.number (λ t. refl) in
+    let connected_after = changed_none seat s.number (λ t. empty_seat t.number) (λ t. t.connected) m.seats f.number (λ t. refl) in
     grind (arith, common_steps, answers_of_parts, no_length)
 
 -- A tick at any seat gives to any client what it waits for.
@@ -175,18 +158,12 @@ gives_end first last seat given h i there p c =
     let f = found_before first last seat steps.End given h there p in
     let s = f.client in
     let here : s.connected ≡ true = sym f.connected ∙ p.comes.connected ∙ c in
-    let effect_is : effect m seat steps.End ≡ silent (with_seat s.number with_end m) = grind (arith, common_steps) in
-    let e : acted p.memory m seat steps.End ≡ silent (with_seat s.number with_end m) = grind (arith, common_steps, both_ways, and_parts) in
-    let goes : Passes seat (changed s.number with_end m.seats) last.seats p.late =
-    subst (λ (x : Effect). Passes seat (x.machine).seats last.seats p.late) e p.goes in
-    let ended_after : ended_in seat (changed s.number with_end m.seats) ≡ true =
-    subst (λ n. ended_in n (changed s.number with_end m.seats) ≡ true) f.number
-    (changed_some with_end (λ t. t.ended) m.seats s f.there (λ t. refl) (λ t. refl)) in
-    let same_numbers : map (λ t. t.number) (changed s.number with_end m.seats) ≡ map (λ t. t.number) m.seats =
-    grind (arith, common_steps, keys_of_map, all_always, cond_both) in
-    let g = finds first.settings.seats seat last.seats (goes.numbers ∙ same_numbers ∙ p.comes.numbers ∙ h.seats) there in
+    let e = own_effect seat first last steps.End given p (silent (with_seat s.number with_end m)) refl refl (grind (arith, common_steps)) in
+    let ended_after = changed_some seat with_end (λ t. t.ended) m.seats s f.number f.there (λ t. refl) (λ t. refl) in
+    let same = changed_numbers s.number with_end m.seats (λ t. refl) in
+    let g = finds first.settings.seats seat last.seats (e.1.numbers ∙ same ∙ p.comes.numbers ∙ h.seats) there in
     let r = g.client in
-    let is_over : r.ended ≡ true = sym g.ended ∙ goes.ended ∙ ended_after in
+    let is_over : r.ended ≡ true = sym g.ended ∙ e.1.ended ∙ ended_after in
     let ends_not : ends_waiting last r ≡ false =
     all_at (λ t. ends_waiting last t ≡ false) last.seats r
     (none_pass (ends_waiting last) last.seats (first_of_none (ends_waiting last) is_wait_before last.seats i.wait_ends)) g.there in
@@ -205,8 +182,8 @@ step_gives_client first last at seat steps.Close outcome given h there s =
 step_gives_client first last at seat steps.End outcome given h there s =
     let p = parts_of seat first last at seat steps.End outcome given s in (
       gets_quiet seat first last seat steps.End given p refl
-          (λ m. end_untold m (seat_with seat m.seats)) (λ m. end_waits seat m (seat_with seat m.seats))
-          (λ m. end_connects seat m (seat_with seat m.seats)),
+          (λ m. end_untold m (seat_with seat m.seats)) (λ m. end_quiet seat is_waiting (λ s. refl) m (seat_with seat m.seats))
+          (λ m. end_quiet seat (λ s. s.connected) (λ s. refl) m (seat_with seat m.seats)),
       λ c. gives_end first last seat given h (step_is_lawful first last at seat steps.End outcome given h s) there p c,
     )
 step_gives_client first last at seat steps.Drain outcome given h there s =

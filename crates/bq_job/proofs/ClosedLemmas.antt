@@ -1,6 +1,6 @@
 -- A run answers `Closed` at most once to each close.
 use Rattle.std.proofs.Common.{ℕ, ◌≡◌, ◌+◌, ◌≤◌, false, ◌&&◌, not, List, [], ◌∷◌, ◌++◌}
-use Rattle.std.proofs.Common.{map, length, refl, ap, ◌∙◌, arith, subst, inl, inr, Option, Some, None}
+use Rattle.std.proofs.Common.{map, length, refl, ap, ◌∙◌, arith, subst, inl, inr, Option}
 use Rattle.std.proofs.lemmas.{Bool.{and_parts, cases_Bool, eqb-true}, Grind.common_steps}
 use Rattle.std.specs.Prelude.{◌==◌}
 use Rattle.bq_job.specs.beside.{AreLinesServed, closes, closings}
@@ -11,7 +11,7 @@ use Rattle.bq_job.specs.declared.answer.Answer.TheVariants as answers
 use Rattle.bq_job.specs.declared.step.Step.TheVariants as steps
 use Rattle.bq_job.proofs.ClientStepLemmas.{answers_of_parts, others_give, parts_of, tick_gives_client}
 use Rattle.bq_job.proofs.{CommandKinds.kind_of, CutLemmas.{closes_append, unclosed_closes}, EachEvent.each_acted}
-use Rattle.bq_job.proofs.EffectKinds.{Kind, adds, changes_jobs, changes_seat, changes_tube, deletes, passes, tells, waits}
+use Rattle.bq_job.proofs.EffectKinds.{Kind}
 use Rattle.bq_job.proofs.{GivenLemmas.{first_here, is_here}, OneClientLemmas.answers_append, ReplyLemmas.told}
 use Rattle.bq_job.proofs.RunLemmas.{run_first, run_of_none}
 
@@ -23,14 +23,7 @@ closings_append (x ∷ xs) ys = closings_append xs ys
 -- ---- one step
 
 asked_unclosed : (request : Request) (m : Machine) (s : SeatRecord) {e : Effect} → Kind m s request e → has_closed (told e.answer) ≡ false
-asked_unclosed request m s (passes none) = refl
-asked_unclosed request m s (tells answer one common unclosed) = rw unclosed refl
-asked_unclosed request m s (waits until one waiting) = refl
-asked_unclosed request m s (adds pri delay ttr body one accepts free) = refl
-asked_unclosed request m s (deletes id j asks found free) = refl
-asked_unclosed request m s (changes_jobs answer f burials says changes) = rw says.unclosed refl
-asked_unclosed request m s (changes_seat answer f says changes) = rw says.unclosed refl
-asked_unclosed request m s (changes_tube tube seconds one) = refl
+asked_unclosed request m s k = grind (arith, common_steps, cases_Bool)
 
 -- Only a close is itself answered `Closed`.
 own_unclosed : (memory : Memory) (m : Machine) (seat : ℕ) (what : Step) → closings (what ∷ []) ≡ 0
@@ -43,8 +36,7 @@ closes_most (answers.Closed ∷ xs) = omega (arith, closes_most xs)
 closes_most (x ∷ xs) = omega (arith, closes_most xs)
 
 told_one : (o : Option Answer) → length (told o) ≤ 1
-told_one None = omega arith
-told_one (Some answer) = omega arith
+told_one o = grind (arith, common_steps)
 
 own_closes : (memory : Memory) (m : Machine) (seat : ℕ) (what : Step)
     → closes (told (acted memory m seat what).answer) ≤ closings (what ∷ [])
@@ -113,8 +105,7 @@ asked_closings [] = refl
 asked_closings (request ∷ asked) = asked_closings asked
 
 end_closings : (line : LineHeard) (asked : List Request) (end_steps : List Step) → MayTellEnd line asked end_steps → closings end_steps ≡ 0
-end_closings line asked end_steps (inl e) = ap closings e
-end_closings line asked end_steps (inr e) = ap closings e.0
+end_closings line asked end_steps h = grind (arith, common_steps)
 
 pub asked_steps_closings : (asked : List Request) (end_steps : List Step) → closings end_steps ≡ 0
     → closings (steps.Connect ∷ [] ++ map steps.Ask asked ++ end_steps) ≡ 0

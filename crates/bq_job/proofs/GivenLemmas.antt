@@ -36,7 +36,7 @@ serves_on t m next at seat what outcome given s step = record {
 elsewhere : (t : ℕ) (m next : Machine) (at seat : ℕ) (what : Step) (outcome : Outcome) (given : List GivenAnswer) → Serves t m
     → (not (is_tick what) && seat == t) ≡ false → IsStep m at seat what outcome given next → GetsWhatWaits m next t (answers_to t given)
 elsewhere t m next at seat steps.Tick outcome given s h step = tick_gives_client m next at seat t outcome given step
-elsewhere t m next at seat what outcome given s h step = search (rules, cases_Bool, others_give)
+elsewhere t m next at seat what outcome given s h step = search (rules, others_give)
 
 -- a request, or that the client sends no more
 abbrev pub is_within : Step → Bool
@@ -261,7 +261,7 @@ abbrev pub most_of_lines : (size : ℕ) (lines : List LineOver) (own : List Step
 most_of_lines size [] own taken h = []
 most_of_lines size (line ∷ lines) own taken h = answered_count h.4.line_owed.steps.asked ∷ most_of_lines size lines h.1 h.3 h.7
 
-wanted_append : (xs ys : List Step) → wanted (xs ++ ys) ≡ wanted xs + wanted ys
+pub wanted_append : (xs ys : List Step) → wanted (xs ++ ys) ≡ wanted xs + wanted ys
 wanted_append [] ys = omega arith
 wanted_append (steps.Ask r ∷ xs) ys = omega (arith, wanted_append xs ys)
 wanted_append (step ∷ xs) ys = wanted_append xs ys

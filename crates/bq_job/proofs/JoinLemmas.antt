@@ -1,7 +1,7 @@
 -- What the seats did fits what the core did.
 use Rattle.std.proofs.Common.{Option, ◌≡◌, ℕ, suc, ◌+◌, ◌≤◌, ◌<◌, Bool, true, false, ◌&&◌, List, [], ◌∷◌}
 use Rattle.std.proofs.Common.{◌++◌, map, length, refl, sym, ap, ◌∙◌, arith, subst, inl, inr, append-nil, append_assoc}
-use Rattle.std.proofs.lemmas.{Bool.{and_right, or_parts}, Grind.common_steps, List.{Folds.list_any-append, length-append}}
+use Rattle.std.proofs.lemmas.{Bool.{and_right}, Grind.common_steps, List.{length-append}}
 use Rattle.std.specs.{List.list_any, Prelude.{◌==◌, IsTrue}}
 use Rattle.bq_job.specs.machine.{GivenAnswer, Machine.Machine, SeatRecord, Settings, empty_seat}
 use Rattle.bq_job.specs.machine.{has_closed, is_closed_answer, is_connected_at, is_waiting}
@@ -13,7 +13,8 @@ use Rattle.bq_job.specs.declared.answer.Answer.TheVariants as answers
 use Rattle.bq_job.specs.declared.line_end.LineEnd.TheVariants as ends
 use Rattle.bq_job.specs.declared.step.Step.TheVariants as steps
 use Rattle.bq_job.proofs.CutLemmas.{closes_append, closes_unclosed, lines_close, lines_number, parts_close, same_cut}
-use Rattle.bq_job.proofs.GivenLemmas.{AreParts, ArePartsBefore, Serves, are_gone, gives_nothing, gives_parts, most_of_lines}
+use Rattle.bq_job.proofs.GivenLemmas.{ArePartsBefore, GivesAfter, are_gone, gives_nothing, gives_parts, most_of_lines}
+use Rattle.bq_job.proofs.ListLemmas.{none_in_parts}
 use Rattle.bq_job.proofs.{LawfulLemmas.new_is_lawful, OneClientLemmas.unclosed_append}
 use Rattle.std.proofs.lemmas.Bool.{cases_Bool}
 
@@ -56,13 +57,13 @@ around_closed : (xs ys zs : List Answer) → (xs ++ (ys ++ answers.Closed ∷ []
 around_closed xs ys zs = grind (arith, common_steps, cases_Bool, append_assoc)
 
 -- Connections that took a first part of what they were given, and no `Closed` but one each, are
--- owed exactly what they took.
-first_lines_owed : (size : ℕ) (lines : List LineOver) (own : List Step) (taken more given : List Answer)
+-- owed exactly what they took. What they did not take comes after the last part.
+lines_owed : (P : List Answer → Type 0) (size : ℕ) (lines : List LineOver) (own : List Step) (taken more given : List Answer)
     (h : AreLinesServed size lines own taken)
-    → ArePartsBefore (λ later. Unit {0}) (most_of_lines size lines own taken h) given → given ≡ taken ++ more
-    → closes taken ≤ length lines → AreLinesOwed size lines own taken
-first_lines_owed size [] own taken more given h parts is few = h
-first_lines_owed size (line ∷ lines) own taken more given h parts is few =
+    → ArePartsBefore P (most_of_lines size lines own taken h) given → given ≡ taken ++ more
+    → closes taken ≤ length lines → AreLinesOwed size lines own taken × P more
+lines_owed P size [] own taken more given h parts is few = (h, subst P (is ∙ ap (λ (xs : List Answer). xs ++ more) h.1) parts)
+lines_owed P size (line ∷ lines) own taken more given h parts is few =
     let l = h.4 in
     let part = l.own ++ l.others in
     let a : closes taken ≡ closes h.2 + closes h.3 = ap closes h.6 ∙ closes_append h.2 h.3 in
@@ -80,30 +81,8 @@ first_lines_owed size (line ∷ lines) own taken more given h parts is few =
     is ∙ ap (λ (xs : List Answer). xs ++ more) took ∙ append_assoc part (answers.Closed ∷ h.3) more in
     let cut = same_cut parts.0 part parts.1 (h.3 ++ more) parts.2 unclosed (sym parts.4 ∙ whole) in
     let short : length part ≤ answered_count l.line_owed.steps.asked = let f = ap length cut.0 in let g = parts.3 in omega arith in
-    let rest = first_lines_owed size lines h.1 h.3 more parts.1 h.7 parts.5 cut.1 fewer in
-    (h.0, h.1, part, h.3, line_owed size line h.0 h.2 part l refl short, unclosed, h.5, took, rest)
-
--- Connections that took a first part of what they were given took all of it, and each is owed
--- exactly that.
-pub lines_owed : (size : ℕ) (lines : List LineOver) (own : List Step) (taken waiting given : List Answer)
-    (h : AreLinesServed size lines own taken)
-    → AreParts (most_of_lines size lines own taken h) given → given ≡ taken ++ waiting → AreLinesOwed size lines own given × (waiting ≡ [])
-lines_owed size [] own taken waiting given h parts is = grind (arith, common_steps)
-lines_owed size (line ∷ lines) own taken waiting given h parts is =
-    let l = h.4 in
-    let count = parts_close (most_of_lines size (line ∷ lines) own taken h) given parts in
-    let took : closes given ≡ closes taken + closes waiting = ap closes is ∙ closes_append taken waiting in
-    let a : closes taken ≡ closes h.2 + closes h.3 = ap closes h.6 ∙ closes_append h.2 h.3 in
-    let b : closes h.2 ≡ closes l.own + closes (l.others ++ answers.Closed ∷ []) =
-    ap closes l.taken_is ∙ closes_append l.own (l.others ++ answers.Closed ∷ []) in
-    let c = closes_append l.others (answers.Closed ∷ []) in
-    let d = lines_close size lines h.1 h.3 h.7 in
-    let none : closes l.own ≡ 0 = omega arith in
-    let unclosed : has_closed (l.own ++ l.others) ≡ false = unclosed_append l.own l.others (closes_unclosed l.own none) l.none_closed in
-    let whole : given ≡ (l.own ++ l.others) ++ answers.Closed ∷ (h.3 ++ waiting) = grind (arith, common_steps, append_assoc) in
-    let cut = same_cut parts.0 (l.own ++ l.others) parts.1 (h.3 ++ waiting) parts.2 unclosed (sym parts.4 ∙ whole) in
-    let rest = lines_owed size lines h.1 h.3 waiting parts.1 h.7 parts.5 cut.1 in
-    ((h.0, h.1, parts.0, parts.1, line_owed size line h.0 h.2 parts.0 l cut.0 parts.3, parts.2, h.5, parts.4, rest.0), rest.1)
+    let rest = lines_owed P size lines h.1 h.3 more parts.1 h.7 parts.5 cut.1 fewer in
+    ((h.0, h.1, part, h.3, line_owed size line h.0 h.2 part l refl short, unclosed, h.5, took, rest.0), rest.1)
 
 -- In a new model no seat is taken, and no client waits.
 none_such : (t : ℕ) (q : SeatRecord → Bool) (xs : List ℕ) → ((n : ℕ) → q (empty_seat n) ≡ false)
@@ -117,29 +96,31 @@ starts_free t settings = none_such t (λ s. s.connected) (numbers 0 settings.sea
 starts_quiet : (t : ℕ) (settings : Settings) → owing t (new_machine settings) ≡ 0
 starts_quiet t settings = let h = none_such t is_waiting (numbers 0 settings.seats) (λ n. refl) in rw h refl
 
--- What the run gave the seat is what its connections are owed, and no answer is left.
-pub seat_owed : (settings : Settings) (size : ℕ) (t : ℕ) (lines : List LineOver) (own tail : List Step) (taken waiting : List Answer)
-    (history : List Entry) (all : List GivenAnswer) (last : Machine)
-    → t < settings.seats → are_gone tail ≡ true → Run (new_machine settings) history all last → steps_at t history ≡ own ++ tail
-    → answers_to t all ≡ taken ++ waiting → AreLinesServed size lines own taken
-    → AreLinesOwed size lines own (answers_to t all)
-seat_owed settings size t lines own tail taken waiting history all last within gone runs steps_are answers_are served =
-    let serves : Serves t (new_machine settings) = record { lawful = new_is_lawful settings; within = within } in
-    let parts = gives_parts (λ later. later ≡ []) t size lines own taken served (new_machine settings) last history all serves
-    (starts_free t settings) (starts_quiet t settings) tail (gives_nothing t tail last gone) runs steps_are in
-    (lines_owed size lines own taken waiting (answers_to t all) served parts answers_are).0
+-- The run gives the seat the answers of its connections, one after another.
+module _ (settings : Settings) (size t : ℕ) (lines : List LineOver) (own tail : List Step) (taken more : List Answer)
+    (history : List Entry) (all : List GivenAnswer) (last : Machine) (within : t < settings.seats)
+    (runs : Run (new_machine settings) history all last) (steps_are : steps_at t history ≡ own ++ tail)
+    (answers_are : answers_to t all ≡ taken ++ more) where
+  parts_given : (P : List Answer → Type 0) → GivesAfter P t tail last → (served : AreLinesServed size lines own taken)
+      → ArePartsBefore P (most_of_lines size lines own taken served) (answers_to t all)
+  parts_given P after served = gives_parts P t size lines own taken served (new_machine settings) last history all
+      (record { lawful = new_is_lawful settings; within = within }) (starts_free t settings) (starts_quiet t settings) tail after runs
+      steps_are
 
--- The same of the connections that have ended at a seat that is open, or not yet gone.
-pub seat_owed_so_far : (settings : Settings) (size : ℕ) (t : ℕ) (lines : List LineOver) (own tail : List Step) (taken more : List Answer)
-    (history : List Entry) (all : List GivenAnswer) (last : Machine)
-    → t < settings.seats → Run (new_machine settings) history all last → steps_at t history ≡ own ++ tail
-    → answers_to t all ≡ taken ++ more → closes taken ≤ length lines → AreLinesServed size lines own taken
-    → AreLinesOwed size lines own taken
-seat_owed_so_far settings size t lines own tail taken more history all last within runs steps_are answers_are few served =
-    let serves : Serves t (new_machine settings) = record { lawful = new_is_lawful settings; within = within } in
-    let parts = gives_parts (λ later. Unit {0}) t size lines own taken served (new_machine settings) last history all serves
-    (starts_free t settings) (starts_quiet t settings) tail (λ m later given s none r is. tt) runs steps_are in
-    first_lines_owed size lines own taken more (answers_to t all) served parts answers_are few
+  -- If no more connections come, all that the seat was given is what they are owed.
+  pub seat_owed : are_gone tail ≡ true → AreLinesServed size lines own taken → AreLinesOwed size lines own (answers_to t all)
+  seat_owed gone served =
+      let parts = parts_given (λ later. later ≡ []) (gives_nothing t tail last gone) served in
+      let a = parts_close (most_of_lines size lines own taken served) (answers_to t all) parts in
+      let b = lines_number size lines own taken served in
+      let c = ap closes answers_are ∙ closes_append taken more in
+      let owed = lines_owed (λ later. later ≡ []) size lines own taken more (answers_to t all) served parts answers_are (omega arith) in
+      subst (AreLinesOwed size lines own) (sym (answers_are ∙ ap (λ (xs : List Answer). taken ++ xs) owed.1 ∙ append-nil taken)) owed.0
+
+  -- The connections that have ended at a seat that is open, or not yet gone, are owed what they took.
+  pub seat_owed_so_far : closes taken ≤ length lines → AreLinesServed size lines own taken → AreLinesOwed size lines own taken
+  seat_owed_so_far few served = (lines_owed (λ later. Unit {0}) size lines own taken more (answers_to t all) served
+      (parts_given (λ later. Unit {0}) (λ m later given s none r is. tt) served) answers_are few).0
 
 pub doors_owed : (settings : Settings) (size : ℕ) (seat : ℕ) (doors : List (List LineOver)) (submitted : ℕ → List Step)
     (taken waiting : ℕ → List Answer) (history : List Entry) (all : List GivenAnswer) (last : Machine)
@@ -152,7 +133,7 @@ doors_owed settings size seat (lines ∷ doors) submitted taken waiting history 
       record {
         own = done.own;
         of_lines = seat_owed settings size seat lines done.own (steps.Gone ∷ []) (taken seat) (waiting seat) history all last
-            (omega arith) refl runs steps_are tied.1 done.of_lines;
+            (omega arith) runs steps_are tied.1 refl done.of_lines;
         taken_is = steps_are;
       },
       doors_owed settings size (suc seat) doors submitted taken waiting history all last (omega arith) runs tied.3,
@@ -181,8 +162,8 @@ line_joined settings seat line readings history given last j = record {
   last = last;
   run = j.run;
   of_line = seat_owed settings settings.max_job_size seat (line ∷ [])
-      (steps_at seat history) [] j.taken j.waiting history given last j.within refl j.run.runs
-      (sym (append-nil (steps_at seat history))) j.answers_are j.served;
+      (steps_at seat history) [] j.taken j.waiting history given last j.within j.run.runs
+      (sym (append-nil (steps_at seat history))) j.answers_are refl j.served;
   of_nobody_else = j.of_nobody_else;
 }
 
@@ -242,8 +223,7 @@ wrote_own ends.ReadFault asked given written a (inr w) unclosed = record {
   written_is = inl w.written_is;
   none_unwritten = w.written_is;
   given_is = w.answers_are;
-  none_closed = (or_parts (has_closed w.first) (has_closed (w.last ∷ []))
-      (sym (list_any-append is_closed_answer w.first (w.last ∷ [])) ∙ ap has_closed (sym w.answers_are) ∙ unclosed)).1;
+  none_closed = (none_in_parts is_closed_answer w.first (w.last ∷ []) (ap has_closed (sym w.answers_are) ∙ unclosed)).1;
 }
 
 line_served : (size : ℕ) (line : LineOver) (own : List Step) (got : List Answer) → IsLineOwed size line own got → has_closed got ≡ false

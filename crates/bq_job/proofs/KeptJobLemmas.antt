@@ -1,13 +1,13 @@
 -- A job is present from its put until its deletion, and at most one client holds it.
 use Rattle.std.proofs.Common.{◌++◌, ◌<◌, ◌∙◌, ◌∷◌, ◌≡◌, ◌⊎◌, List, Some, [], ap, arith, false, inl, inr, refl, subst, sym}
 use Rattle.std.proofs.lemmas.Bool.{cond_both}
-use Rattle.std.proofs.lemmas.{Bool.or_parts, Grind.common_steps, List.Folds.list_any-append}
+use Rattle.std.proofs.lemmas.{Grind.common_steps}
 use Rattle.std.specs.{List.{AllByRecursion as All, Contains, list_any}}
 use Rattle.bq_job.specs.machine.{Settings, job_with, Machine.Machine}
 use Rattle.bq_job.specs.laws.{Happening, IsHeldByOne, IsKept, Part, happenings, is_deletion, parts_of_run, put}
 use Rattle.bq_job.specs.{machine.{new_machine}, promise.{GoesBy, Transition}, Types.Job}
 use Rattle.bq_job.proofs.{JobMoves.{Move, Moves, handing, putting, quiet}, KeptLemmas.Keeps}
-use Rattle.bq_job.proofs.{LawfulLemmas.new_is_lawful, ListLemmas.all_at, LookupLemmas.found_job}
+use Rattle.bq_job.proofs.{LawfulLemmas.new_is_lawful, ListLemmas.{all_at, none_in_parts}, LookupLemmas.found_job}
 use Rattle.bq_job.proofs.{LookupLemmas.{job_at_end, job_found}, OrderLemmas.{put_behind, put_now_or_behind}}
 use Rattle.bq_job.proofs.{SpentLemmas.{handed_lookup, put_lookup}, StepMoves.{ArePartsGone, parts_go, run_gone}}
 
@@ -40,8 +40,7 @@ there_at_end : (j : Job) (m n : Machine) (parts : List Part) → Moves m parts n
 there_at_end j m n [] moves none (inl h) = subst (IsThere j) (sym moves) h
 there_at_end j m n [] moves none (inr i) = absurd (let less = i.1 in omega arith)
 there_at_end j m n (p ∷ parts) moves none h =
-    let each = or_parts (list_any (is_deletion j.id) p.happened) (list_any (is_deletion j.id) (happenings parts))
-    (sym (list_any-append (is_deletion j.id) p.happened (happenings parts)) ∙ none) in
+    let each = none_in_parts (is_deletion j.id) p.happened (happenings parts) none in
     there_at_end j p.machine n parts moves.1 each.1 (there_or_to_come j m p.machine p.happened (happenings parts) moves.0 each.0 h)
 
 -- the parts up to and including this one

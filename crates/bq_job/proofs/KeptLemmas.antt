@@ -85,20 +85,21 @@ pub record IsMild (s t : SeatRecord) : Type 0 where
 pub mild_itself : (s : SeatRecord) → IsMild s s
 mild_itself s = record { number = refl; stays = λ h. h; waits = λ h. h }
 
+-- A change of seats after which each holder is still connected.
+held_through : (f : SeatRecord → SeatRecord) (seats : List SeatRecord) (j : Job)
+    → All (λ s. (s.connected && is_held_by s.number j) ≡ true → ((f s).connected && is_held_by (f s).number j) ≡ true) seats
+    → has_holder seats j ≡ true → has_holder (map f seats) j ≡ true
+held_through f seats j stays h =
+    elim (or_cases (not (is_reserved j.state)) (list_any (λ s. s.connected && is_held_by s.number j) seats) h) [
+      | inl e ↦ or_left (not (is_reserved j.state)) _ e
+      | inr e ↦ or_right (not (is_reserved j.state)) _ (list_any_of_map _ _ f seats stays e)
+    ]
+
 still_held : (f : SeatRecord → SeatRecord) (seats : List SeatRecord) (j : Job) → All (λ s. IsMild s (f s)) seats → has_holder seats j ≡ true
     → has_holder (map f seats) j ≡ true
-still_held f seats j mild h =
-    elim (or_cases (not (is_reserved j.state)) (list_any (λ s. s.connected && is_held_by s.number j) seats) h) [
-      | inl e ↦ or_left (not (is_reserved j.state)) (list_any (λ s. s.connected && is_held_by s.number j) (map f seats)) e
-      | inr e ↦
-          or_right (not (is_reserved j.state)) (list_any (λ s. s.connected && is_held_by s.number j) (map f seats))
-          (list_any_of_map (λ s. s.connected && is_held_by s.number j) (λ s. s.connected && is_held_by s.number j) f seats
-          (all_weaker (λ s. IsMild s (f s)) (λ s. (s.connected && is_held_by s.number j) ≡ true
-          → ((f s).connected && is_held_by (f s).number j) ≡ true) seats
-          (λ s c p. let parts = and_parts s.connected (is_held_by s.number j) p in
-          and_from (f s).connected (is_held_by (f s).number j) (c.stays parts.0)
-          (rw c.number parts.1)) mild) e)
-    ]
+still_held f seats j mild = held_through f seats j
+    (all_weaker (λ s. IsMild s (f s)) _ seats (λ s c p. let parts = and_parts s.connected (is_held_by s.number j) p in
+    and_from (f s).connected (is_held_by (f s).number j) (c.stays parts.0) (rw c.number parts.1)) mild)
 
 -- Seats change mildly.
 pub kept_of_seats : {places next : ℕ} {jobs : List Job} {seats : List SeatRecord} {draining : Bool} (f : SeatRecord → SeatRecord)
@@ -107,13 +108,9 @@ kept_of_seats {jobs = jobs} {seats = seats} f h mild = record {
   ids = h.ids;
   accepts = h.accepts;
   fits = h.fits;
-  holders = all_weaker (λ j. has_holder seats j ≡ true) (λ j. has_holder (map f seats) j ≡ true) jobs
-      (λ j. still_held f seats j mild) h.holders;
-  seated = keys_of_map (λ s. s.number) f seats
-      (all_weaker (λ s. IsMild s (f s)) (λ s. (f s).number ≡ s.number) seats (λ s c. c.number) mild) ∙ h.seated;
-  waits = all_of_map (λ s. is_open_wait s ≡ true) f seats
-      (all_weaker (λ s. IsMild s (f s) × (is_open_wait s ≡ true)) (λ s. is_open_wait (f s) ≡ true) seats (λ s c. c.0.waits c.1)
-      (all_both (λ s. IsMild s (f s)) (λ s. is_open_wait s ≡ true) seats mild h.waits));
+  holders = all_weaker _ _ jobs (λ j. still_held f seats j mild) h.holders;
+  seated = keys_of_map (λ s. s.number) f seats (all_weaker _ _ seats (λ s c. c.number) mild) ∙ h.seated;
+  waits = all_of_map _ f seats (all_weaker _ _ seats (λ s c. c.0.waits c.1) (all_both _ _ seats mild h.waits));
 }
 
 -- the same if the seat of one number changes
@@ -122,8 +119,8 @@ pub kept_of_seat : {places next : ℕ} {jobs : List Job} {seats : List SeatRecor
     → Kept places jobs (map (λ s. cond (s.number == number) (f s) s) seats) next draining
 kept_of_seat {seats = seats} number f h mild =
     kept_of_seats (λ s. cond (s.number == number) (f s) s) h
-    (all_weaker (λ s. s.number ≡ number → IsMild s (f s)) (λ s. IsMild s (cond (s.number == number) (f s) s)) seats
-    (λ s c. cond_both (s.number == number) (f s) s (IsMild s) (λ e. c (eqb-true s.number number e)) (λ e. mild_itself s)) mild)
+    (all_weaker _ _ seats (λ s c. cond_both (s.number == number) (f s) s (IsMild s) (λ e. c (eqb-true s.number number e))
+    (λ e. mild_itself s)) mild)
 
 -- the numbers from `low` on are at least `low`
 pub numbers_above : (low n : ℕ) (seats : List SeatRecord) → map (λ s. s.number) seats ≡ numbers low n → All (λ s. low ≤ s.number) seats
@@ -145,8 +142,7 @@ only_seat low (suc n) number (t ∷ seats) s e f =
           let found : Some t ≡ Some s = rw b at f in
           let is : t.number ≡ number = eqb-true t.number number b in (
             λ i. cc,
-            all_weaker (λ u. suc low ≤ u.number) (λ u. u.number ≡ number → u ≡ s) seats (λ u h i. absurd (omega arith))
-                (numbers_above (suc low) n seats rest),
+            all_weaker _ _ seats (λ u h i. absurd (omega arith)) (numbers_above (suc low) n seats rest),
           )
       | inr b ↦ (λ i. absurd (eqb-false t.number number b i), only_seat (suc low) n number seats s rest (rw b at f))
     ]
@@ -162,16 +158,7 @@ holder_stays seat j s e h = grind (arith, common_steps, cond_both, and_parts, bo
 
 held_elsewhere : (seat : ℕ) (seats : List SeatRecord) (j : Job) → is_held_by seat j ≡ false → has_holder seats j ≡ true
     → has_holder (map (emptied seat) seats) j ≡ true
-held_elsewhere seat seats j e h =
-    elim (or_cases (not (is_reserved j.state)) (list_any (λ s. s.connected && is_held_by s.number j) seats) h) [
-      | inl f ↦ or_left (not (is_reserved j.state)) (list_any (λ s. s.connected && is_held_by s.number j) (map (emptied seat) seats)) f
-      | inr f ↦
-          or_right (not (is_reserved j.state)) (list_any (λ s. s.connected && is_held_by s.number j) (map (emptied seat) seats))
-          (list_any_of_map (λ s. s.connected && is_held_by s.number j) (λ s. s.connected && is_held_by s.number j) (emptied seat) seats
-          (all_always (λ s. (s.connected && is_held_by s.number j) ≡ true
-          → ((emptied seat s).connected && is_held_by (emptied seat s).number j) ≡ true) seats
-          (λ s. holder_stays seat j s e)) f)
-    ]
+held_elsewhere seat seats j e = held_through (emptied seat) seats j (all_always _ seats (λ s. holder_stays seat j s e))
 
 -- A client disconnects: no client holds its jobs, and its seat is empty.
 pub kept_of_close : {places next : ℕ} {jobs : List Job} {seats : List SeatRecord} {draining : Bool} (state : JobState) (seat : ℕ)

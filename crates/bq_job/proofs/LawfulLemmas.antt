@@ -1,8 +1,8 @@
 -- A new model is lawful and stays so after every step, and a step gives few answers.
-use Rattle.std.proofs.Common.{ℕ, zero, suc, ◌≡◌, ◌≤◌, ◌<◌, ◌+◌, true, false, cond, List, [], ◌∷◌}
+use Rattle.std.proofs.Common.{ℕ, zero, suc, ◌≡◌, ◌≤◌, ◌<◌, ◌+◌, true, false, List, [], ◌∷◌}
 use Rattle.std.proofs.Common.{map, length, arith, refl, sym, ap, ◌∙◌, subst, inl, inr, Option, Some, None, rules}
 use Rattle.std.proofs.lemmas.{Bool.{cases_Bool, cond_both, eq-eqb, le-leb, or_left, or_right}, Grind.common_steps}
-use Rattle.std.proofs.lemmas.List.{length-append, length-map, Sums.count_by-le-length}
+use Rattle.std.proofs.lemmas.List.{Elements.{filter_passes, recursion_from_All}, length-append, length-map, Sums.count_by-le-length}
 use Rattle.std.specs.{Cmp.Lexicographic.bytes_decides, List.{Contains, list_all, list_any}, Prelude.◌==◌}
 use Rattle.bq_job.specs.machine.{Chain, DispatchTurn, Dispatches, EndsWaits, GivenAnswer, IsHandOut, IsStep, Machine.Machine, Memory}
 use Rattle.bq_job.specs.machine.{Outcome, SeatRecord, Serves, Settings, TubeRecord, WaitEndTurn, acted, addressed, after_timers, at_moment}
@@ -13,8 +13,8 @@ use Rattle.bq_job.specs.machine.{end_of_wait, forgetting, granted, growth_refuse
 use Rattle.bq_job.specs.{machine.{is_tube}, reading.TubeName.is_same_name, Types.{Answer, Job, Step}}
 use Rattle.bq_job.specs.declared.job.JobState.TheVariants as states
 use Rattle.bq_job.proofs.Trace.{IsTrace, of_turns}
-use Rattle.bq_job.proofs.KeptLemmas.{Keeps, has_holder, is_open_wait, kept_of_job, kept_of_jobs, kept_of_lawful, kept_of_seat, IsMild}
-use Rattle.bq_job.proofs.ListLemmas.{all_always, all_at, all_from_members, all_of_filter, all_of_map, all_weaker}
+use Rattle.bq_job.proofs.KeptLemmas.{Keeps, has_holder, is_open_wait, kept_of_job, kept_of_jobs, kept_of_lawful, kept_of_seat}
+use Rattle.bq_job.proofs.ListLemmas.{all_always, all_at, all_from_members, all_of_map, all_weaker}
 use Rattle.bq_job.proofs.ListLemmas.{find_in_filter, list_all_from, list_any_not, list_any_with, none_pass}
 use Rattle.bq_job.proofs.RecordLemmas.{Booked, booked_acted, booked_forgetting, booked_of_lawful}
 use Rattle.bq_job.proofs.RecordLemmas.{booked_served, booked_through, booked_timers}
@@ -39,8 +39,7 @@ kept_of_timers at m h =
 kept_without_wait : (number : ℕ) (m : Machine) → Keeps m → Keeps (with_seat number without_wait m)
 kept_without_wait number m h =
     kept_of_seat number without_wait h
-    (all_always (λ s. s.number ≡ number → IsMild s (without_wait s)) m.seats
-    (λ s e. record { number = refl; stays = λ c. c; waits = λ w. refl }))
+    (all_always _ m.seats (λ s e. record { number = refl; stays = λ c. c; waits = λ w. refl }))
 
 -- A turn keeps the invariant, and one client fewer waits.
 pub record IsTurn (m n : Machine) : Type 0 where
@@ -143,14 +142,8 @@ next_job_as_before m = search (rules, first_of_agrees, all_from_members, wanted_
 still_unwanted : (number : ℕ) (m : Machine) (j : Job) → list_any (is_waiting_for m j) m.seats ≡ false
     → list_any (is_waiting_for (with_seat number without_wait m) j) (with_seat number without_wait m).seats ≡ false
 still_unwanted number m j h =
-    list_any_not (is_waiting_for (with_seat number without_wait m) j) (with_seat number without_wait m).seats
-    (all_of_map (λ s. is_waiting_for (with_seat number without_wait m) j s ≡ false)
-    (λ s. cond (s.number == number) (without_wait s) s) m.seats
-    (all_weaker (λ s. is_waiting_for m j s ≡ false)
-    (λ s. is_waiting_for (with_seat number without_wait m) j (cond (s.number == number) (without_wait s) s) ≡ false) m.seats
-    (λ s i. cond_both (s.number == number) (without_wait s) s (λ t. is_waiting_for (with_seat number without_wait m) j t ≡ false)
-    (λ e. refl) (λ e. i))
-    (none_pass (is_waiting_for m j) m.seats h)))
+    list_any_not _ _ (all_of_map _ _ m.seats (all_weaker _ _ m.seats (λ s i. cond_both (s.number == number) (without_wait s) s
+    (λ t. is_waiting_for (with_seat number without_wait m) j t ≡ false) (λ e. refl) (λ e. i)) (none_pass (is_waiting_for m j) m.seats h)))
 
 still_dispatched : (number : ℕ) (m : Machine) → next_job m ≡ None → next_job (with_seat number without_wait m) ≡ None
 still_dispatched number m h =
@@ -165,10 +158,7 @@ dispatched_through_ends first (g ∷ given) last h chain =
 
 -- once the others are forgotten, all records are of tubes that exist
 pub only_tubes : (m : Machine) → list_all (λ t. is_tube t.name (forgetting m)) (forgetting m).tubes ≡ true
-only_tubes m =
-    list_all_from (λ t. is_tube t.name (forgetting m)) (forgetting m).tubes
-    (all_weaker (λ t. Unit {0} × (is_tube t.name m ≡ true)) (λ t. is_tube t.name (forgetting m) ≡ true) (forgetting m).tubes (λ t c. c.1)
-    (all_of_filter (λ t. Unit {0}) (λ t. is_tube t.name m) m.tubes (all_always (λ t. Unit {0}) m.tubes (λ t. tt))))
+only_tubes m = list_all_from _ _ (recursion_from_All _ _ (filter_passes (λ t. is_tube t.name m) m.tubes))
 
 -- If no job is next and no wait ends next, forgetting tubes that do not exist makes the model
 -- lawful.

@@ -28,12 +28,13 @@ adds_none m n l e same jobs = record {
   fewer = let many : length n.jobs ≡ length m.jobs = ap (λ (k : Machine). length k.jobs) e ∙ jobs in omega arith;
 }
 
--- serving the clients adds none
-steady_adds_none : (m n : Machine) → IsSteady m n → AddsNone m n
-steady_adds_none m n s = record { same = s.settings; fewer = let many = s.many in omega arith }
-
 within_then : (settings : Settings) (m n : Machine) → IsWithin settings m → AddsNone m n → IsWithin settings n
 within_then settings m n w a = record { chosen = a.same ∙ w.chosen; few = λ most e. let x = w.few most e in let y = a.fewer in omega arith }
+
+-- Serving the clients adds none.
+within_steady : (settings : Settings) (m n : Machine) → IsWithin settings m → IsSteady m n → IsWithin settings n
+within_steady settings m n w s =
+    within_then settings m n w (record { same = s.settings; fewer = let many = s.many in omega arith })
 
 -- A command adds a job only within the limit.
 by_command : (settings : Settings) (what : Step) (m n : Machine) → n.settings ≡ m.settings → After what m n → IsWithin settings m
@@ -52,22 +53,14 @@ within_parts settings t keeps is w =
     let k2 = (served timed s.handed s.ended s.before k0 s.serves).keeps in
     let done = (acted s.memory s.before t.entry.seat t.entry.what).machine in
     let w0 = within_then settings m timed w (grind (arith, common_steps, adds_none, length-map)) in
-    let w1 = within_then settings timed s.serves.between w0
-    (steady_adds_none timed s.serves.between (of_dispatches steady timed s.handed s.serves.between s.serves.dispatches)) in
-    let w2 = within_then settings s.serves.between s.before w1
-    (steady_adds_none s.serves.between s.before (of_ends steady s.serves.between s.ended s.before s.serves.ends_waits)) in
+    let w1 = within_steady settings _ _ w0 (of_dispatches steady timed s.handed s.serves.between s.serves.dispatches) in
+    let w2 = within_steady settings _ _ w1 (of_ends steady s.serves.between s.ended s.before s.serves.ends_waits) in
     let a = by_command settings t.entry.what s.before done (stays_acted 0 s.memory s.before t.entry.seat t.entry.what).settings
     (after_acted s.memory s.before t.entry.seat t.entry.what k2.ids) w2 in
     let w3 = within_then settings done s.after a (adds_none done s.after (forgetting done) s.acts refl refl) in
-    let w4 = within_then settings s.after s.serves_then.between w3
-    (steady_adds_none s.after s.serves_then.between
-    (of_dispatches steady s.after s.handed_then s.serves_then.between s.serves_then.dispatches)) in
-    let w5 = within_then settings s.serves_then.between t.last w4
-    (steady_adds_none s.serves_then.between t.last
-    (of_ends steady s.serves_then.between s.ended_then t.last s.serves_then.ends_waits)) in (
-      rw is.parts_are (w0, (w1, (w2, (w3, (w4, (w5, tt)))))),
-      w5,
-    )
+    let w4 = within_steady settings _ _ w3 (of_dispatches steady s.after s.handed_then s.serves_then.between s.serves_then.dispatches) in
+    let w5 = within_steady settings _ _ w4 (of_ends steady s.serves_then.between s.ended_then t.last s.serves_then.ends_waits) in
+    (rw is.parts_are (w0, (w1, (w2, (w3, (w4, (w5, tt)))))), w5)
 
 -- the parts of a run
 within_run : (settings : Settings) (first : Machine) (taken : List Transition) (last : Machine) → IsLawful first → GoesBy first taken last

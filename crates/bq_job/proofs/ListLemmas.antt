@@ -1,12 +1,12 @@
 -- Facts about lists of any elements: tests, changes of each element, counts.
 use Rattle.std.proofs.Common.{◌≡◌, ◌≤◌, ◌<◌, ◌+◌, Bool, true, false, ◌&&◌, not, cond, List}
-use Rattle.std.proofs.Common.{[], ◌∷◌, ◌++◌, map, arith, refl, ap, ◌∙◌, subst}
+use Rattle.std.proofs.Common.{[], ◌∷◌, ◌++◌, map, arith, refl, sym, ap, ◌∙◌, subst}
 use Rattle.std.proofs.lemmas.Bool.{cases_Bool, and_parts, and_from, or_parts, or_from}
 use Rattle.std.proofs.lemmas.Bool.{or_left, or_right, or_cases, both_ways, false_from_ne_true}
 use Rattle.std.proofs.lemmas.List.Elements.{All-from_recursion, recursion_from_All, All-contains}
 use Rattle.std.proofs.lemmas.List.Elements.{All-contains_itself, Contains-append_right}
 use Rattle.std.proofs.{Common.{Some, count_by, filter, find, flat_map, length}, lemmas.Grind.common_steps}
-use Rattle.std.proofs.lemmas.List.{Concat.flat_map-cons, Folds.list_any-from_Any, Sums.sum_by-cons}
+use Rattle.std.proofs.lemmas.List.{Concat.flat_map-cons, Folds.{list_any-append, list_any-from_Any}, Sums.sum_by-cons}
 use Rattle.std.specs.List.{AllByRecursion as All, Contains, list_any, list_all}
 
 -- the head of a list and its rest
@@ -73,6 +73,11 @@ none_pass p (x ∷ xs) h = let parts = or_parts (p x) (list_any p xs) h in (part
 pub list_any_not : {X : Type 0} (p : X → Bool) (xs : List X) → All (λ x. p x ≡ false) xs → list_any p xs ≡ false
 list_any_not p [] h = refl
 list_any_not p (x ∷ xs) h = or_from (p x) (list_any p xs) h.0 (list_any_not p xs h.1)
+
+-- if no element of two joined lists passes, none of either does
+pub none_in_parts : {X : Type 0} (p : X → Bool) (xs ys : List X) → list_any p (xs ++ ys) ≡ false
+    → (list_any p xs ≡ false) × (list_any p ys ≡ false)
+none_in_parts p xs ys h = or_parts (list_any p xs) (list_any p ys) (sym (list_any-append p xs ys) ∙ h)
 
 -- an element of the list that passes makes `list_any` true
 pub list_any_with : {X : Type 0} (p : X → Bool) (xs : List X) (x : X) → Contains xs x → p x ≡ true → list_any p xs ≡ true

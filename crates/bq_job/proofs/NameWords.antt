@@ -1,8 +1,8 @@
 -- The order of names, eight bytes at a time.
-use Rattle.std.proofs.Common.{◌++◌, ◌+◌, ◌*◌, ◌-◌, ◌%◌, ◌<◌, ◌≤◌, ◌∙◌, ◌∷◌, ◌≡◌, ◌&&◌, Bool, List, [], ℕ}
-use Rattle.std.proofs.Common.{drop, get_or, zero, suc, ap, arith, false, length, refl, replicate, sym, take, true}
+use Rattle.std.proofs.Common.{◌++◌, ◌+◌, ◌*◌, ◌-◌, ◌<◌, ◌≤◌, ◌∙◌, ◌∷◌, ◌≡◌, List, [], ℕ}
+use Rattle.std.proofs.Common.{drop, get_or, zero, suc, ap, arith, length, refl, replicate, sym, take, true}
 use Rattle.std.proofs.lemmas.Grind.{common_steps}
-use Rattle.std.proofs.lemmas.{Bool.{cases_Bool, cases_order, Decides.nat_tests}, List.take-replicate, Nat.mul-le}
+use Rattle.std.proofs.lemmas.{Bool.{and_parts, cases_Bool, cases_order, Decides.nat_tests}, List.take-replicate, Nat.mul-le}
 use Rattle.std.proofs.Math.Seq.{take-append-add}
 use Rattle.std.specs.Cmp.Lexicographic.{slice_cmp}
 use Rattle.std.specs.Int.{from_be_bytes, w64}
@@ -46,9 +46,7 @@ digits : (a b c d e f g h i j k l m n o p : ℕ) → a < 256 → b < 256 → c <
 digits a b c d e f g h i j k l m n o p sa sb sc sd se sf sg sh si sj sk sl sm sn so sp = grind (arith, common_steps, cases_Bool, digit)
 
 then_assoc : (p q r : Ordering) → ordering_then p (ordering_then q r) ≡ ordering_then (ordering_then p q) r
-then_assoc Less q r = refl
-then_assoc Equal q r = refl
-then_assoc Greater q r = refl
+then_assoc p q r = grind (arith, common_steps, cases_order)
 
 -- two lists that begin with equally many elements
 seam : (xs ys rest others : List ℕ) → length xs ≡ length ys
@@ -82,15 +80,8 @@ words_differ w v o apart = grind (arith, common_steps, cases_order, less_is, mor
 -- the first eight bytes of a list, and the rest
 front_8 : (xs : List ℕ) → 8 ≤ length xs → xs ≡ get_or xs 0 0 ∷ get_or xs 1 0 ∷ get_or xs 2 0 ∷ get_or xs 3 0 ∷ get_or xs 4 0 ∷ get_or xs 5 0
     ∷ get_or xs 6 0 ∷ get_or xs 7 0 ∷ drop 8 xs
-front_8 [] e = absurd (omega arith)
-front_8 (a ∷ []) e = absurd (omega arith)
-front_8 (a ∷ b ∷ []) e = absurd (omega arith)
-front_8 (a ∷ b ∷ c ∷ []) e = absurd (omega arith)
-front_8 (a ∷ b ∷ c ∷ d ∷ []) e = absurd (omega arith)
-front_8 (a ∷ b ∷ c ∷ d ∷ f ∷ []) e = absurd (omega arith)
-front_8 (a ∷ b ∷ c ∷ d ∷ f ∷ g ∷ []) e = absurd (omega arith)
-front_8 (a ∷ b ∷ c ∷ d ∷ f ∷ g ∷ h ∷ []) e = absurd (omega arith)
 front_8 (a ∷ b ∷ c ∷ d ∷ f ∷ g ∷ h ∷ i ∷ rest) e = refl
+front_8 xs e = absurd (omega arith)
 
 abbrev front_of : List ℕ → List ℕ
 front_of xs = get_or xs 0 0 ∷ get_or xs 1 0 ∷ get_or xs 2 0 ∷ get_or xs 3 0 ∷ get_or xs 4 0 ∷ get_or xs 5 0 ∷ get_or xs 6 0
@@ -127,12 +118,6 @@ module _ (xs ys : List ℕ) (long : 8 ≤ length xs) (other_long : 8 ≤ length 
     pub words_decide : (w ≡ v → ⊥) → r ≡ nat_cmp w v → r ≡ slice_cmp nat_cmp xs ys
     words_decide apart is = is ∙ sym (words_differ w v (slice_cmp nat_cmp (drop 8 xs) (drop 8 ys)) apart) ∙ sym words
 
--- No bytes are left.
-pub none_left : (xs ys : List ℕ) → length xs < 8 → length xs % 8 ≡ 0 → length xs ≡ length ys → Equal ≡ slice_cmp nat_cmp xs ys
-none_left [] [] few whole alike = refl
-none_left [] (y ∷ ys) few whole alike = absurd (omega arith)
-none_left (x ∷ xs) ys few whole alike = absurd (omega arith)
-
 -- Zeros after two names do not change their order, since no byte of a name is 0.
 zeros : (n : ℕ) → slice_cmp nat_cmp (replicate n 0) (replicate n 0) ≡ Equal
 zeros zero = refl
@@ -142,19 +127,16 @@ byte_pos : (b : ℕ) → name_byte b ≡ true → 0 < b
 byte_pos zero e = absurd cc
 byte_pos (suc b) e = omega arith
 
-both : (p q : Bool) → (p && q) ≡ true → (p ≡ true) × (q ≡ true)
-both true q e = (refl, e)
-both false q e = absurd cc
-
 padded : (m n : ℕ) (a b : List ℕ) → length a + m ≡ length b + n → list_all name_byte a ≡ true → list_all name_byte b ≡ true
     → slice_cmp nat_cmp (a ++ replicate m 0) (b ++ replicate n 0) ≡ slice_cmp nat_cmp a b
 padded m n [] [] e p q = let same : m ≡ n = omega arith in ap (λ k. slice_cmp nat_cmp (replicate m 0) (replicate k 0)) (sym same) ∙ zeros m
 padded zero n [] (y ∷ b) e p q = absurd (omega arith)
-padded (suc m) n [] (y ∷ b) e p q = rw (less_is 0 y (byte_pos y ((both (name_byte y) (list_all name_byte b) q).0))) refl
+padded (suc m) n [] (y ∷ b) e p q = rw (less_is 0 y (byte_pos y ((and_parts (name_byte y) (list_all name_byte b) q).0))) refl
 padded m zero (x ∷ a) [] e p q = absurd (omega arith)
-padded m (suc n) (x ∷ a) [] e p q = rw (more_is x 0 (byte_pos x ((both (name_byte x) (list_all name_byte a) p).0))) refl
+padded m (suc n) (x ∷ a) [] e p q = rw (more_is x 0 (byte_pos x ((and_parts (name_byte x) (list_all name_byte a) p).0))) refl
 padded m n (x ∷ a) (y ∷ b) e p q = ap (ordering_then (nat_cmp x y))
-    (padded m n a b (omega arith) ((both (name_byte x) (list_all name_byte a) p).1) ((both (name_byte y) (list_all name_byte b) q).1))
+    (padded m n a b (omega arith) ((and_parts (name_byte x) (list_all name_byte a) p).1)
+    ((and_parts (name_byte y) (list_all name_byte b) q).1))
 
 -- the front of the array of a name
 front_is : (name : List ℕ) (k : ℕ) → length name ≤ k → k ≤ 200 → take k (filled_up name) ≡ name ++ replicate (k - length name) 0
@@ -164,7 +146,7 @@ front_is name k long fits =
     ∙ ap (λ r. name ++ r) (take-replicate (k - length name) (200 - length name) 0 (omega arith))
 
 bytes_of : (name : List ℕ) → is_tube_name name ≡ true → list_all name_byte name ≡ true
-bytes_of name is = grind (arith, common_steps, both)
+bytes_of name is = grind (arith, common_steps, and_parts)
 
 -- The arrays of two names are in the order of the names,
 pub wholes_compare : (a b bytes others : List ℕ) → bytes ≡ filled_up a → others ≡ filled_up b → is_tube_name a ≡ true

@@ -6,7 +6,7 @@ use Rattle.std.proofs.{lemmas.Grind.common_steps, Math.Nat.min-eq_left}
 use Rattle.std.specs.{List.{AllByRecursion as All, Contains}, Prelude.{◌==◌, IsTrue, count_by, flat_map, nat_lt}}
 use Rattle.bq_job.specs.machine.{GivenAnswer, IsStep, Machine.Machine, Memory, Outcome, SeatRecord, Serves, Wait, acted}
 use Rattle.bq_job.specs.machine.{addressed, after_timers, at_moment, ends_waiting, forgetting, grown}
-use Rattle.bq_job.specs.machine.{is_deadline_soon, is_due, is_expired, is_possible, is_timed_out, is_until_over}
+use Rattle.bq_job.specs.machine.{is_deadline_soon, is_expired, is_possible, is_timed_out, is_until_over}
 use Rattle.bq_job.specs.machine.{is_wait_before, is_waiting, is_waiting_at, next_end}
 use Rattle.bq_job.specs.beside.{IsLawful, dues, dues_of_pause, dues_of_state, dues_of_wait, earlier, earliest, is_before}
 use Rattle.bq_job.specs.{beside.next_due, Types.JobState}
@@ -28,9 +28,6 @@ before_all moment [] h = tt
 before_all moment (due ∷ others) h = let both = before_both moment due (earliest others) h in (both.0, before_all moment others both.1)
 
 module _ (m : Machine) (now : ℕ) where
-  not_due : (state : JobState) → All (IsLater now) (dues_of_state m state) → is_due now state ≡ false
-  not_due state h = grind (arith, common_steps, lt-leb)
-
   not_expired : (state : JobState) → All (IsLater now) (dues_of_state m state) → is_expired now state ≡ false
   not_expired state h = grind (arith, common_steps, lt-leb)
 

@@ -56,65 +56,59 @@ any_of_map : {X : Type 0} (p q : X → Bool) (f : X → X) (xs : List X) → ((x
 any_of_map p q f [] h = refl
 any_of_map p q f (x ∷ xs) h = rw (h x, any_of_map p q f xs h) refl
 
--- the seats after the wait at this one has ended
-abbrev unwaited : ℕ → SeatRecord → SeatRecord
-unwaited number s = cond (s.number == number) (without_wait s) s
+-- the seats after the one with this number has changed
+abbrev pub changed : ℕ → (SeatRecord → SeatRecord) → List SeatRecord → List SeatRecord
+changed number f seats = map (λ s. cond (s.number == number) (f s) s) seats
 
--- the client's own wait has ended
-unwaited_itself : (seat : ℕ) (seats : List SeatRecord) → waits_in seat (map (unwaited seat) seats) ≡ false
-unwaited_itself seat seats =
-    list_any_not (λ s. s.number == seat && is_waiting s) (map (unwaited seat) seats)
-    (all_of_map (λ s. (s.number == seat && is_waiting s) ≡ false) (unwaited seat) seats
-    (all_always (λ s. ((unwaited seat s).number == seat && is_waiting (unwaited seat s)) ≡ false) seats
-    (λ s. cond_both (s.number == seat) (without_wait s) s (λ t. (t.number == seat && is_waiting t) ≡ false)
-    (λ e. and_right (s.number == seat) false refl)
-    (λ e. rw e refl))))
+-- The changed seat fails a test that every change fails.
+pub changed_none : (seat number : ℕ) (f : SeatRecord → SeatRecord) (q : SeatRecord → Bool) (seats : List SeatRecord) → number ≡ seat
+    → ((s : SeatRecord) → q (f s) ≡ false) → list_any (λ s. s.number == seat && q s) (changed number f seats) ≡ false
+changed_none seat number f q seats is fails =
+    rw (← is) (list_any_not _ _ (all_of_map _ _ seats (all_always _ seats (λ s. cond_both (s.number == number) (f s) s
+    (λ t. (t.number == number && q t) ≡ false) (λ e. and_right ((f s).number == number) (q (f s)) (fails s)) (λ e. rw e refl)))))
 
--- another client's wait has ended
-unwaited_another : (seat number : ℕ) (seats : List SeatRecord) → (number == seat) ≡ false
-    → waits_in seat (map (unwaited number) seats) ≡ waits_in seat seats
-unwaited_another seat number seats other = grind (arith, common_steps, any_of_map, cond_both, eqb-true)
+-- A change that keeps the number and the result of a test keeps the test's result at every seat.
+pub changed_quiet : (seat number : ℕ) (f : SeatRecord → SeatRecord) (q : SeatRecord → Bool) (seats : List SeatRecord)
+    → ((s : SeatRecord) → (f s).number ≡ s.number) → ((s : SeatRecord) → q (f s) ≡ q s)
+    → list_any (λ s. s.number == seat && q s) (changed number f seats) ≡ list_any (λ s. s.number == seat && q s) seats
+changed_quiet seat number f q seats same as_before = grind (arith, common_steps, any_of_map, cond_both)
 
-unwaited_ended : (seat number : ℕ) (seats : List SeatRecord) → ended_in seat (map (unwaited number) seats) ≡ ended_in seat seats
-unwaited_ended seat number seats = grind (arith, common_steps, any_of_map, cond_both)
+-- A change of another seat keeps the test's result at this one.
+pub changed_elsewhere : (client number : ℕ) (f : SeatRecord → SeatRecord) (q : SeatRecord → Bool) (seats : List SeatRecord)
+    → (number == client) ≡ false → ((s : SeatRecord) → (f s).number ≡ s.number)
+    → list_any (λ s. s.number == client && q s) (changed number f seats) ≡ list_any (λ s. s.number == client && q s) seats
+changed_elsewhere client number f q seats other same = grind (arith, common_steps, any_of_map, cond_both, eqb-true)
 
-unwaited_numbers : (number : ℕ) (seats : List SeatRecord) → map (λ s. s.number) (map (unwaited number) seats) ≡ map (λ s. s.number) seats
-unwaited_numbers number seats = grind (arith, common_steps, keys_of_map, all_always, cond_both)
+pub changed_numbers : (number : ℕ) (f : SeatRecord → SeatRecord) (seats : List SeatRecord) → ((s : SeatRecord) → (f s).number ≡ s.number)
+    → map (λ s. s.number) (changed number f seats) ≡ map (λ s. s.number) seats
+changed_numbers number f seats same = grind (arith, common_steps, keys_of_map, all_always, cond_both)
 
 -- A waiting client is answered, and no longer waits.
 passes_turn : (seat : ℕ) (seats : List SeatRecord) (s : SeatRecord) (answer : Answer) → Contains seats s → is_waiting s ≡ true
-    → is_closed_answer answer ≡ false → Passes seat seats (map (unwaited s.number) seats) ((s.number, answer) ∷ [])
+    → is_closed_answer answer ≡ false → Passes seat seats (changed s.number without_wait seats) ((s.number, answer) ∷ [])
 passes_turn seat seats s answer there waits stays =
-    grind (
-      arith,
-      common_steps,
-      cases_Bool,
-      eqb-true,
-      list_any_with,
-      and_from,
-      unwaited_itself,
-      any_of_map,
-      cond_both,
-      unwaited_ended,
-      unwaited_numbers,
-      unwaited_another,
-    )
+    let none = changed_none s.number s.number without_wait is_waiting seats refl (λ t. refl) in
+    let others = changed_elsewhere seat s.number without_wait is_waiting seats in
+    let connected = changed_quiet seat s.number without_wait (λ t. t.connected) seats (λ t. refl) (λ t. refl) in
+    let ended = changed_quiet seat s.number without_wait (λ t. t.ended) seats (λ t. refl) (λ t. refl) in
+    let numbers = changed_numbers s.number without_wait seats (λ t. refl) in
+    grind (arith, common_steps, cases_Bool, eqb-true, list_any_with, and_from)
 
 -- the same if the turn is known by equations
 passes_turn_to : (seat : ℕ) (m next : Machine) (s : SeatRecord) (answer : Answer) (given : GivenAnswer) → Contains m.seats s
-    → is_waiting s ≡ true → is_closed_answer answer ≡ false → given ≡ (s.number, answer) → next.seats ≡ map (unwaited s.number) m.seats
-    → Passes seat m.seats next.seats (given ∷ [])
+    → is_waiting s ≡ true → is_closed_answer answer ≡ false → given ≡ (s.number, answer)
+    → next.seats ≡ changed s.number without_wait m.seats → Passes seat m.seats next.seats (given ∷ [])
 passes_turn_to seat m next s answer given there waits stays told is =
     rw (is, told) (passes_turn seat m.seats s answer there waits stays)
 
 passes_hand_out : (seat : ℕ) (m : Machine) (j : Job) (s : SeatRecord) (given : GivenAnswer) (next : Machine) → next_seat m j ≡ Some s
     → IsHandOut m j s given next → Passes seat m.seats next.seats (given ∷ [])
-passes_hand_out seat m j s given next f (inl i) =
+passes_hand_out seat m j s given next f hands =
     let w = next_seat_waits m j s f in
-    passes_turn_to seat m next s (answers.Reserved j.id j.body) given w.0 w.1 refl i.0 (ap (λ (n : Machine). n.seats) i.1)
-passes_hand_out seat m j s given next f (inr i) =
-    let w = next_seat_waits m j s f in
-    passes_turn_to seat m next s answers.OutOfMemory given w.0 w.1 refl i.0 (ap (λ (n : Machine). n.seats) i.1)
+    elim hands [
+      | inl i ↦ passes_turn_to seat m next s (answers.Reserved j.id j.body) given w.0 w.1 refl i.0 (ap (λ (n : Machine). n.seats) i.1)
+      | inr i ↦ passes_turn_to seat m next s answers.OutOfMemory given w.0 w.1 refl i.0 (ap (λ (n : Machine). n.seats) i.1)
+    ]
 
 passes_dispatch : (seat : ℕ) (m : Machine) (given : GivenAnswer) (next : Machine) → DispatchTurn m given next
     → Passes seat m.seats next.seats (given ∷ [])
@@ -195,40 +189,11 @@ finds n seat seats e below =
       ended = found_any seat seats f.0 (λ s. s.ended) is p.1 alone;
     }
 
--- the seats after the one with this number has changed
-abbrev pub changed : ℕ → (SeatRecord → SeatRecord) → List SeatRecord → List SeatRecord
-changed number f seats = map (λ s. cond (s.number == number) (f s) s) seats
-
--- The changed seat fails a test that every change fails.
-pub changed_none : (number : ℕ) (f : SeatRecord → SeatRecord) (q : SeatRecord → Bool) (seats : List SeatRecord)
-    → ((s : SeatRecord) → q (f s) ≡ false) → list_any (λ s. s.number == number && q s) (changed number f seats) ≡ false
-changed_none number f q seats fails =
-    list_any_not (λ s. s.number == number && q s) (changed number f seats)
-    (all_of_map (λ s. (s.number == number && q s) ≡ false) (λ s. cond (s.number == number) (f s) s) seats
-    (all_always (λ s. ((cond (s.number == number) (f s) s).number == number && q (cond (s.number == number) (f s) s)) ≡ false) seats
-    (λ s. cond_both (s.number == number) (f s) s (λ t. (t.number == number && q t) ≡ false)
-    (λ e. and_right ((f s).number == number) (q (f s)) (fails s))
-    (λ e. rw e refl))))
-
 -- The changed seat passes a test that every change passes.
-pub changed_some : (f : SeatRecord → SeatRecord) (q : SeatRecord → Bool) (seats : List SeatRecord) (s : SeatRecord) → Contains seats s
-    → ((s : SeatRecord) → (f s).number ≡ s.number) → ((s : SeatRecord) → q (f s) ≡ true)
-    → list_any (λ t. t.number == s.number && q t) (changed s.number f seats) ≡ true
-changed_some f q seats s there same passes =
-    list_any_of_map (λ t. t.number == s.number) (λ t. t.number == s.number && q t) (λ t. cond (t.number == s.number) (f t) t) seats
-    (all_always (λ t. (t.number == s.number) ≡ true
-    → ((cond (t.number == s.number) (f t) t).number == s.number && q (cond (t.number == s.number) (f t) t)) ≡ true) seats
-    (λ t e. rw e (and_from ((f t).number == s.number) (q (f t)) (rw (same t) e) (passes t))))
-    (list_any_with (λ t. t.number == s.number) seats s there (eq-eqb s.number s.number refl))
-
--- A change that keeps the number and the result of a test keeps the test's result at every seat.
-pub changed_quiet : (seat number : ℕ) (f : SeatRecord → SeatRecord) (q : SeatRecord → Bool) (seats : List SeatRecord)
-    → ((s : SeatRecord) → (f s).number ≡ s.number) → ((s : SeatRecord) → q (f s) ≡ q s)
-    → list_any (λ s. s.number == seat && q s) (changed number f seats) ≡ list_any (λ s. s.number == seat && q s) seats
-changed_quiet seat number f q seats same as_before = grind (arith, common_steps, any_of_map, cond_both)
-
--- A change of another seat keeps the test's result at this one.
-pub changed_elsewhere : (client number : ℕ) (f : SeatRecord → SeatRecord) (q : SeatRecord → Bool) (seats : List SeatRecord)
-    → (number == client) ≡ false → ((s : SeatRecord) → (f s).number ≡ s.number)
-    → list_any (λ s. s.number == client && q s) (changed number f seats) ≡ list_any (λ s. s.number == client && q s) seats
-changed_elsewhere client number f q seats other same = grind (arith, common_steps, any_of_map, cond_both, eqb-true)
+pub changed_some : (seat : ℕ) (f : SeatRecord → SeatRecord) (q : SeatRecord → Bool) (seats : List SeatRecord) (s : SeatRecord)
+    → s.number ≡ seat → Contains seats s → ((s : SeatRecord) → (f s).number ≡ s.number) → ((s : SeatRecord) → q (f s) ≡ true)
+    → list_any (λ t. t.number == seat && q t) (changed s.number f seats) ≡ true
+changed_some seat f q seats s is there same passes =
+    rw (← is) (list_any_of_map (λ t. t.number == s.number) _ _ seats
+    (all_always _ seats (λ t e. rw e (and_from ((f t).number == s.number) (q (f t)) (rw (same t) e) (passes t))))
+    (list_any_with (λ t. t.number == s.number) seats s there (eq-eqb s.number s.number refl)))

@@ -2,7 +2,7 @@
 use Rattle.std.proofs.Common.{◌≡◌, ℕ, suc, zero, ◌+◌, ◌≤◌, ◌<◌, Bool, true, false, List, [], ◌∷◌, ◌++◌, Option, Some, None}
 use Rattle.std.proofs.Common.{map, length, replicate, refl, sym, ap, ◌∙◌, arith, inl, inr, append-nil, append_assoc}
 use Rattle.std.proofs.lemmas.Grind.{common_steps}
-use Rattle.std.proofs.lemmas.{Bool.{cases_Bool, or_from, or_parts}, List.{Folds.list_any-append, length-map, map-append}}
+use Rattle.std.proofs.lemmas.{Bool.{cases_Bool, or_from}, List.{Folds.list_any-append, length-map, map-append}}
 use Rattle.std.specs.List.{list_any}
 use Rattle.bq_job.specs.machine.{GivenAnswer, Machine.Machine, Settings, new_machine}
 use Rattle.bq_job.specs.promise.{AreAllGone, AreDoorsOwed, AreDoorsOwedSoFar, AreLinesOwed, ArePickedFrom, DoorSoFar, Entry}
@@ -10,7 +10,7 @@ use Rattle.bq_job.specs.promise.{IsControlDone, IsControlSoFar, IsDoorOwedSoFar,
 use Rattle.bq_job.specs.promise.{LineHeard, LineOver, LineSeen, MayTellEnd, Run, answers_to, heard, is_gone, steps_at}
 use Rattle.bq_job.specs.{laws.LawsOfRuns.RunBegins, promise.moments_heard, Types.{Answer, Request, Step}}
 use Rattle.bq_job.specs.declared.step.Step.TheVariants as steps
-use Rattle.bq_job.proofs.{GivenLemmas.are_gone, JoinLemmas.{lines_served, seat_owed}, ListLemmas.heads}
+use Rattle.bq_job.proofs.{GivenLemmas.are_gone, JoinLemmas.{lines_served, seat_owed}, ListLemmas.{heads, none_in_parts}}
 use Rattle.bq_job.proofs.RunLemmas.{run_first, run_from, run_none}
 
 -- ---- a line never says that no more lines come
@@ -47,9 +47,8 @@ out_is_gone : (size : ℕ) (out : Option LineSeen) (taken : List Step) (answers 
 out_is_gone size None taken answers h gone = grind (arith, common_steps)
 out_is_gone size (Some line) taken answers h gone =
     let s = h.of_steps in
-    let none = or_parts (list_any is_gone taken) (list_any is_gone s.more)
-    (sym (list_any-append is_gone taken s.more) ∙ ap (λ (xs : List Step). list_any is_gone xs) (sym s.begins)
-    ∙ line_goes_on (heard line) s.asked s.end_steps s.ends) in
+    let none = none_in_parts is_gone taken s.more
+    (ap (λ (xs : List Step). list_any is_gone xs) (sym s.begins) ∙ line_goes_on (heard line) s.asked s.end_steps s.ends) in
     absurd (let e = none.0 in cc)
 
 current_is_gone : (size : ℕ) (door : DoorSoFar) (taken : List Step) (answers : List Answer) (d : IsDoorOwedSoFar size door taken answers)
@@ -63,8 +62,8 @@ module _ (settings : Settings) (history : List Entry) (all : List GivenAnswer) (
       → (d : IsDoorOwedSoFar settings.max_job_size door (steps_at seat history) (answers_to seat all)) → are_gone d.current ≡ true
       → AreLinesOwed settings.max_job_size door.over d.own (answers_to seat all)
   door_owed seat door within d gone =
-      seat_owed settings settings.max_job_size seat door.over d.own d.current d.got d.later history all last within gone runs d.taken_is
-      d.answers_are (lines_served settings.max_job_size door.over d.own d.got d.of_lines)
+      seat_owed settings settings.max_job_size seat door.over d.own d.current d.got d.later history all last within runs d.taken_is
+      d.answers_are gone (lines_served settings.max_job_size door.over d.own d.got d.of_lines)
 
   pub idle_door_owed : (seat : ℕ) (door : DoorSoFar) → seat < settings.seats
       → IsDoorOwedSoFar settings.max_job_size door (steps_at seat history) (answers_to seat all) → door.out ≡ None

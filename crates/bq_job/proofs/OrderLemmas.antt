@@ -7,8 +7,8 @@ use Rattle.std.specs.{List.{AllByRecursion as All, Contains, list_any}, Prelude.
 use Rattle.bq_job.specs.{declared.job.Job.Job, laws.{Happening, Part, comes_first, disturbs, happenings, is_hand_out}}
 use Rattle.bq_job.specs.{laws.{is_put, put}, machine.{is_ready, job_with, reserved_by, Machine.Machine}}
 use Rattle.bq_job.proofs.JobMoves.{IsHandOutMove, IsPutMove, IsQuiet, Move, Moves, quiet, putting, handing, is_plain}
-use Rattle.bq_job.proofs.{ListLemmas.all_at, LookupLemmas.{found_job, job_at_end}, SpentLemmas.{IsSpent, handed_lookup}}
-use Rattle.bq_job.proofs.SpentLemmas.{none_handed, none_more, put_lookup, spent_after, still_parts}
+use Rattle.bq_job.proofs.{ListLemmas.{all_at, none_in_parts}, LookupLemmas.{found_job, job_at_end}, SpentLemmas.{IsSpent, handed_lookup}}
+use Rattle.bq_job.proofs.SpentLemmas.{none_handed, none_more, put_lookup, spent_after}
 
 -- A part in which neither of two things happens does not change their order.
 comes_behind : (one other : Happening → Bool) (happened more : List Happening) → list_any one happened ≡ false
@@ -122,8 +122,9 @@ pub handed_in_order : (a b : Job) (m n : Machine) (parts : List Part) → Moves 
 handed_in_order a b m n [] moves now_a now_b pri tube less still_a still_b at_a at_b out_a out_b = absurd cc
 handed_in_order a b m n (p ∷ parts) moves now_a now_b pri tube less still_a still_b at_a at_b out_a out_b =
     at_move
-    (handed_in_order a b p.machine n parts moves.1 now_a now_b pri tube less (still_parts a.id p.happened (happenings parts) still_a).1
-    (still_parts b.id p.happened (happenings parts) still_b).1)
+    (handed_in_order a b p.machine n parts moves.1 now_a now_b pri tube less
+    (none_in_parts (disturbs a.id) p.happened (happenings parts) still_a).1
+    (none_in_parts (disturbs b.id) p.happened (happenings parts) still_b).1)
     moves.0
   where
     later : (Stands a p.machine (happenings parts) → Stands b p.machine (happenings parts)
@@ -132,8 +133,8 @@ handed_in_order a b m n (p ∷ parts) moves now_a now_b pri tube less still_a st
         → list_any (is_hand_out a.id) p.happened ≡ false → list_any (is_hand_out b.id) p.happened ≡ false
         → comes_first (is_hand_out a.id) (is_hand_out b.id) (p.happened ++ happenings parts) ≡ true
     later go h i =
-        let ja = still_parts a.id p.happened (happenings parts) still_a in
-        let jb = still_parts b.id p.happened (happenings parts) still_b in
+        let ja = none_in_parts (disturbs a.id) p.happened (happenings parts) still_a in
+        let jb = none_in_parts (disturbs b.id) p.happened (happenings parts) still_b in
         let oa : list_any (is_hand_out a.id) (happenings parts) ≡ true = behind (is_hand_out a.id) h out_a in
         let ob : list_any (is_hand_out b.id) (happenings parts) ≡ true = behind (is_hand_out b.id) i out_b in
         comes_behind (is_hand_out a.id) (is_hand_out b.id) p.happened (happenings parts) h i

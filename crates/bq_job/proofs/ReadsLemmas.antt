@@ -30,17 +30,9 @@ Reads-onto size text unit after rest r requests is u q more = record {
   units = unit ++ more.units;
   text_is = rw (is, more.text_is) (sym (append_assoc unit more.units rest));
   are_units = (unit, more.units, refl, u, more.are_units);
-  last_quits = no_quit r requests q more.last_quits;
-  ended = go requests more.ended;
+  last_quits = let last = more.last_quits in grind (arith, common_steps);
+  ended = let ended = more.ended in grind (arith, common_steps);
 }
-  where
-    no_quit : (r : Request) (requests : List Request) → is_quit r ≡ false → IsTrue (quits_last requests)
-        → IsTrue (quits_last (r ∷ requests))
-    no_quit r requests q last = grind (arith, common_steps)
-
-    go : (requests : List Request) → IsTrue (ends_by_quit requests) ⊎ BeginsNoUnit size rest
-        → IsTrue (ends_by_quit (r ∷ requests)) ⊎ BeginsNoUnit size rest
-    go requests e = grind (arith, common_steps)
 
 reading_within-Reads : (n : ℕ) (size : ℕ) (text : List ℕ) → length text ≤ n
     → Reads size text (reading_within n size text).0 (reading_within n size text).1

@@ -54,7 +54,7 @@ answered request one h = rw one h
 replies_reserve : (until : Option ℕ) (m : Machine) (s : SeatRecord) → Contains m.seats s
     → Replies s.number 1 true m.seats (reserve_effect until m s)
 replies_reserve until m s there = record {
-  count = rw (changed_some (waiting_from (raised m.tickets) until) is_waiting m.seats s there (λ t. refl) (λ t. refl)) refl;
+  count = rw (changed_some s.number (waiting_from (raised m.tickets) until) is_waiting m.seats s refl there (λ t. refl) (λ t. refl)) refl;
   at_once = λ e. absurd cc;
   unclosed = refl;
   connected = changed_quiet s.number s.number (waiting_from (raised m.tickets) until) (λ t. t.connected) m.seats (λ t. refl) (λ t. refl);

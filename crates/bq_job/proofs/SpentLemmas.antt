@@ -7,7 +7,7 @@ use Rattle.std.specs.{List.{AllByRecursion as All, list_any}, Prelude.{◌==◌,
 use Rattle.bq_job.specs.laws.{Happening, Part, disturbs, handed_out, happenings, is_hand_out}
 use Rattle.bq_job.specs.{machine.{is_reserved, job_with, reserved_by, Machine.Machine}, Types.Job}
 use Rattle.bq_job.proofs.JobMoves.{IsHandOutMove, IsPutMove, Move, Moves, handing, is_plain, putting, quiet}
-use Rattle.bq_job.proofs.{ListLemmas.count_cons, LookupLemmas.{job_in_map, job_in_more}}
+use Rattle.bq_job.proofs.{ListLemmas.{count_cons, none_in_parts}, LookupLemmas.{job_in_map, job_in_more}}
 
 -- held, or not present
 abbrev pub IsNotFree : Option Job → Type 0
@@ -55,16 +55,11 @@ pub spent_by_hand_out : (m n : Machine) (happened : List Happening) (h : IsHandO
 spent_by_hand_out m n happened h =
     grind (arith, common_steps, handed_lookup h.job.id m n happened h, cond_both, both_ways, eq-eqb h.job.id h.job.id refl)
 
--- Neither the happenings of a move nor those of the rest disturb the job.
-pub still_parts : (id : ℕ) (happened more : List Happening) → list_any (disturbs id) (happened ++ more) ≡ false
-    → (list_any (disturbs id) happened ≡ false) × (list_any (disturbs id) more ≡ false)
-still_parts id happened more h = grind (arith, common_steps, or_parts, list_any-append)
-
 pub none_more : (id : ℕ) (m n : Machine) (parts : List Part) → Moves m parts n → list_any (disturbs id) (happenings parts) ≡ false
     → IsSpent id m → list_any (is_hand_out id) (happenings parts) ≡ false
 none_more id m n [] moves still spent = refl
 none_more id m n (p ∷ parts) moves still spent =
-    let each = still_parts id p.happened (happenings parts) still in
+    let each = none_in_parts (disturbs id) p.happened (happenings parts) still in
     list_any-append (is_hand_out id) p.happened (happenings parts)
     ∙ or_from (list_any (is_hand_out id) p.happened) (list_any (is_hand_out id) (happenings parts))
     (spent_not_handed id m p.machine p.happened moves.0 spent)
@@ -79,7 +74,7 @@ pub handed_once : (id : ℕ) (m n : Machine) (parts : List Part) → Moves m par
     → count_by (is_hand_out id) (happenings parts) ≤ 1
 handed_once id m n [] moves still = omega arith
 handed_once id m n (p ∷ parts) moves still =
-    let each = still_parts id p.happened (happenings parts) still in
+    let each = none_in_parts (disturbs id) p.happened (happenings parts) still in
     at_move moves.0 each.0 each.1 (handed_once id p.machine n parts moves.1 each.1)
   where
     later : list_any (is_hand_out id) p.happened ≡ false → count_by (is_hand_out id) (happenings parts) ≤ 1
