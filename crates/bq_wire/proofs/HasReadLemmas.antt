@@ -1,19 +1,19 @@
 -- What consecutive calls read.
-use Rattle.std.proofs.Common.{◌≡◌, ◌<◌, ◌≤◌, ℕ, ◌+◌, Bool, true, false, MatchBool, List, [], ◌∷◌}
-use Rattle.std.proofs.Common.{◌++◌, ◌⊎◌, inl, inr, Option, Some, None, refl, ◌∙◌, ap, arith, length}
+use Rattle.std.proofs.Common.{◌≡◌, ◌<◌, ◌≤◌, ℕ, ◌+◌, false, List, [], ◌∷◌}
+use Rattle.std.proofs.Common.{◌++◌, ◌⊎◌, inl, inr, Option, Some, None, ◌∙◌, ap, arith, length}
 use Rattle.std.proofs.Common.{append_assoc, append-nil, take, drop, get_or, take-append-drop, ◌-◌, IsTrue, option_to_list}
-use Rattle.std.proofs.lemmas.Grind.{common_steps}
+use Rattle.std.proofs.lemmas.{Bool.cases_Bool, Grind.common_steps}
 use Rattle.std.proofs.lemmas.List.{drop_all}
 use Rattle.std.proofs.Math.Seq.{take-length, take-suc}
 use Rattle.std.proofs.lemmas.Grind.{flat_map-append}
 use Rattle.std.specs.List.{flat_map}
-use Rattle.bq_job.specs.reading.Reading.{Reads, BeginsNoUnit, is_quit, ends_by_quit}
+use Rattle.bq_job.specs.reading.Reading.{Reads, ends_by_quit}
 use Rattle.bq_job.specs.declared.request.Request.{Request}
 use Rattle.bq_job.proofs.UnitsLemmas.{AreUnits-append, ends_by_quit-append, quits_last-append}
 use Rattle.bq_wire.specs.HasRead.{HasRead, HasReadText, ReadsOn}
 use Rattle.bq_wire.specs.Standing.{Stands, StandsAt, Feeds, FeedsText, Waits, HandsRequest}
 use Rattle.bq_wire.specs.declared.reader.ReaderPlace.{ReaderPlace}
-use Rattle.bq_wire.specs.declared.reader.ReaderPlace.TheVariants.{InLine, InLongLine, InBody, Over}
+use Rattle.bq_wire.specs.declared.reader.ReaderPlace.TheVariants.{Over}
 use Rattle.bq_wire.specs.declared.reader.ReaderState.{ReaderState}
 use Rattle.bq_wire.proofs.ReaderLemmas.{Stands-no_unit, take_two}
 
@@ -43,20 +43,15 @@ HasRead-hands_out old new piece taken count requests r same read no_quit out = r
   taken_is = rw (append-nil, read.taken_is) (append_assoc read.units read.rest (take count piece));
   are_units = AreUnits-append new.max_job_size requests read.units (read.rest ++ take count piece) r (rw same read.are_units) out.unit;
   last_quits = quits_last-append requests r read.last_quits no_quit;
-  goes_on = go (is_quit r) refl out.next;
+  goes_on = let next = out.next in grind (arith, common_steps, cases_Bool, ends_by_quit-append requests r);
 }
-  where
-    go : (t : Bool) → is_quit r ≡ t → MatchBool t (new.place ≡ Over) (Stands new [])
-        → (IsTrue (ends_by_quit (requests ++ r ∷ [])) × (new.place ≡ Over) × ◌≡◌ {A = List ℕ} [] [])
-        ⊎ ((ends_by_quit (requests ++ r ∷ []) ≡ false) × Stands new [])
-    go true q next = inl (rw (ends_by_quit-append requests r) q, next, refl)
-    go false q next = inr (rw (ends_by_quit-append requests r) q, next)
 
 -- a call
 pub reads_on : (old new : ReaderState) (piece : List ℕ) (count : ℕ) (request : Option Request) → new.max_job_size ≡ old.max_job_size
     → Feeds (Stands old) new piece count request → (old.place ≡ Over → (count ≡ 0) × (request ≡ None) × (new ≡ old))
     → ReadsOn old new piece count request
-reads_on old new piece count request same feeds over taken requests read = go read.goes_on
+reads_on old new piece count request same feeds over taken requests read =
+    elim read.goes_on [ inl h ↦ quit (over h.1) | inr h ↦ fed h.0 request (feeds read.rest h.1) ]
   where
     fed : ends_by_quit requests ≡ false → (r : Option Request) → FeedsText new read.rest piece count r
         → HasRead new (taken ++ take count piece) (requests ++ option_to_list r)
@@ -66,11 +61,6 @@ reads_on old new piece count request same feeds over taken requests read = go re
     quit : (count ≡ 0) × (request ≡ None) × (new ≡ old) → HasRead new (taken ++ take count piece) (requests ++ option_to_list request)
     quit h = rw (h.0, h.1, h.2, append-nil taken, append-nil requests) read
 
-    go : (IsTrue (ends_by_quit requests) × (old.place ≡ Over) × (read.rest ≡ [])) ⊎ ((ends_by_quit requests ≡ false) × Stands old read.rest)
-        → HasRead new (taken ++ take count piece) (requests ++ option_to_list request)
-    go (inl h) = quit (over h.1)
-    go (inr h) = fed h.0 request (feeds read.rest h.1)
-
 -- what was read is a reading of the bytes taken
 pub HasRead-Reads : (s : ReaderState) (taken : List ℕ) (requests : List Request) (read : HasRead s taken requests)
     → Reads s.max_job_size taken requests read.rest
@@ -79,13 +69,8 @@ HasRead-Reads s taken requests read = record {
   text_is = read.taken_is;
   are_units = read.are_units;
   last_quits = read.last_quits;
-  ended = go read.goes_on;
+  ended = elim read.goes_on [ inl h ↦ inl h.0 | inr h ↦ inr (Stands-no_unit s s.place read.rest h.1) ];
 }
-  where
-    go : (IsTrue (ends_by_quit requests) × (s.place ≡ Over) × (read.rest ≡ [])) ⊎ ((ends_by_quit requests ≡ false) × Stands s read.rest)
-        → IsTrue (ends_by_quit requests) ⊎ BeginsNoUnit s.max_job_size read.rest
-    go (inl h) = inl h.0
-    go (inr h) = inr (Stands-no_unit s s.place read.rest h.1)
 
 pub was_read : (s : ReaderState) (taken : List ℕ) (requests : List Request) → HasRead s taken requests
     → (rest : List ℕ) × Reads s.max_job_size taken requests rest
@@ -115,7 +100,10 @@ read_to_end old new taken piece from count requests request none within read rea
   more = drop count rest;
   text_is = whole;
   read = now;
-  all = go read.goes_on;
+  all = elim read.goes_on [
+    | inl h ↦ inr (rw (over h.1) h.1)
+    | inr h ↦ let all = (waits read.rest h.1).all in inl (drop_all count rest (omega (arith, all)))
+  ];
 }
   where
     rest : List ℕ
@@ -134,11 +122,6 @@ read_to_end old new taken piece from count requests request none within read rea
           append_assoc taken (take from piece) (drop from piece),
           take-append-drop from piece,
         )
-
-    go : (IsTrue (ends_by_quit requests) × (old.place ≡ Over) × (read.rest ≡ [])) ⊎ ((ends_by_quit requests ≡ false) × Stands old read.rest)
-        → (drop count rest ≡ []) ⊎ (new.place ≡ Over)
-    go (inl h) = inr (rw (over h.1) h.1)
-    go (inr h) = let all = (waits read.rest h.1).all in inl (drop_all count rest (omega (arith, all)))
 
 -- one more piece of a text
 pub read_piece : (old new : ReaderState) (text piece : List ℕ) (before after : List Request)
@@ -168,10 +151,7 @@ pub HasReadText-Reads : (s : ReaderState) (text : List ℕ) (requests : List Req
 HasReadText-Reads s text requests read = go read.all read.read.goes_on
   where
     nowhere : (place : ReaderPlace) (rest : List ℕ) → place ≡ Over → StandsAt s place rest → ⊥
-    nowhere InLine rest e stands = cc
-    nowhere (InLongLine after_cr) rest e stands = cc
-    nowhere (InBody body) rest e stands = cc
-    nowhere Over rest e stands = stands
+    nowhere place rest e stands = grind (arith, common_steps)
 
     go : (read.more ≡ []) ⊎ (s.place ≡ Over) → (IsTrue (ends_by_quit requests) × (s.place ≡ Over) × (read.read.rest ≡ []))
         ⊎ ((ends_by_quit requests ≡ false) × Stands s read.read.rest)

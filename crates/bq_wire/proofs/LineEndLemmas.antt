@@ -1,9 +1,9 @@
 -- Where command lines end.
 use Rattle.std.proofs.Common.{◌≡◌, ◌<◌, ◌≤◌, ℕ, ◌+◌, ◌-◌, zero, suc, Bool, true, false, ◌&&◌}
-use Rattle.std.proofs.Common.{◌==◌, List, [], ◌∷◌, ◌++◌, ◌⊎◌, inl, inr, Option, Some, None, add-one}
-use Rattle.std.proofs.Common.{refl, sym, ap, ◌∙◌, arith, length, length-append, take, drop, get_or, MatchOption, option_map, if◌then◌else◌}
+use Rattle.std.proofs.Common.{◌==◌, List, [], ◌∷◌, ◌++◌, ◌⊎◌, Option, Some, None, add-one}
+use Rattle.std.proofs.Common.{refl, sym, ◌∙◌, arith, length, length-append, take, drop, get_or, MatchOption, option_map, if◌then◌else◌}
 use Rattle.std.proofs.Math.Bool.{and-false, and-true}
-use Rattle.std.proofs.lemmas.Bool.Decides.{nat_tests}
+use Rattle.std.proofs.lemmas.Bool.{cases_Bool, Decides.nat_tests}
 use Rattle.std.proofs.lemmas.Grind.{common_steps}
 use Rattle.std.proofs.lemmas.List.{take-take, length-take-le}
 use Rattle.std.proofs.Math.Seq.{drop-append-add, take-append-add}
@@ -12,8 +12,7 @@ use Rattle.bq_wire.specs.LineEnds.{line_end_after, last_is_cr, later_by}
 use Rattle.memchr.specs.Find.{IsFirstByte, is_byte}
 
 pub option_map-same : (f g : ℕ → ℕ) → ((n : ℕ) → f n ≡ g n) → (o : Option ℕ) → option_map f o ≡ option_map g o
-option_map-same f g same None = refl
-option_map-same f g same (Some n) = ap Some (same n)
+option_map-same f g same o = grind (arith, common_steps)
 
 -- without an LF, no line ends
 pub line_end_none : (c : Bool) (bytes : List ℕ) → ((k : ℕ) → k < length bytes → (get_or bytes k 0 == 10) ≡ true → ⊥)
@@ -28,9 +27,7 @@ line_end_none c (b ∷ bytes) none =
 one_more : (t : Bool) (k : ℕ) (o : Option ℕ)
     → option_map suc (if t then Some (suc k) else option_map (λ n. suc k + n) o) ≡
     (if t then Some (suc (suc k)) else option_map (λ n. suc (suc k) + n) o)
-one_more true k o = refl
-one_more false k None = refl
-one_more false k (Some n) = ap Some (omega arith)
+one_more t k o = grind (arith, common_steps, cases_Bool)
 
 -- the first LF ends a command line if it follows a CR; otherwise the search continues after it
 pub line_end_at : (c : Bool) (bytes : List ℕ) (k : ℕ) → k < length bytes → (get_or bytes k 0 == 10) ≡ true
@@ -64,22 +61,15 @@ last_is_cr_last c (b ∷ d ∷ bytes) some = grind (arith, common_steps, last_is
 -- a command line ends at the first byte, or later
 pub end_cases : (t : Bool) (o : Option ℕ) (e : ℕ) → (if t then Some 1 else option_map suc o) ≡ Some e
     → ((t ≡ true) × (e ≡ 1)) ⊎ ((n : ℕ) × (t ≡ false) × (o ≡ Some n) × (e ≡ suc n))
-end_cases true o e h = inl (refl, cc)
-end_cases false None e h = cc
-end_cases false (Some n) e h = inr (n, refl, refl, cc)
+end_cases t o e h = grind (arith, common_steps, cases_Bool)
 
 no_end_cases : (t : Bool) (o : Option ℕ) → (if t then Some 1 else option_map suc o) ≡ None → (t ≡ false) × (o ≡ None)
-no_end_cases true o h = cc
-no_end_cases false None h = (refl, refl)
-no_end_cases false (Some n) h = cc
+no_end_cases t o h = grind (arith, common_steps, cases_Bool)
 
 pub line_end_within : (c : Bool) (bytes : List ℕ) (e : ℕ) → line_end_after c bytes ≡ Some e → (0 < e) × (e ≤ length bytes)
 line_end_within c [] e h = cc
 line_end_within c (b ∷ bytes) e h =
-    elim (end_cases (c && b == 10) (line_end_after (b == 13) bytes) e h) [
-      | inl a ↦ (omega (arith, a.1), omega (arith, a.1))
-      | inr a ↦ let more = line_end_within (b == 13) bytes a.0 a.2 in (omega (arith, a.3), omega (arith, a.3, more.1))
-    ]
+    grind (arith, common_steps, end_cases, line_end_within (b == 13) bytes)
 
 -- a command line that ends with the first byte follows a CR
 pub line_end_one : (c : Bool) (bytes : List ℕ) → line_end_after c bytes ≡ Some 1 → c ≡ true
@@ -91,18 +81,13 @@ line_end_one false (b ∷ bytes) h = grind (arith, common_steps, end_cases, line
 pub line_end-take : (c : Bool) (bytes : List ℕ) (e : ℕ) → line_end_after c bytes ≡ Some e → line_end_after c (take e bytes) ≡ Some e
 line_end-take c [] e h = cc
 line_end-take c (b ∷ bytes) e h =
-    elim (end_cases (c && b == 10) (line_end_after (b == 13) bytes) e h) [
-      | inl a ↦ rw (a.1, a.0)
-      | inr a ↦ rw (a.3, a.1, line_end-take (b == 13) bytes a.0 a.2)
-    ]
+    grind (arith, common_steps, end_cases, line_end-take (b == 13) bytes)
 
 later_by-zero : (o : Option ℕ) → o ≡ later_by 0 o
-later_by-zero None = refl
-later_by-zero (Some n) = ap Some (omega arith)
+later_by-zero o = grind (arith, common_steps)
 
 later_by-suc : (n : ℕ) (o : Option ℕ) → option_map suc (later_by n o) ≡ later_by (suc n) o
-later_by-suc n None = refl
-later_by-suc n (Some m) = ap Some (omega arith)
+later_by-suc n o = grind (arith, common_steps)
 
 -- if no line ends in a first part, it ends in the second or nowhere
 pub line_end-append : (c : Bool) (text more : List ℕ) → line_end_after c text ≡ None
@@ -141,11 +126,7 @@ first_line_of (a ∷ bytes) = first_line_at a bytes ∙ go (line_end_after (a ==
 
 -- a text without a first line has no line end
 pub no_line_end : (text : List ℕ) → first_line text ≡ None → line_end_after false text ≡ None
-no_line_end text none = go (line_end_after false text) refl
-  where
-    go : (o : Option ℕ) → line_end_after false text ≡ o → line_end_after false text ≡ None
-    go None e = e
-    go (Some n) e = let some : first_line text ≡ Some (take (n - 2) text, drop n text) = rw e at (first_line_of text) in cc
+no_line_end text none = let is = first_line_of text in grind (arith, common_steps)
 
 -- no line ends in the text, nor in the bytes after it
 pub goes_on : (text piece : List ℕ) → first_line text ≡ None → line_end_after (last_is_cr false text) piece ≡ None

@@ -1,14 +1,14 @@
 -- What a reader represents as bytes arrive.
-use Rattle.std.proofs.Common.{◌≡◌, ◌<◌, ◌≤◌, ℕ, ◌+◌, ◌-◌, zero, suc, Bool, true, false, List, [], ◌∷◌, ◌++◌, ◌⊎◌, inl, inr, Option, Some}
+use Rattle.std.proofs.Common.{◌≡◌, ◌<◌, ◌≤◌, ℕ, ◌+◌, ◌-◌, zero, suc, Bool, true, false, List, [], ◌∷◌, ◌++◌, inl, inr, Option, Some}
 use Rattle.std.proofs.Common.{None, refl, sym, subst, ◌∙◌, ap, arith, length, length-append, append_assoc, append-nil, take, drop, take-add}
-use Rattle.std.proofs.Common.{take-append-drop, MatchBool, nat_lt, nat_le, if◌then◌else◌}
+use Rattle.std.proofs.Common.{take-append-drop, nat_lt, nat_le, if◌then◌else◌}
 use Rattle.std.proofs.lemmas.Grind.{common_steps}
-use Rattle.std.proofs.lemmas.Bool.Decides.{nat_tests}
+use Rattle.std.proofs.lemmas.Bool.{cases_Bool, Decides.nat_tests}
 use Rattle.std.proofs.lemmas.List.{length-take-le}
 use Rattle.bq_job.specs.reading.Line.{first_line}
 use Rattle.bq_job.specs.reading.LineRead as line_read
 use Rattle.bq_job.specs.reading.LineRead.{longest_line}
-use Rattle.bq_job.specs.reading.Reading.{IsUnit, IsPutRequest, BeginsNoUnit, is_quit, put_with_body}
+use Rattle.bq_job.specs.reading.Reading.{IsUnit, IsPutRequest, BeginsNoUnit, is_quit}
 use Rattle.bq_job.specs.beside.ComputedReading.{unit_after}
 use Rattle.bq_job.specs.reading.TubeName.{is_same_name}
 use Rattle.bq_job.specs.reading.Line.{line_end}
@@ -22,10 +22,10 @@ use Rattle.bq_wire.specs.LineEnds.{line_end_after, last_is_cr}
 use Rattle.bq_wire.specs.PutBodies.{IsBodySoFar, TakesBytes}
 use Rattle.bq_wire.specs.Standing.{Stands, StandsAt, IsPutBegun, IsLineAsking, Waits}
 use Rattle.bq_wire.specs.declared.line_read.PutLine.{PutLine}
-use Rattle.bq_wire.specs.Standing.{HandsRequest, FeedsText, TakesMissing, length_beside_cr, but_last, missing_at, Keeps}
+use Rattle.bq_wire.specs.Standing.{HandsRequest, FeedsText, TakesMissing, length_beside_cr, but_last, Keeps}
 use Rattle.bq_wire.specs.declared.put_body.PutBody.{PutBody}
 use Rattle.bq_wire.specs.declared.reader.ReaderPlace.{ReaderPlace}
-use Rattle.bq_wire.specs.declared.reader.ReaderPlace.TheVariants.{InLine, InLongLine, InBody, Over}
+use Rattle.bq_wire.specs.declared.reader.ReaderPlace.TheVariants.{InLine, InLongLine, InBody}
 use Rattle.bq_wire.specs.declared.reader.ReaderState.{ReaderState}
 use Rattle.bq_wire.proofs.LineEndLemmas.{goes_on, ends_there, line_end_within, line_end_one, last_is_cr-append}
 
@@ -42,10 +42,8 @@ begun_no_unit m body text begun = no_first_unit m text (rw (begun.first_line_is,
 
 -- no first part of a text that a reader represents is a unit
 pub Stands-no_unit : (s : ReaderState) (place : ReaderPlace) (text : List ℕ) → StandsAt s place text → BeginsNoUnit s.max_job_size text
-Stands-no_unit s InLine text stands = no_line_no_unit s.max_job_size text stands.1
-Stands-no_unit s (InLongLine after_cr) text stands = no_line_no_unit s.max_job_size text stands.1
 Stands-no_unit s (InBody body) text stands = begun_no_unit s.max_job_size body text stands.1
-Stands-no_unit s Over text stands = absurd stands
+Stands-no_unit s place text stands = no_line_no_unit s.max_job_size text (grind (arith, common_steps))
 
 -- Waits, from what the reader represents
 pub waits_by : (s : ReaderState) (text piece : List ℕ) (taken : ℕ) → taken ≡ length piece → Stands s (text ++ piece)
@@ -54,23 +52,7 @@ waits_by s text piece taken all stands = record { all = all; none = Stands-no_un
 
 -- the request of a put is no quit
 pub put_no_quit : (m : ℕ) (put : line_read.PutLine) (bytes : List ℕ) (r : Request) → IsPutRequest m put bytes r → is_quit r ≡ false
-put_no_quit m put bytes r h = go (nat_lt m put.bytes) h
-  where
-    body : (t : Bool) → is_quit (if t then requests.Put put.pri put.delay put.ttr
-        (take put.bytes bytes) else requests.Refused refusals.ExpectedCrlf) ≡ false
-    body true = refl
-    body false = refl
-
-    go : (t : Bool) → MatchBool t (r ≡ requests.Refused refusals.JobTooBig)
-        ((r ≡ requests.Refused refusals.OutOfMemory) ⊎ (r ≡ put_with_body put bytes)) → is_quit r ≡ false
-    go true h = ap is_quit h
-    go false (inl e) = ap is_quit e
-    go false (inr e) = ap is_quit e ∙ body (is_same_name (drop put.bytes bytes) line_end)
-
--- nothing is missing outside a body
-pub none_missing : (place : ReaderPlace) (piece : List ℕ) (taken : ℕ) → missing_at place ≡ 0 → taken ≤ length piece
-    → TakesMissing place piece taken
-none_missing place piece taken none within low = omega (arith, none, within, low)
+put_no_quit m put bytes r h = grind (arith, common_steps, cases_Bool)
 
 -- no more came than was missing, and nothing is missing any more
 pub all_missing : (old new : PutBody) (piece : List ℕ) (taken : ℕ) → new.put ≡ old.put → new.taken ≡ old.taken + taken
@@ -148,13 +130,7 @@ feeds_behind new text piece rest end taken r within is fed = go r fed
 -- a command line that is too long stays too long
 pub long_more : (text piece : List ℕ) → longest_line < length_beside_cr text → longest_line < length_beside_cr (text ++ piece)
 long_more text [] long = rw append-nil long
-long_more text (b ∷ piece) long = go (last_is_cr false text) (last_is_cr false (text ++ b ∷ piece)) long
-  where
-    go : (t u : Bool) → longest_line < length text - (if t then 1 else 0) → longest_line < length (text ++ b ∷ piece) - (if u then 1 else 0)
-    go true true long = omega (arith, length-append text (b ∷ piece))
-    go true false long = omega (arith, length-append text (b ∷ piece))
-    go false true long = omega (arith, length-append text (b ∷ piece))
-    go false false long = omega (arith, length-append text (b ∷ piece))
+long_more text (b ∷ piece) long = grind (arith, common_steps, cases_Bool, length-append text (b ∷ piece))
 
 -- a command line that is too long is BAD_FORMAT when it ends
 pub long_line_read : (text piece : List ℕ) (e : ℕ) → first_line text ≡ None → longest_line < length_beside_cr text
@@ -199,20 +175,14 @@ hands_out m kept text piece taken r nothing unit no_quit = record { unit = unit;
 -- a command line that does not fit is too long
 pub keep_long : (kept piece : List ℕ) (room : ℕ) (last : Bool) → room + length kept ≡ 223 → last_is_cr false (kept ++ piece) ≡ last
     → room ≤ length piece → (length piece ≡ room → last ≡ false) → longest_line < length_beside_cr (kept ++ piece)
-keep_long kept piece room true most is long exact = rw is (omega (arith, length-append kept piece, go))
-  where
-    go : length piece ≡ room → ⊥
-    go e = let no = exact e in cc
-keep_long kept piece room false most is long exact = rw is (omega (arith, length-append kept piece))
+keep_long kept piece room last most is long exact = grind (arith, common_steps, cases_Bool, length-append kept piece)
 
 -- what represents a command line that goes on
 pub kept_stands : (m : ℕ) (old new : List ℕ) (place : ReaderPlace) (text piece : List ℕ) → text ≡ old → first_line text ≡ None
     → line_end_after (last_is_cr false old) piece ≡ None → Keeps old new place piece
     → StandsAt (record { max_job_size = m; kept = new; place = place }) place (text ++ piece)
 kept_stands m old new InLine text piece is none more keeps = (rw is (sym keeps), goes_on text piece none (rw is more))
-kept_stands m old new (InLongLine after_cr) text piece is none more keeps = grind (arith, common_steps, goes_on, none)
-kept_stands m old new (InBody body) text piece is none more keeps = absurd keeps
-kept_stands m old new Over text piece is none more keeps = absurd keeps
+kept_stands m old new place text piece is none more keeps = grind (arith, common_steps, goes_on, none)
 
 -- the kept bytes and those up to the line's end form the line
 pub kept_line : (old text piece : List ℕ) (e : ℕ) (asked : line_read.LineRead) → text ≡ old → first_line text ≡ None
@@ -231,12 +201,9 @@ long_stands m kept text piece last after_cr nothing none cr long more last_is =
 -- a command line that ends has at least one byte before its LF
 pub some_byte : (old piece : List ℕ) (e : ℕ) → line_end_after (last_is_cr false old) piece ≡ Some e
     → 0 < length old + length (take (e - 1) piece)
-some_byte old piece zero here = absurd (omega (arith, (line_end_within (last_is_cr false old) piece 0 here).0))
 some_byte [] piece (suc zero) here = let cr : false ≡ true = line_end_one false piece here in cc
-some_byte (b ∷ old) piece (suc zero) here = omega arith
-some_byte old piece (suc (suc e)) here =
-    let within = (line_end_within (last_is_cr false old) piece (suc (suc e)) here).1 in
-    omega (arith, length-take-le (suc (suc e) - 1) piece (omega arith))
+some_byte (b ∷ old) piece e here = omega arith
+some_byte [] piece e here = let within = line_end_within false piece e here in grind (arith, common_steps, line_end_one)
 
 -- ---- bytes that are taken one part after another
 

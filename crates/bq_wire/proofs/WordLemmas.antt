@@ -7,7 +7,7 @@ use Rattle.std.proofs.lemmas.List.{drop_more, take_more}
 use Rattle.std.proofs.lemmas.List.Folds.{list_all_more}
 use Rattle.std.proofs.lemmas.List.Sums.{fold-append}
 use Rattle.std.specs.List.{list_all}
-use Rattle.bq_job.specs.reading.Words.{is_digit, job_id, number, value_of_digits, with_digit, words}
+use Rattle.bq_job.specs.reading.Words.{is_digit, job_id, value_of_digits, with_digit, words}
 use Rattle.bq_job.specs.reading.LineRead.{no_words}
 use Rattle.bq_job.specs.declared.request.Request.{Request}
 use Rattle.bq_job.specs.declared.request.Request.TheVariants as requests
@@ -78,10 +78,6 @@ job_id_great word e = grind (arith, nat_tests)
 pub job_id_is : (word : List ℕ) → 0 < length word → list_all is_digit word ≡ true → value_of_digits word < 2 ^ 64
     → job_id word ≡ Some (value_of_digits word)
 job_id_is word some digits small = grind (arith, nat_tests)
-
--- a job id that is small enough is a number
-pub number_is : (word : List ℕ) (n : ℕ) → job_id word ≡ Some n → n < 2 ^ 32 → number word ≡ Some n
-number_is word n e low = grind (arith, nat_tests)
 
 -- a word whose digits so far make too large a number
 pub too_great : (word : List ℕ) (i n : ℕ) → i < length word → fold with_digit n (drop i word) ≡ value_of_digits word

@@ -25,8 +25,7 @@ pub fn read_command(word: &[u8], words: &mut Words, place: &mut Request) -> Opti
         5..=6 => up_to_6(word, words, place),
         7..=9 => up_to_9(word, words, place),
         10 => of_10(word, words, place),
-        11..=12 => up_to_12(word, words, place),
-        _ => from_13(word, words, place),
+        _ => from_11(word, words, place),
     }
 }
 
@@ -113,34 +112,24 @@ fn of_10(word: &[u8], words: &mut Words, place: &mut Request) -> Option<LineRead
     }
 }
 
-// For a first word of 11 or 12 letters.
-fn up_to_12(word: &[u8], words: &mut Words, place: &mut Request) -> Option<LineRead>
-    ensures { AsksFor
-        (named_where (λ n. nat_le 11 n && nat_le n 12) word.now) words.old result place.new }
+// For a first word of 11 letters or more.
+fn from_11(word: &[u8], words: &mut Words, place: &mut Request) -> Option<LineRead>
+    ensures { AsksFor (named_where (λ n. nat_le 11 n) word.now) words.old result place.new }
 {
-    if is(word, b"reserve-job") {
+    if is(word, b"reserve-with-timeout") {
+        let seconds = number_word(words)?;
+        whole(place, Request::ReserveWithTimeout { seconds })
+    } else if is(word, b"reserve-job") {
         let id = id_word(words)?;
         whole(place, Request::ReserveJob { id })
     } else if is(word, b"peek-buried") {
         no_words(words, place, Request::PeekBuried)
     } else if is(word, b"peek-delayed") {
         no_words(words, place, Request::PeekDelayed)
-    } else {
-        unknown(place)
-    }
-}
-
-// For a first word of 13 letters or more.
-fn from_13(word: &[u8], words: &mut Words, place: &mut Request) -> Option<LineRead>
-    ensures { AsksFor (named_where (λ n. nat_le 13 n) word.now) words.old result place.new }
-{
-    if is(word, b"list-tube-used") {
+    } else if is(word, b"list-tube-used") {
         no_words(words, place, Request::ListTubeUsed)
     } else if is(word, b"list-tubes-watched") {
         no_words(words, place, Request::ListTubesWatched)
-    } else if is(word, b"reserve-with-timeout") {
-        let seconds = number_word(words)?;
-        whole(place, Request::ReserveWithTimeout { seconds })
     } else {
         unknown(place)
     }
