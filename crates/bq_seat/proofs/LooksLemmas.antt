@@ -1,7 +1,7 @@
 -- What the steps and the mail of a connection imply for the machine's next action.
 use Rattle.std.proofs.Common.{◌≡◌, ℕ, ◌+◌, ◌<◌, Bool, true, false, ◌&&◌, ◌==◌, not, List, [], ◌∷◌, ◌++◌, Some, map, length, refl, sym, ap}
 use Rattle.std.proofs.Common.{◌∙◌, arith, subst, append-nil}
-use Rattle.std.proofs.lemmas.Bool.Decides.{nat_tests}
+use Rattle.std.proofs.lemmas.Bool.{cases_Bool, Decides.nat_tests}
 use Rattle.std.proofs.lemmas.Grind.{common_steps}
 use Rattle.std.proofs.lemmas.List.{length-map}
 use Rattle.bq_job.specs.declared.request.Request.{Request}
@@ -21,7 +21,8 @@ use Rattle.bq_seat.specs.declared.machine.SeatMachine.{SeatMachine}
 use Rattle.bq_seat.specs.declared.machine.Stage.{Stage}
 use Rattle.bq_seat.specs.declared.machine.Action.TheVariants as actions
 use Rattle.bq_seat.specs.declared.machine.Stage.TheVariants as stages
-use Rattle.bq_seat.proofs.StepLemmas.{ends_by, wanted_joined, answered_count-asked, has_quit-last, map-asked}
+use Rattle.bq_job.proofs.GivenLemmas.{wanted_append}
+use Rattle.bq_seat.proofs.StepLemmas.{ends_by, answered_count-asked, has_quit-last}
 
 last_step-append : (taken : List Step) (step : Step) → last_step (taken ++ step ∷ []) ≡ Some step
 last_step-append [] step = refl
@@ -40,17 +41,15 @@ behind_quit p q =
     rw is refl
 
 no_quit_behind : (last : Request) → is_quit last ≡ false → LooksBehindStep (Some (steps.Ask last)) actions.PollMail
-no_quit_behind requests.Quit e = cc
-no_quit_behind _ e = refl
+no_quit_behind last e = grind (arith, common_steps)
 
 behind_asked : (asked : List Request) (taken : List Step) → taken ≡ steps.Connect ∷ map steps.Ask asked → 0 < length asked
     → has_quit asked ≡ false → LooksBehindStep (last_step taken) actions.PollMail
 behind_asked [] taken is some none = absurd (omega arith)
 behind_asked (r ∷ asked) taken is some none =
     let ends = ends_by r asked in
-    let whole : taken ≡ (steps.Connect ∷ map steps.Ask ends.before) ++ steps.Ask ends.last ∷ [] =
-    is ∙ ap (λ rs. steps.Connect ∷ map steps.Ask rs) ends.is ∙ ap (λ xs. steps.Connect ∷ xs) (map-asked ends.before ends.last) in
-    let last = ap last_step whole ∙ last_step-append (steps.Connect ∷ map steps.Ask ends.before) (steps.Ask ends.last) in
+    let last = ap last_step (is ∙ ap (λ xs. steps.Connect ∷ xs) ends.steps_are)
+    ∙ last_step-append (steps.Connect ∷ map steps.Ask ends.before) (steps.Ask ends.last) in
     subst (λ s. LooksBehindStep s actions.PollMail) (sym last)
     (no_quit_behind ends.last (has_quit-last ends.before ends.last (ap has_quit (sym ends.is) ∙ none)).1)
 
@@ -73,14 +72,13 @@ behind_close size end p c =
     subst (λ s. LooksBehindStep s actions.PollMail) (sym is) refl
 
 no_ends : (told : Bool) → wanted (end_if told) ≡ 0
-no_ends true = refl
-no_ends false = refl
+no_ends told = grind (arith, common_steps, cases_Bool)
 
 pub wanted_open : {r : ReaderState} {kept : List ℕ} {told : Bool} {out : ℕ} {p : Past} → IsOpen r kept told out p
     → wanted p.steps ≡ length p.mail + out
 wanted_open {told = told} o =
     let same = ap wanted o.stepped.steps_are in
-    let joined = wanted_joined (map steps.Ask o.asked) (end_if told) in
+    let joined = wanted_append (map steps.Ask o.asked) (end_if told) in
     let all = answered_count-asked o.asked o.stepped.no_quit in
     let out_is = o.handed.answered in
     omega (arith, no_ends told)

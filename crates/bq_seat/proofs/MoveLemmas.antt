@@ -1,7 +1,7 @@
 -- The moves of a seat machine: what holds in the pasts that it represents, and how they continue.
-use Rattle.std.proofs.Common.{◌≡◌, ◌≤◌, ◌+◌, Bool, true, false, ◌||◌, List, [], ◌∷◌, ◌++◌, Some, is_some, map, length, inl, inr, refl}
+use Rattle.std.proofs.Common.{◌≡◌, ◌≤◌, ◌+◌, Bool, true, false, ◌||◌, List, [], ◌∷◌, ◌++◌, Some, map, length, inl, inr, refl}
 use Rattle.std.proofs.Common.{sym, ap, ◌∙◌, arith, subst, append_assoc, append-nil, ℕ, if◌then◌else◌, not, ◌&&◌, ◌==◌}
-use Rattle.std.proofs.lemmas.Bool.{or_parts}
+use Rattle.std.proofs.lemmas.Bool.{cases_Bool, or_parts}
 use Rattle.std.proofs.lemmas.Grind.{common_steps}
 use Rattle.std.proofs.lemmas.List.Folds.{list_any-append}
 use Rattle.bq_job.specs.declared.answer.Answer.{Answer}
@@ -11,7 +11,7 @@ use Rattle.bq_job.specs.declared.step.Step.{Step}
 use Rattle.bq_job.specs.promise.LineSteps.{wanted}
 use Rattle.bq_job.specs.machine.OneClient.{is_closed_answer}
 use Rattle.bq_job.specs.declared.step.Step.TheVariants as steps
-use Rattle.bq_job.specs.declared.line_end.LineEnd.TheVariants as ends
+use Rattle.bq_job.proofs.GivenLemmas.{wanted_append}
 use Rattle.bq_seat.specs.Finds.{Finds}
 use Rattle.bq_seat.specs.Past.{IsOrderly, Past, awaited_by, has_close, is_close, is_stray, past_after, with_action, with_event}
 use Rattle.bq_seat.specs.Past.{with_fault, with_mail, Awaited, answers, first_past}
@@ -29,7 +29,7 @@ use Rattle.bq_wire.specs.Standing.{Stands}
 use Rattle.bq_seat.specs.declared.machine.Action.TheVariants as actions
 use Rattle.bq_seat.specs.declared.machine.Event.TheVariants as events
 use Rattle.bq_seat.specs.declared.machine.Stage.TheVariants as stages
-use Rattle.bq_seat.proofs.StepLemmas.{asks_at, closes_at, connects, few_missing, quits_at, tells_at, wanted_joined, none_kept}
+use Rattle.bq_seat.proofs.StepLemmas.{asks_at, closes_at, connects, few_missing, quits_at, tells_at, none_kept}
 use Rattle.bq_seat.proofs.LooksLemmas.{wanted_open, read_on_is}
 use Rattle.bq_seat.proofs.OpenLemmas.{answered, opened, served_now, still_closing}
 
@@ -43,7 +43,7 @@ few_at_close end p h =
     let none : wanted more ≡ 0 = elim line.ends
     [ inl none ↦ ap (λ t. wanted (t ++ steps.Close ∷ [])) none | inr one ↦ ap (λ t. wanted (t ++ steps.Close ∷ [])) one.0 ] in
     let same = ap wanted (line.steps_are ∙ append_assoc (steps.Connect ∷ map steps.Ask line.asked) line.end_steps (steps.Close ∷ [])) in
-    let joined = wanted_joined (map steps.Ask line.asked) more in
+    let joined = wanted_append (map steps.Ask line.asked) more in
     omega arith
 
 -- The past with the event justifies the action, in the stage after it.
@@ -81,40 +81,19 @@ closes_joined : (taken : List Step) (step : Step) → has_close (taken ++ step �
 closes_joined taken step = grind (arith, common_steps, list_any-append)
 
 orderly_with_mail : (answer : Answer) (p : Past) → IsOrderly p → IsOrderly (with_mail answer p)
-orderly_with_mail answer p o = go p.closing refl
-  where
-    go : (b : Bool) → p.closing ≡ b → IsOrderly
-        (if b then record p { late_mail = p.late_mail ++ answer ∷ [] } else record p { mail = p.mail ++ answer ∷ [] })
-    go true e = record { closing = o.closing; late = λ f. absurd (let g : true ≡ false = sym e ∙ f in cc) }
-    go false e = record { closing = o.closing; late = o.late }
+orderly_with_mail answer p o = grind (arith, common_steps)
 
 orderly_with_fault : (fault : LineFault) (p : Past) → IsOrderly p → IsOrderly (with_fault fault p)
-orderly_with_fault fault p o = go (is_some p.fault)
-  where
-    go : (b : Bool) → IsOrderly (if b then p else record p { fault = Some fault; written_at_fault = length p.written })
-    go true = o
-    go false = record { closing = o.closing; late = o.late }
+orderly_with_fault fault p o = grind (arith, common_steps)
 
 orderly_with_event : (event : Event) (p : Past) → IsOrderly p → IsOrderly (with_event event p)
-orderly_with_event events.Opened p o = record { closing = refl; late = λ e. refl }
-orderly_with_event events.ReadFault p o = orderly_with_fault _ p o
-orderly_with_event (events.Mail answer) p o = orderly_with_mail answer p o
-orderly_with_event events.WriteFault p o = orderly_with_fault _ p o
-orderly_with_event _ p o = record { closing = o.closing; late = o.late }
+orderly_with_event event p o = grind (arith, common_steps, orderly_with_fault, orderly_with_mail)
 
 orderly_with_action : (action : Action) (p : Past) → IsOrderly p → IsOrderly (with_action action p)
-orderly_with_action (actions.Submit step) p o = record {
-  closing = ap (λ b. b || is_close step) o.closing ∙ sym (closes_joined p.steps step);
-  late = λ e. o.late (or_parts p.closing (is_close step) e).0;
-}
-orderly_with_action _ p o = record { closing = o.closing; late = o.late }
+orderly_with_action action p o = grind (arith, common_steps, closes_joined, or_parts)
 
 orderly_after : (event : Event) (action : Action) (p : Past) → IsOrderly p → IsOrderly (past_after event action p)
-orderly_after event action p o = go (is_stray action)
-  where
-    go : (b : Bool) → IsOrderly (if b then p else with_action action (with_event event p))
-    go true = o
-    go false = orderly_with_action action (with_event event p) (orderly_with_event event p o)
+orderly_after event action p o = grind (arith, common_steps, orderly_with_action, orderly_with_event)
 
 opens_past : (event : Event) (action : Action) (new : SeatMachine) → OpensLine event action new → OpensPast event action new
 unfolding StandsFor
@@ -159,8 +138,7 @@ Turns s event action old next = (answers event (awaited_at s) ≡ true) × (awai
     × OpensLine event action next × IfLineOver action (ServesAll (in_stage s old) event action)
 
 is_not_stray : (action : Action) (what : Awaited) → awaited_by action ≡ Some what → is_stray action ≡ false
-is_not_stray actions.Stray what e = cc
-is_not_stray _ what e = refl
+is_not_stray action what e = grind (arith, common_steps)
 
 -- The move of a machine in this stage. It remains to show how the connection's past goes on, and
 -- why the machine does this next.
@@ -185,14 +163,11 @@ turn {s} {event} {action} {other} {old} {new} {next} at does is t past looks =
 
 -- an action with which the machine continues does not end the connection
 going_not_over : (action : Action) (P : LineEnd → Type 0) → GoesFurther action → IfLineOver action P
-going_not_over (actions.LineOver end) P e = absurd e
-going_not_over _ P e = tt
+going_not_over action P e = grind (arith, common_steps)
 
 all_three : (waits told : Bool) (kept : List ℕ) → (waits && not told && (length kept == 0)) ≡ true
     → (waits ≡ true) × (told ≡ false) × (kept ≡ [])
-all_three true false kept e = (refl, refl, none_kept kept e)
-all_three true true kept e = cc
-all_three false told kept e = cc
+all_three waits told kept e = grind (arith, common_steps, cases_Bool, none_kept)
 
 -- No answer is outstanding after the event, and the machine continues after it from `mid`.
 pub goes_on : {s : Stage} {event : Event} {action : Action} {old new : SeatMachine} (mid : SeatMachine) → old.stage ≡ s

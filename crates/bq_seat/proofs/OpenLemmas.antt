@@ -2,10 +2,10 @@
 use Rattle.std.proofs.Common.{◌≡◌, ℕ, ◌<◌, Bool, true, false, ◌||◌, List, [], ◌∷◌, ◌++◌, ◌⊎◌, inl, inr, Option, Some, refl, sym, ap}
 use Rattle.std.proofs.Common.{subst, ◌∙◌, append_assoc, append-nil, map, length, arith, length-append, rules, take, drop}
 use Rattle.std.proofs.Common.{take-append-drop, ◌==◌}
-use Rattle.std.proofs.lemmas.Grind.{common_steps}
+use Rattle.std.proofs.lemmas.{Bool.cases_Bool, Grind.common_steps}
 use Rattle.std.proofs.lemmas.List.Folds.{list_any-append}
 use Rattle.std.proofs.Math.Bool.{or-true}
-use Rattle.std.proofs.lemmas.List.{drop_all}
+use Rattle.std.proofs.lemmas.List.{drop_all, map-append}
 use Rattle.bq_job.specs.declared.answer.Answer.{Answer}
 use Rattle.bq_job.specs.declared.answer.Answer.TheVariants.{Closed}
 use Rattle.bq_job.specs.declared.line_end.LineEnd.{LineEnd}
@@ -32,7 +32,7 @@ use Rattle.bq_seat.specs.declared.machine.SeatMachine.{SeatMachine}
 use Rattle.bq_seat.specs.declared.machine.Action.TheVariants as actions
 use Rattle.bq_seat.specs.declared.machine.Stage.TheVariants as stages
 use Rattle.bq_seat.proofs.StepLemmas.{BeginsNoUnit-[], Reads-after, Reads-begun, none_kept, answered_count-asked, answered_count-quit}
-use Rattle.bq_seat.proofs.StepLemmas.{ends_by_wait-asked, has_quit-asked, map-asked, no_quit_last, some_asked}
+use Rattle.bq_seat.proofs.StepLemmas.{ends_by_wait-asked, has_quit-asked, no_quit_last, some_asked}
 
 -- a connection is opened
 pub opened : (r : ReaderState) → Stands r [] → StandsInStage stages.Connecting r [] false first_past
@@ -71,13 +71,7 @@ waited r next kept n p o same waits = let w = waits o.read.begun o.read.stands i
     are_units = subst (λ size. AreUnits size o.read.units o.asked) (sym same) o.read.are_units;
     bytes_are = o.read.bytes_are ∙ ap (λ bytes. o.read.units ++ bytes) (sym (append-nil (o.read.begun ++ kept)));
   };
-  stepped = record {
-    no_quit = o.stepped.no_quit;
-    steps_are = o.stepped.steps_are;
-    told_well = λ e. absurd cc;
-    closing_is = o.stepped.closing_is;
-    ended_is = o.stepped.ended_is;
-  };
+  stepped = grind (arith, common_steps);
   handed = o.handed;
 }
 
@@ -97,7 +91,7 @@ module _ (r next : ReaderState) (kept : List ℕ) (n : ℕ) (q : Request) (p : P
 
   -- the steps, with the request
   asked_steps : p.steps ++ steps.Ask q ∷ [] ≡ steps.Connect ∷ map steps.Ask (o.asked ++ q ∷ [])
-  asked_steps = grind (arith, common_steps, map-asked o.asked q)
+  asked_steps = grind (arith, common_steps, map-append steps.Ask o.asked (q ∷ []))
 
   -- The request is submitted.
   pub asks : Stands next [] → is_quit q ≡ false
@@ -161,8 +155,7 @@ module _ {r : ReaderState} {kept : List ℕ} {told : Bool} {out : ℕ} {p : Past
   -- The end is submitted only after a reserve, and only if the connection's input has ended.
   told_well : (told ≡ true → ended ≡ true) → (end : Bool) → told ≡ end
       → MayTellEnd (record { read = p.bytes; ended = ended; fault = fault }) o.asked (end_if end)
-  told_well h true e = inr (refl, (o.stepped.told_well e).0, h e)
-  told_well h false e = inl refl
+  told_well h end e = let well = o.stepped.told_well in grind (arith, common_steps, cases_Bool)
 
   -- The connection is closed with this reading of its bytes.
   closes : (end : LineEnd) (asked : List Request) (rest : List ℕ) → Reads r.max_job_size p.bytes asked rest
@@ -258,8 +251,7 @@ tells_end w none untold = let o = w.0 in (
 )
 
 closed_itself : (a : Answer) → is_closed_answer a ≡ true → a ≡ Closed
-closed_itself Closed e = refl
-closed_itself _ e = cc
+closed_itself a e = grind (arith, common_steps)
 
 -- mail after the close is not part of what was served
 module _ (size : ℕ) (end : LineEnd) (p : Past) (a : Answer) (c : IsClosing size end p) where
@@ -267,8 +259,7 @@ module _ (size : ℕ) (end : LineEnd) (p : Past) (a : Answer) (c : IsClosing siz
   late_mail = rw c.closing_is refl
 
   still_broken : (at : LineEnd) → IsLastBroken at p → IsLastBroken at (record p { late_mail = p.late_mail ++ a ∷ [] })
-  still_broken ends.WriteFault h = h
-  still_broken _ h = tt
+  still_broken at h = grind (arith, common_steps)
 
   served_still : (written : List ℕ) → IsServedToClose size written end (record p { late_mail = p.late_mail ++ a ∷ [] })
   served_still written = let s = c.served written in record {
@@ -325,8 +316,7 @@ asking m bytes next n q same fed p o = let out = fed o.read.begun o.read.stands 
     (asks m.reader next bytes n q p o same out.unit out.next refl, refl)
 
 submits : (q : Request) → Some Awaited.ASubmission ≡ Some (awaited_at (asking_stage q))
-submits requests.Quit = refl
-submits _ = refl
+submits q = grind (arith, common_steps)
 
 -- The reader has taken these bytes. Its request is submitted if there is one; otherwise the connection is read.
 pub goes_taken : (m new : SeatMachine) (bytes : List ℕ) (next : ReaderState) (taken : Taken) (kept : List ℕ) (q : Request) (action : Action)

@@ -14,15 +14,13 @@ use Rattle.bq_job.specs.declared.step.Step.{Step}
 use Rattle.bq_job.specs.declared.answer.Answer.{Answer}
 use Rattle.bq_job.specs.declared.request.Request.TheVariants as requests
 use Rattle.bq_job.specs.declared.step.Step.TheVariants as steps
-use Rattle.bq_job.specs.declared.line_end.LineEnd.TheVariants as ends
-use Rattle.bq_job.proofs.ReadsLemmas.{Reads-onto}
+use Rattle.bq_job.proofs.{GivenLemmas.wanted_append, ListLemmas.heads, ReadsLemmas.Reads-onto}
 use Rattle.bq_seat.specs.SeatStands.{has_quit, HasAskedQuit}
 use Rattle.bq_seat.specs.InTurn.{IsInTurn}
 use Rattle.bq_seat.specs.Past.{Past}
 
 answered_count-one : (r : Request) (asked : List Request) → is_quit r ≡ false → answered_count (r ∷ asked) ≡ answered_count asked + 1
-answered_count-one requests.Quit asked q = cc
-answered_count-one r asked q = omega arith
+answered_count-one r asked q = grind (arith, common_steps)
 
 -- each of these requests is answered
 pub answered_count-asked : (asked : List Request) → has_quit asked ≡ false → answered_count asked ≡ length asked
@@ -58,13 +56,8 @@ pub has_quit-last : (asked : List Request) (q : Request) → has_quit (asked ++ 
     → (has_quit asked ≡ false) × (is_quit q ≡ false)
 has_quit-last asked q e = grind (arith, common_steps, list_any-append)
 
-pub map-asked : (asked : List Request) (q : Request) → map steps.Ask (asked ++ q ∷ []) ≡ map steps.Ask asked ++ steps.Ask q ∷ []
-map-asked [] q = refl
-map-asked (r ∷ asked) q = ap (λ x. steps.Ask r ∷ x) (map-asked asked q)
-
 pub some_asked : (asked : List Request) → 0 < length asked → asked ≢ []
-some_asked [] h e = absurd (omega arith)
-some_asked (r ∷ asked) h e = cc
+some_asked asked h e = grind (arith, common_steps)
 
 -- ---- readings that continue after submitted requests
 
@@ -99,15 +92,13 @@ Reads-begun size text units begun asked is u q none =
 -- lists with a last element
 pub last_same : {A : Type 0} (xs ys : List A) (x y : A) → xs ++ x ∷ [] ≡ ys ++ y ∷ [] → (xs ≡ ys) × (x ≡ y)
 last_same [] [] x y e = (refl, cc)
-last_same [] (b ∷ []) x y e = absurd (let l : [] ≡ y ∷ [] = cc in cc)
-last_same [] (b ∷ c ∷ ys) x y e = absurd (let l : [] ≡ c ∷ (ys ++ y ∷ []) = cc in cc)
-last_same (a ∷ []) [] x y e = absurd (let l : x ∷ [] ≡ [] = cc in cc)
-last_same (a ∷ c ∷ xs) [] x y e = absurd (let l : c ∷ (xs ++ x ∷ []) ≡ [] = cc in cc)
+last_same [] (b ∷ ys) x y e = absurd (omega (arith, ap length e, length-append ys (y ∷ [])))
+last_same (a ∷ xs) [] x y e = absurd (omega (arith, ap length e, length-append xs (x ∷ [])))
 last_same (a ∷ xs) (b ∷ ys) x y e =
-    let rest : xs ++ x ∷ [] ≡ ys ++ y ∷ [] = cc in
-    let first : a ≡ b = cc in
-    let more = last_same xs ys x y rest in
+    let both = heads a b (xs ++ x ∷ []) (ys ++ y ∷ []) e in
+    let more = last_same xs ys x y both.1 in
     let tails = more.0 in
+    let first = both.0 in
     (cc, more.1)
 
 -- the submitted requests, without the last one
@@ -115,15 +106,16 @@ pub record EndsBy (asked : List Request) : Type 0 where
   pub before : List Request
   pub last : Request
   pub is : asked ≡ before ++ last ∷ []
+  pub steps_are : map steps.Ask asked ≡ map steps.Ask before ++ steps.Ask last ∷ []
 
 pub ends_by : (r : Request) (asked : List Request) → EndsBy (r ∷ asked)
-ends_by r [] = record { before = []; last = r; is = refl }
-ends_by r (s ∷ asked) = let more = ends_by s asked in record { before = r ∷ more.before; last = more.last; is = ap (λ xs. r ∷ xs) more.is }
-
-pub wanted_joined : (xs ys : List Step) → wanted (xs ++ ys) ≡ wanted xs + wanted ys
-wanted_joined [] ys = omega arith
-wanted_joined (steps.Ask r ∷ xs) ys = omega (arith, wanted_joined xs ys)
-wanted_joined (_ ∷ xs) ys = wanted_joined xs ys
+ends_by r [] = record { before = []; last = r; is = refl; steps_are = refl }
+ends_by r (s ∷ asked) = let more = ends_by s asked in record {
+  before = r ∷ more.before;
+  last = more.last;
+  is = ap (λ xs. r ∷ xs) more.is;
+  steps_are = ap (λ xs. steps.Ask r ∷ xs) more.steps_are;
+}
 
 in_place : {step other : Step} (taken : List Step) (mail : List Answer) → step ≡ other → IsInTurn other taken mail
     → IsInTurn step taken mail
@@ -138,9 +130,8 @@ pub asks_at : (asked : List Request) (taken : List Step) (mail : List Answer) (s
 asks_at [] taken mail step e count none = absurd (omega arith)
 asks_at (r ∷ asked) taken mail step e count none =
     let ends = ends_by r asked in
-    let whole : taken ++ step ∷ [] ≡ (steps.Connect ∷ map steps.Ask ends.before) ++ steps.Ask ends.last ∷ [] =
-    e ∙ ap (λ rs. steps.Connect ∷ map steps.Ask rs) ends.is ∙ ap (λ xs. steps.Connect ∷ xs) (map-asked ends.before ends.last) in
-    let last = last_same taken (steps.Connect ∷ map steps.Ask ends.before) step (steps.Ask ends.last) whole in
+    let last = last_same taken (steps.Connect ∷ map steps.Ask ends.before) step (steps.Ask ends.last)
+    (e ∙ ap (λ xs. steps.Connect ∷ xs) ends.steps_are) in
     let quit : has_quit ends.before ≡ false = (has_quit-last ends.before ends.last (ap has_quit (sym ends.is) ∙ none)).0 in
     let long = length-append ends.before (ends.last ∷ []) in
     let same = ap length ends.is in
@@ -169,7 +160,7 @@ pub closes_at : (asked : List Request) (told : List Step) (taken : List Step) (m
     → answered_count asked ≤ length mail + 1 → IsInTurn step taken mail
 closes_at asked told taken mail step e ends count =
     let last = last_same taken ((steps.Connect ∷ map steps.Ask asked) ++ told) step steps.Close e in
-    let joined = wanted_joined (steps.Connect ∷ map steps.Ask asked) told in
+    let joined = wanted_append (steps.Connect ∷ map steps.Ask asked) told in
     let same = ap wanted last.0 in
     let few : told ≡ [] → wanted taken ≤ length mail + 1 = λ none. let zero_more : wanted told ≡ 0 = ap wanted none in omega arith in
     let few_told : told ≡ steps.End ∷ [] → wanted taken ≤ length mail + 1 =
@@ -181,8 +172,4 @@ closes_at asked told taken mail step e ends count =
 
 pub few_missing : (end : LineEnd) (asked : List Request) (mail : List Answer) → AreAllAnswered end asked mail
     → answered_count asked ≤ length mail + 1
-few_missing ends.Quit asked mail h = omega arith
-few_missing ends.EndOfInput asked mail h = omega arith
-few_missing ends.WriteFault asked mail h = omega arith
-few_missing ends.ReadFault asked mail (inl h) = omega arith
-few_missing ends.ReadFault asked mail (inr h) = let one = h.1 in omega arith
+few_missing end asked mail h = grind (arith, common_steps)

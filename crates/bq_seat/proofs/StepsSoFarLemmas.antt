@@ -1,8 +1,9 @@
 -- An open connection by its machine's stage: the steps that were submitted for it, and the answers
 -- that were given for writing.
-use Rattle.std.proofs.Common.{◌≡◌, ℕ, Bool, true, false, List, [], ◌∷◌, ◌++◌, IsTrue, not, refl, sym, ap, ◌∙◌, ◌⊎◌, inl, inr}
-use Rattle.std.proofs.Common.{append-nil, append_assoc}
-use Rattle.std.proofs.lemmas.Bool.{and_parts}
+use Rattle.std.proofs.Common.{◌≡◌, ℕ, Bool, true, List, [], ◌∷◌, ◌++◌, IsTrue, not, refl, sym, ap, ◌∙◌, ◌⊎◌, inl, inr}
+use Rattle.std.proofs.Common.{append-nil, append_assoc, arith}
+use Rattle.std.proofs.lemmas.Bool.{and_parts, cases_Bool}
+use Rattle.std.proofs.lemmas.Grind.{common_steps}
 use Rattle.bq_job.specs.declared.line_end.LineEnd.{LineEnd}
 use Rattle.bq_job.specs.declared.request.Request.{Request}
 use Rattle.bq_job.specs.declared.step.Step.{Step}
@@ -43,8 +44,7 @@ quits_begin (r ∷ n ∷ asked) more q =
 -- Of the requests that were read, all were asked, or a first part.
 asked_of : (line : LineHeard) (end : LineEnd) (read asked : List Request) → IsOverBy line end read asked
     → (more : List Request) × (read ≡ asked ++ more)
-asked_of line ends.WriteFault read asked o = (o.0, o.1)
-asked_of line _ read asked o = ([], sym o.0 ∙ sym (append-nil asked))
+asked_of line end read asked o = grind (arith, common_steps, append-nil)
 
 -- ---- the steps of a line
 
@@ -75,8 +75,7 @@ steps_of_served size line end taken more l =
 ends_told : (line : LineHeard) (asked : List Request) (told : Bool)
     → (told ≡ true → IsTrue line.ended) → (told ≡ true → IsTrue (ends_by_wait asked))
     → MayTellEnd line asked (end_if told)
-ends_told line asked true ended waits = inr (refl, waits refl, ended refl)
-ends_told line asked false ended waits = inl refl
+ends_told line asked told ended waits = grind (arith, common_steps, cases_Bool)
 
 -- the connection is open
 steps_of_open : (reader : ReaderState) (kept : List ℕ) (told : Bool) (outstanding : ℕ) (p : Past) (written : List ℕ)
