@@ -1,6 +1,6 @@
 -- The ends, made one after the other.
 use Rattle.std.proofs.Common.{◌≡◌, ℕ, zero, suc, ◌+◌, ◌<◌, ◌≤◌, List, [], ◌∷◌, ◌++◌}
-use Rattle.std.proofs.Common.{Some, is_some, length, refl, slice_get, sym, ap, ◌∙◌, subst, arith, true≢false}
+use Rattle.std.proofs.Common.{Some, length, refl, slice_get, sym, ap, ◌∙◌, subst, arith}
 use Rattle.std.proofs.lemmas.Grind.{common_steps}
 use Rattle.std.proofs.lemmas.List.{get_or_append_left, get_or_push, length-append, replicate_more}
 use mathlib.Core.Logic.{dite}
@@ -9,7 +9,7 @@ use Rattle.bq_link.specs.EndStates.{CoreState, RingId, SeatState}
 use Rattle.bq_link.specs.NewEnds.{AreNewSeats, IsNewCore, IsNewSeat, next_seat, with_ring}
 
 get_more : {X : Type 0} (xs ys : List X) (n : ℕ) (x : X) → slice_get xs n ≡ Some x → slice_get (xs ++ ys) n ≡ Some x
-get_more [] ys n x e = absurd (true≢false (ap is_some (sym e)))
+get_more [] ys n x e = grind (arith, common_steps)
 get_more (y ∷ xs) ys zero x e = e
 get_more (y ∷ xs) ys (suc n) x e = get_more xs ys n x e
 

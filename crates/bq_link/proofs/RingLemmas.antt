@@ -1,10 +1,12 @@
 -- The rings of the core's end, when one is used.
 use Rattle.std.specs.Prelude.{◌↔◌, IsTrue}
-use Rattle.std.proofs.Common.{◌≡◌, ℕ, Bool, true, false, not, refl, zero, suc, ◌+◌, ◌<◌, ◌≤◌, Global, None, Some, is_some}
-use Rattle.std.proofs.Common.{slice_get, true≢false, List, [], ◌∷◌, map, length, get_or, set, sym, ap, ◌∙◌, subst, arith}
-use Rattle.std.proofs.ByRecursion.{All-get_or}
-use Rattle.std.proofs.lemmas.Grind.{common_steps}
-use Rattle.std.proofs.lemmas.List.{get_or-map, get_or-set_same, length-append, length-map, length-set, map-set, set-get_or}
+use Rattle.std.proofs.Common.{◌≡◌, ℕ, Bool, true, false, not, refl, zero, suc, ◌+◌, ◌<◌, ◌≤◌, Global}
+use Rattle.std.proofs.Common.{List, map, length, get_or, set, ap, ◌∙◌, arith}
+use Rattle.std.proofs.lemmas.List.Elements.{All-from_recursion}
+use Rattle.std.proofs.lemmas.Option.{slice_get_within}
+use Rattle.std.proofs.Math.Seq.{map-set_same}
+use Rattle.std.proofs.lemmas.{Bool.cases_Bool, Grind.common_steps}
+use Rattle.std.proofs.lemmas.List.{get_or-map, get_or-set_same, length-append, length-map, length-set, map-set}
 use Rattle.std.specs.List.{AllByRecursion as All}
 use Rattle.std.specs.Vec.{with_item}
 use Rattle.bq_job.specs.declared.answer.Answer.{Answer}
@@ -14,10 +16,6 @@ use Rattle.rtrb.specs.declared.producer.Producer.{Producer}
 use Rattle.bq_link.specs.declared.ends.CoreEnd.TheInside.{Inside as CoreFields}
 use Rattle.bq_link.specs.EndStates.{CoreState, ring_places, room_for, sent_to}
 use Rattle.bq_link.specs.Inside.{core_state, ring_of}
-
--- an element's image stays
-same_image : {X Y : Type 0} (f : X → Y) (xs : List X) (n : ℕ) (d x : X) → f x ≡ f (get_or xs n d) → map f (set xs n x) ≡ map f xs
-same_image f xs n d x same = grind (arith, common_steps, map-set f xs n x, map-set f xs n (get_or xs n d), set-get_or xs n d)
 
 -- the image of an element that was written
 image_at : {X Y : Type 0} (f : X → Y) (xs : List X) (n : ℕ) (x : X) (e : Y) → n < length xs → get_or (map f (set xs n x)) n e ≡ f x
@@ -37,24 +35,16 @@ pub within_of : (c : CoreFields) (old : CoreState) (k number : ℕ) → core_sta
     → k < length c.rings.items
 within_of c old k number is at within = grind (arith, common_steps, length_rings)
 
--- an element that was found is in the list
-pub found_within : {X : Type 0} (xs : List X) (n : ℕ) (x : X) → slice_get xs n ≡ Some x → n < length xs
-found_within [] n x e = absurd (true≢false (ap is_some (sym e)))
-found_within (y ∷ ys) zero x e = omega arith
-found_within (y ∷ ys) (suc n) x e = let rest = found_within ys n x e in omega arith
-
 -- a ring that was checked twice
 pub looked_twice : (a b c : Ring) → SameProducer a b → SameProducer b c → SameProducer a c
 looked_twice a b c first second = grind (arith, common_steps)
 
 -- whether a ring is full, as its end reports
 pub some_room : (free room : ℕ) (full : Bool) → (IsTrue full ↔ (free ≡ 0)) → room ≡ free → not full ≡ true → 0 < room
-some_room zero room full tells same e = let t : full ≡ true = tells.1 refl in absurd (let no : false ≡ true = rw t at e in cc)
-some_room (suc n) room full tells same e = rw same (omega arith)
+some_room free room full tells same e = grind (arith, common_steps, cases_Bool)
 
 pub no_room : (free : ℕ) (full : Bool) → (IsTrue full ↔ (free ≡ 0)) → not full ≡ false → free ≡ 0
-no_room free true tells e = tells.0 refl
-no_room free false tells e = absurd cc
+no_room free full tells e = grind (arith, common_steps, cases_Bool)
 
 -- a place of a ring that isn't free holds a waiting answer
 pub free_or_waiting : (first free sent places received waiting : ℕ) → first + sent ≡ places + received → received + waiting ≡ sent
@@ -71,7 +61,7 @@ module _ (c : CoreFields) (old : CoreState) (k number : ℕ) (d p : Ring) (is : 
       → core_state (with_ring c k p) ≡ record old { sent = set old.sent number xs; room = set old.room number (known_free p) }
   changed same xs e i = record {
     intake = (is i).intake;
-    rings = (same_image (λ (r : Ring). ring_of r) c.rings.items k d p (same_ring same) ∙ ap (λ (s : CoreState). s.rings) is) i;
+    rings = (map-set_same (λ (r : Ring). ring_of r) c.rings.items k p d (same_ring same) ∙ ap (λ (s : CoreState). s.rings) is) i;
     taken = (is i).taken;
     told = (is i).told;
     sent = (map-set (λ (r : Ring). sent r) c.rings.items k p ∙ (λ j. set (is j).sent (at j) (e j))) i;
@@ -83,10 +73,10 @@ module _ (c : CoreFields) (old : CoreState) (k number : ℕ) (d p : Ring) (is : 
       → core_state (with_ring c k p) ≡ record old { room = set old.room number n }
   unsent same e n free i = record {
     intake = (is i).intake;
-    rings = (same_image (λ (r : Ring). ring_of r) c.rings.items k d p (same_ring same) ∙ ap (λ (s : CoreState). s.rings) is) i;
+    rings = (map-set_same (λ (r : Ring). ring_of r) c.rings.items k p d (same_ring same) ∙ ap (λ (s : CoreState). s.rings) is) i;
     taken = (is i).taken;
     told = (is i).told;
-    sent = (same_image (λ (r : Ring). sent r) c.rings.items k d p (e ∙ ap (λ (r : Ring). sent r) here)
+    sent = (map-set_same (λ (r : Ring). sent r) c.rings.items k p d (e ∙ ap (λ (r : Ring). sent r) here)
         ∙ ap (λ (s : CoreState). s.sent) is) i;
     room = (map-set (λ (r : Ring). known_free r) c.rings.items k p ∙ (λ j. set (is j).room (at j) (free j))) i;
   }
@@ -106,10 +96,10 @@ module _ (c : CoreFields) (old : CoreState) (k number : ℕ) (d p : Ring) (is : 
   pub places_of : All (λ (r : Ring). producer_capacity r ≡ ring_places) c.rings.items → k < length c.rings.items
       → producer_capacity d ≡ ring_places
   places_of all within = ap (λ (r : Ring). producer_capacity r) here
-      ∙ All-get_or (λ (r : Ring). producer_capacity r ≡ ring_places) c.rings.items k d within all
+      ∙ All-from_recursion (λ (r : Ring). producer_capacity r ≡ ring_places) c.rings.items all k d within
 
 -- what a ring has, looked at where it lies in the core's end
-pub ruleset looked = (common_steps, within_of, found_within, room_now, sent_now, some_room, no_room, unsent)
+pub ruleset looked = (common_steps, within_of, slice_get_within, room_now, sent_now, some_room, no_room, unsent)
 
 -- the room of a ring whose slots were looked at from both ends
 pub ruleset looked_at_both = (looked, places_of, looked_twice, free_or_waiting, length-append)

@@ -1,22 +1,18 @@
 -- The steps of one end, as the list of all steps grows.
-use Rattle.std.proofs.Common.{◌≡◌, ◌≢◌, ℕ, ◌+◌, ◌<◌, Bool, true, false, List, [], ◌∷◌, ◌++◌}
-use Rattle.std.proofs.Common.{map, cond, refl, sym, ap, ◌∙◌, eqb, arith, append_assoc}
-use Rattle.std.proofs.ByRecursion.{All-push, All-weaker}
-use Rattle.std.proofs.lemmas.Grind.{common_steps}
+use Rattle.std.proofs.Common.{◌≡◌, ◌≢◌, ℕ, ◌+◌, ◌<◌, Bool, List, [], ◌∷◌, ◌++◌}
+use Rattle.std.proofs.Common.{cond, refl, sym, ◌∙◌, eqb, arith, append_assoc}
+use Rattle.std.proofs.lemmas.{Bool.cases_Bool, Grind.common_steps}
 use Rattle.std.proofs.lemmas.List.{append-nil, map-append}
 use Rattle.std.proofs.lemmas.List.Elements.{filter-append}
 use Rattle.bq_job.specs.declared.step.Step.{Step}
+use Rattle.bq_job.proofs.ListLemmas.{all_of_append, all_weaker}
 use Rattle.bq_link.specs.Submissions.{AreBelow, Covers, steps_of}
 
 of_joined : (number : ℕ) (all more : List (ℕ × Step)) → steps_of number (all ++ more) ≡ steps_of number all ++ steps_of number more
 of_joined number all more = grind (arith, common_steps, filter-append, map-append)
 
 of_one : (number : ℕ) (t : ℕ × Step) (b : Bool) → eqb t.0 number ≡ b → steps_of number (t ∷ []) ≡ cond b (t.1 ∷ []) []
-of_one number t b is = ap (λ c. map (λ (t : ℕ × Step). t.1) (cond c (t ∷ []) [])) is ∙ picked b
-  where
-    picked : (b : Bool) → map (λ (t : ℕ × Step). t.1) (cond b (t ∷ []) []) ≡ cond b (t.1 ∷ []) []
-    picked true = refl
-    picked false = refl
+of_one number t b is = grind (arith, common_steps, cases_Bool)
 
 -- a step of this end
 pub of_own : (number : ℕ) (step : Step) (all : List (ℕ × Step))
@@ -39,10 +35,10 @@ of_none number [] below = refl
 of_none number (t ∷ ts) below = grind (arith, common_steps, of_joined, of_one, of_none number ts below.1)
 
 pub below_more : (ends : ℕ) (all : List (ℕ × Step)) → AreBelow ends all → AreBelow (ends + 1) all
-below_more ends all below = All-weaker (λ t. t.0 < ends) (λ t. t.0 < ends + 1) (λ t less. omega (arith, less)) all below
+below_more ends all below = all_weaker (λ t. t.0 < ends) (λ t. t.0 < ends + 1) all (λ t less. omega (arith, less)) below
 
 pub below_push : (ends : ℕ) (all : List (ℕ × Step)) (t : ℕ × Step) → AreBelow ends all → t.0 < ends → AreBelow ends (all ++ t ∷ [])
-below_push ends all t below less = All-push (λ (u : ℕ × Step). u.0 < ends) all t below less
+below_push ends all t below less = all_of_append (λ (u : ℕ × Step). u.0 < ends) all (t ∷ []) below (less, tt)
 
 pub below_at : (ends : ℕ) (all more : List (ℕ × Step)) (t : ℕ × Step) → AreBelow ends (all ++ t ∷ more) → t.0 < ends
 below_at ends [] more t below = below.0
@@ -54,5 +50,4 @@ covered_more number known all t c =
     grind (arith, common_steps, of_joined number all (t ∷ []), append_assoc known c.0 (steps_of number (t ∷ [])))
 
 pub covers_push : (all : List (ℕ × Step)) (t : ℕ × Step) (known : List (ℕ × List Step)) → Covers all known → Covers (all ++ t ∷ []) known
-covers_push all t [] covers = tt
-covers_push all t (k ∷ ks) covers = (covered_more k.0 k.1 all t covers.0, covers_push all t ks covers.1)
+covers_push all t known covers = all_weaker _ _ known (λ k more. covered_more k.0 k.1 all t more) covers
