@@ -3,6 +3,7 @@ use Rattle.std.proofs.Common.{◌≡◌, Bool, List, [], ◌∷◌, ◌++◌, Op
 use Rattle.std.specs.declared.cmp.Ordering.{Ordering}
 use Rattle.std.specs.declared.cmp.Ordering.TheVariants.{Less, Equal, Greater}
 use Rattle.std.specs.Cmp.{IsTotalOrder}
+use Rattle.std.specs.Option.{option_map}
 use Rattle.std.specs.Ordering.{match_ordering}
 use Rattle.std.specs.Map.{keys_of, lookup, set_value}
 use Rattle.std.specs.BTreeMap.{is_at}
@@ -11,7 +12,7 @@ use Rattle.bq_index.specs.declared.tree.Tree.{Tree}
 use Rattle.bq_index.specs.declared.tree.Tree.TheVariants.{Leaf, Fork}
 use Rattle.bq_index.specs.declared.tree.Node.{Node}
 use Rattle.bq_index.specs.declared.tree.Node.TheVariants.{Spare, SpareBefore', Alone, OnLeft', OnRight', Both'}
-use Rattle.bq_index.specs.Edited.{edited_at, edited_if, edited_in, put_value, value_at, value_in}
+use Rattle.bq_index.specs.Edited.{MayReturn, edited_at, edited_by, edited_if, edited_in, put_value, value_at, value_in}
 use Rattle.bq_index.specs.Order.{InOrder}
 use Rattle.bq_index.specs.Tree.{entries, entries_in, height_in, IsBalanced, IsLevel}
 use Rattle.bq_index.proofs.Order.{lookup_less, lookup_greater, lookup_equal, order_left, order_right}
@@ -148,3 +149,23 @@ module _ {K V : Type 0} (test : K → Bool) (f : V → V) (es : List (K × V)) w
 
   pub edited_length : length (edited_at test f es) ≡ length es
   edited_length = length_if (lookup test es)
+
+-- A change that never fails
+module _ {V T : Type 0} where
+  -- returns what it tells of the value,
+  pub sure_told : (tell : V → T) (o : Option V) (r : Option T) → MayReturn (λ v t. t ≡ tell v) o r → r ≡ option_map tell o
+  sure_told tell None None h = refl
+  sure_told tell None (Some t) h = absurd h
+  sure_told tell (Some v) None h = absurd h
+  sure_told tell (Some v) (Some t) h = ap Some h
+
+  sure_if : {X : Type 0} (P : V → T → Type 0) (f : V → V) (put : V → X) (x : X) (o : Option V) (r : Option T) → MayReturn P o r
+      → edited_if (edited_by (λ (t : T). f) r) put x o ≡ edited_if f put x o
+  sure_if P f put x None r h = refl
+  sure_if P f put x (Some v) None h = absurd h
+  sure_if P f put x (Some v) (Some t) h = refl
+
+  -- and is made wherever there is a value.
+  pub sure_edited : {K : Type 0} (P : V → T → Type 0) (test : K → Bool) (f : V → V) (es : List (K × V)) (r : Option T)
+      → MayReturn P (lookup test es) r → edited_at test (edited_by (λ (t : T). f) r) es ≡ edited_at test f es
+  sure_edited P test f es r h = sure_if P f (set_value test es) es (lookup test es) r h

@@ -19,6 +19,18 @@ edited_if f put x (Some v) = put (f v)
 abbrev pub edited_at : {K V : Type 0} → (K → Bool) → (V → V) → List (K × V) → List (K × V)
 edited_at test f es = edited_if f (set_value test es) es (lookup test es)
 
+-- the value after a change that returned `told`, or the same value if there was no change
+abbrev pub edited_by : {V T : Type 0} → (T → V → V) → Option T → V → V
+edited_by f None v = v
+edited_by f (Some told) v = f told v
+
+-- If there is a value, something is returned of which P holds; otherwise nothing is.
+abbrev pub MayReturn : {V T : Type 0} → (V → T → Type 0) → Option V → Option T → Type 0
+MayReturn P None None = Unit {0}
+MayReturn P None (Some told) = ⊥
+MayReturn P (Some v) None = ⊥
+MayReturn P (Some v) (Some told) = P v told
+
 module _ {K V : Type 0} where
   -- the value of the box
   abbrev pub value_of : Node K V → Option V

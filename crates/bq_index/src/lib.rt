@@ -12,7 +12,7 @@
 #![tactic(auto)]
 
 pub use catalog::Catalog;
-pub use edit::Edit;
+pub use edit::{Edit, TryEdit};
 pub use fault::NoMemory;
 pub use shelf::Shelf;
 pub use shelves::{Parted, Shelves};

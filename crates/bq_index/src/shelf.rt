@@ -5,13 +5,13 @@ ghost use Rattle.std.specs.Option.{option_map, option_copied_mut};
 ghost use Rattle.bq_index.specs.Order.{InOrder, entry_from};
 ghost use Rattle.std.specs.Map.{lookup, remove_entry};
 ghost use Rattle.std.specs.BTreeMap.{is_at, insert_entry};
-ghost use Rattle.bq_index.specs.Edited.{edited_at};
+ghost use Rattle.bq_index.specs.Edited.{MayReturn, edited_at, edited_by};
 ghost use Rattle.bq_index.specs.Removed.{lookup_if, removed_if};
 ghost use Rattle.bq_index.specs.Shelves.{key_from};
 ghost use Rattle.bq_index.specs.Tree.{entries, IsBalanced};
 
 use super::change::Always;
-use super::edit::{self, Edit};
+use super::edit::{self, Edit, Sure, TryEdit};
 use super::tree::{self, BoxSource, Node, Tree};
 use super::walk::{Test, Visitor};
 use super::{NoMemory, change, find, walk};
@@ -243,10 +243,23 @@ impl<K: Ord + Drop, V: Drop> Shelf<K, V> {
 
     /// Changes the value at a key in place. Returns what the change returns, or `None` if there is
     /// no such key. It needs fewer instructions than a change through `get_mut`.
-    #[tactic(auto, using(crate::proofs::Bound::height_bound))]
     pub fn edit<T: Drop, E: Edit<V, T>>(&mut self, key: &K, edit: &E) -> Option<T>
         ensures told { result ≡ option_map (E.told edit.now) (lookup (is_at (K.cmp key.now)) self.old.entries) }
         ensures entries { self.new.entries ≡ edited_at (is_at (K.cmp key.now)) (E.edited edit.now) self.old.entries }
+        ensures spare { self.new.spare ≡ self.old.spare }
+        ensures ordered { InOrder K.cmp self.old.entries }
+        ensures comparisons { ComparesFew self.old self.new }
+    {
+        self.try_edit(key, &Sure { edit })
+    }
+
+    /// Changes the value at a key in place, or leaves it unchanged if the change fails. Returns what
+    /// the change returns, or `None` if there is no such key. The key is searched once.
+    #[tactic(auto, using(crate::proofs::Bound::height_bound))]
+    pub fn try_edit<T: Drop, E: TryEdit<V, T>>(&mut self, key: &K, edit: &E) -> Option<T>
+        ensures told { MayReturn (E.MayTell edit.now) (lookup (is_at (K.cmp key.now)) self.old.entries) result }
+        ensures entries { self.new.entries
+            ≡ edited_at (is_at (K.cmp key.now)) (edited_by (E.edited edit.now) result) self.old.entries }
         ensures spare { self.new.spare ≡ self.old.spare }
         ensures ordered { InOrder K.cmp self.old.entries }
         ensures comparisons { ComparesFew self.old self.new }

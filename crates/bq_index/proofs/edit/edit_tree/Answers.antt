@@ -1,6 +1,6 @@
-use Rattle.std.proofs.Common.{rules, ◌≡◌, ap, ◌∙◌}
+use Rattle.std.proofs.Common.{rules, ◌≡◌, ap, ◌∙◌, subst}
 use Rattle.std.specs.BTreeMap.{is_at}
-use Rattle.bq_index.specs.Edited.{edited_at}
+use Rattle.bq_index.specs.Edited.{MayReturn, edited_at, edited_by}
 use Rattle.bq_index.specs.Order.{InOrder}
 use Rattle.bq_index.specs.Tree.{entries, entries_in, IsLevel}
 use Rattle.bq_index.proofs.Edited.{edited_entries, edited_level, value_looked_up}
@@ -12,17 +12,19 @@ returns-in-Fork-clause-is g c =
     let d : InOrder g.K.Ord.cmp (entries_in c.deref_mut.result.now) = search rules in
     let same : entries_in c.deref_mut.result.now ≡ entries c.args.tree.now = search rules in
     let test = is_at (g.K.Ord.cmp c.args.key.now) in
-    let f = g.E.Edit.edited c.args.edit.now in
+    let f = edited_by (g.E.TryEdit.edited c.args.edit.now) c.edit_below.new.told in
     rw c.edit_below.ensures.is (edited_entries g.met.K.Ord.total c.args.key.now f c.deref_mut.result.now b d ∙ ap (edited_at test f) same)
 
 pub returns-in-Fork-clause-balanced : goal.returns-in-Fork-clause-balanced
 returns-in-Fork-clause-balanced g c =
     let b : IsLevel c.deref_mut.result.now = search rules in
-    rw c.edit_below.ensures.is (edited_level (g.K.Ord.cmp c.args.key.now) (g.E.Edit.edited c.args.edit.now) c.deref_mut.result.now b).0
+    let f = edited_by (g.E.TryEdit.edited c.args.edit.now) c.edit_below.new.told in
+    rw c.edit_below.ensures.is (edited_level (g.K.Ord.cmp c.args.key.now) f c.deref_mut.result.now b).0
 
 pub returns-in-Fork-clause-told : goal.returns-in-Fork-clause-told
 returns-in-Fork-clause-told g c =
     let b : IsLevel c.deref_mut.result.now = search rules in
     let d : InOrder g.K.Ord.cmp (entries_in c.deref_mut.result.now) = search rules in
     let i = value_looked_up g.met.K.Ord.total c.args.key.now c.deref_mut.result.now b d in
+    let told = subst (λ v. MayReturn (g.E.TryEdit.MayTell c.args.edit.now) v c.edit_below.new.told) i c.edit_below.ensures.told in
     search rules

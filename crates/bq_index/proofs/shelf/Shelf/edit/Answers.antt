@@ -1,28 +1,12 @@
-use Rattle.std.proofs.Common.{length, sym, ap, ◌∙◌, subst}
+use Rattle.std.proofs.Common.{◌≡◌, ◌∙◌}
 use Rattle.std.specs.BTreeMap.{is_at}
-use Rattle.std.specs.List.Sorted.{IsStrictlySortedBy}
-use Rattle.bq_index.proofs.Edited.{edited_keys, edited_length}
-use Rattle.bq_index.specs.Edited.{edited_at}
-use Rattle.bq_index.specs.Order.{InOrder}
-use Rattle.bq_index.specs.Shelf.{Seen}
-use Rattle.bq_index.specs.Tree.{entries}
+use Rattle.bq_index.proofs.Edited.{sure_edited, sure_told}
 use Rattle.bq_index.proofs.shelf.Shelf.edit.Goals as goal
 
-pub invariant_of-self : goal.invariant_of-self
-invariant_of-self g c =
-    let w = c.self.invariant in
-    let test = is_at (g.K.Ord.cmp c.args.key.now) in
-    let f = g.E.Edit.edited c.args.edit.now in
-    record {
-      balanced = c.edit_tree.ensures.balanced;
-      in_order = subst (InOrder g.K.Ord.cmp) (sym c.edit_tree.ensures.is)
-          (subst (IsStrictlySortedBy g.K.Ord.cmp) (sym (edited_keys test f (entries c.self.inside.tree))) w.in_order);
-      counted = w.counted ∙ sym (edited_length test f (entries c.self.inside.tree)) ∙ sym (ap length c.edit_tree.ensures.is);
-      spares_counted = w.spares_counted;
-      fits = w.fits;
-    }
+pub returns-clause-told : goal.returns-clause-told
+returns-clause-told g c = sure_told (g.E.Edit.told c.args.edit.now) _ _ c.try_edit.ensures.told
 
 pub returns-clause-entries : goal.returns-clause-entries
-returns-clause-entries g c =
-    c.edit_tree.ensures.is ∙ ap (λ (s : Seen g.row.K.Denot g.row.V.Denot).
-    edited_at (is_at (g.K.Ord.cmp c.args.key.now)) (g.E.Edit.edited c.args.edit.now) s.entries) c.self.view_is
+returns-clause-entries g c = c.try_edit.ensures.entries
+    ∙ sure_edited (λ v t. t ≡ g.E.Edit.told c.args.edit.now v) (is_at (g.K.Ord.cmp c.args.key.now)) (g.E.Edit.edited c.args.edit.now)
+    c.args.self.now.entries c.try_edit.result c.try_edit.ensures.told
