@@ -1,5 +1,5 @@
 -- Operations on jobs by the names of their tubes agree with those on records by numbers.
-use Rattle.std.proofs.Common.{◌≡◌, ◌+◌, ◌*◌, ◌≤◌, ℕ, suc, length, Bor, Bool, true, false, ◌&&◌, List}
+use Rattle.std.proofs.Common.{◌≡◌, ◌+◌, ◌*◌, ◌^◌, ◌≤◌, ℕ, suc, length, Bor, Bool, true, false, ◌&&◌, List}
 use Rattle.std.proofs.Common.{[], ◌∷◌, Option, Some, None, is_some, map, refl, sym, ap, ◌∙◌, subst, inl, inr}
 use Rattle.std.specs.Prelude.{◌==◌, nat_lt, unwrap_or, Result, Ok, Err, IfOk, IfSome}
 use Rattle.std.specs.BTreeMap.{is_at}
@@ -22,8 +22,11 @@ use Rattle.bq_jobs.specs.Numbering.{AreNumbered, AreRegistered, Extends, HasNumb
 use Rattle.bq_jobs.specs.Numbering.{name_of, named, number_of}
 use Rattle.bq_jobs.specs.Names.{number_in}
 use Rattle.bq_jobs.specs.Searching.{FindsById}
-use Rattle.bq_jobs.specs.Told.{moved_told, removed_told}
+use Rattle.bq_jobs.specs.Told.{moved_told, removed_told, shared_told}
 use Rattle.bq_jobs.specs.Seen.{IsBodyOf, IsTubeOf, but_for_tube}
+use Rattle.bq_jobs.specs.Sharing.{ChangesShared, SharesAndChanges}
+use Rattle.bq_jobs.specs.declared.rows.Moved.{Moved}
+use Rattle.bq_jobs.specs.declared.rows.MovedRow.{MovedRow}
 use Rattle.bq_jobs.proofs.Changes.{stays_in}
 use Rattle.bq_jobs.proofs.NumberingLemmas.{name_kept, number_other, same_names}
 
@@ -409,6 +412,46 @@ pub body_told : {E : Type 0} (k : Numbering) (id : ℕ) (rows : List Job) (r : R
     → IfOk r (IsBodyOf (job_with id (map (named k) rows)))
 body_told k id rows (Ok body) is = body_is k id rows body is
 body_told k id rows (Err e) is = tt
+
+-- A change of a record that also returns its body is the same change of its job.
+module _ (k : Numbering) (id : ℕ) (f : Job → Job) (ignores : IgnoresTube f) (rows new old : Kept) (is : kept_named rows k ≡ old)
+    (h : AreRegistered k rows.jobs) where
+  abbrev IsReported : MovedRow → Type 0
+  IsReported m = Some m ≡ option_map (row_moved_by f) (job_with id rows.jobs)
+
+  named_shared : (body : List ℕ) → ChangesShared id f body rows new → ChangesShared id f body old (kept_named new k)
+  named_shared body c = subst (λ i. ChangesShared id f body i (kept_named new k)) is (record {
+    body_is = body_is k id rows.jobs body c.body_is;
+    jobs = ap (map (named k)) c.jobs ∙ sym (changed_named k id f ignores rows.jobs);
+    ordered = ids_named k 0 (2 ^ 64) rows.jobs c.ordered;
+    tubes = refl;
+    room = c.room;
+    comparisons = counted_as 7 k rows (kept_named rows k) new refl c.comparisons;
+  })
+
+  abbrev IsReportedOf : List ℕ × Moved → Type 0
+  IsReportedOf r = (Some r.1 ≡ option_map (moved_by f) (job_with id old.jobs)) × HasNumber r.1.tube r.0 old.tubes
+
+  named_report : (m : MovedRow) → IsReported m → IsReportedOf (moved_told k m)
+  named_report m told = (
+    ap (λ o. option_map (λ r. r.1) (option_map (moved_told k) o)) told ∙ told_moved k id f ignores rows.jobs
+        ∙ ap (λ (i : Kept). option_map (moved_by f) (job_with id i.jobs)) is,
+    subst (λ (i : Kept). HasNumber (moved_told k m).1.tube (moved_told k m).0 i.tubes) is
+        (subst (λ o. IfSome (option_map (moved_told k) o) (λ r. HasNumber r.1.tube r.0 k.numbers)) (sym told)
+        (number_moved k f id rows.jobs h)),
+  )
+
+  pub shares_named : {E : Type 0} (r : Option (Result (MovedRow × List ℕ) E)) → SharesAndChanges IsReported id f r rows new
+      → SharesAndChanges IsReportedOf id f (shared_told k r) old (kept_named new k)
+  shares_named None c = let none : Option MovedRow = None in finds_named k id rows new old none none is refl c
+  shares_named (Some (Err e)) c = finds_named k id rows new old (Some e) (Some e) is refl c
+  shares_named (Some (Ok s)) c = (named_report s.0 c.0, named_shared s.1 c.1)
+
+  pub shared_registered : {E : Type 0} (r : Option (Result (MovedRow × List ℕ) E)) → SharesAndChanges IsReported id f r rows new
+      → AreRegistered k new.jobs
+  shared_registered None c = subst (AreRegistered k) (sym (ap (λ (m : Kept). m.jobs) c.1.same)) h
+  shared_registered (Some (Err e)) c = subst (AreRegistered k) (sym (ap (λ (m : Kept). m.jobs) c.1.same)) h
+  shared_registered (Some (Ok s)) c = subst (AreRegistered k) (sym c.1.jobs) (registered_changed k id f ignores rows.jobs h)
 
 -- what the search takes for an addition, a change and another reference to a body
 pub ruleset additions = (ids_named, none_named, row_registered, row_added)

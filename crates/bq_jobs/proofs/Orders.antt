@@ -21,6 +21,7 @@ use Rattle.bq_job.specs.beside.Lawful.{AreIdsWithin}
 use Rattle.bq_jobs.specs.declared.places.ShelfPlace.{ShelfPlace}
 use Rattle.bq_jobs.specs.Inside.{IsOrderOf, Order, has_place, is_place}
 use Rattle.bq_jobs.specs.Kept.{search_bound, with_added, without}
+use Rattle.bq_jobs.specs.Moves.{CanMove}
 use Rattle.bq_jobs.specs.PlaceOrder.{place_cmp, place_total, holds_place, with_place, without_place}
 use Rattle.bq_jobs.proofs.Changes.{count_added, count_without, found_among_added, found_id}
 use Rattle.bq_jobs.proofs.Changes.{found_without, length_added, length_without, not_there}
@@ -46,13 +47,6 @@ pub fewer_places : {G : Type 0} (C : G → G → Ordering) (place : Option (Shel
     → length (without_place C place es) ≤ length es
 fewer_places C None es = omega arith
 fewer_places C (Some p) es = let test = is_at (place_cmp C p) in omega (arith, length_lost test es (lookup test es) refl)
-
--- What a move from one place to another needs: the first place is taken, there is a box for the
--- second, and the second will be free.
-pub record CanMove {G : Type 0} (C : G → G → Ordering) (from to : Option (ShelfPlace G)) (order : Order G) : Type 0 where
-  pub held : (p : ShelfPlace G) → from ≡ Some p → is_some (holds_place C p order.entries) ≡ true
-  pub spare : (p : ShelfPlace G) → to ≡ Some p → 0 < order.spare + cond (is_some from) 1 0
-  pub absent : (p : ShelfPlace G) → to ≡ Some p → holds_place C p (without_place C from order.entries) ≡ None
 
 own_id : {G : Type 0} (j : Job) (place : Option (ShelfPlace G)) → IfSome place (λ p. p.id ≡ j.id) → (p : ShelfPlace G)
     → place ≡ Some p → p.id ≡ j.id

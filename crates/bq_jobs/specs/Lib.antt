@@ -7,6 +7,7 @@ pub mod Kept
 pub mod Laws
 pub mod Leases
 pub mod Lent
+pub mod Moves
 pub mod NamedGroups
 pub mod Names
 pub mod Numbering
@@ -17,6 +18,7 @@ pub mod Ranks
 pub mod Room
 pub mod Searching
 pub mod Seen
+pub mod Sharing
 pub mod Stages
 pub mod Table
 pub mod Told

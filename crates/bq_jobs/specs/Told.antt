@@ -1,5 +1,5 @@
 -- A record with the name of its tube.
-use Rattle.std.specs.Prelude.{List, [], unwrap_or, ℕ}
+use Rattle.std.specs.Prelude.{List, [], unwrap_or, ℕ, Option, Some, None, Result, Ok, Err}
 use Rattle.bq_jobs.specs.declared.rows.Moved.{Moved}
 use Rattle.bq_jobs.specs.declared.rows.MovedRow.{MovedRow}
 use Rattle.bq_jobs.specs.declared.rows.Removed.{Removed}
@@ -14,3 +14,9 @@ removed_told k r = (r.0, record { tube = unwrap_or (name_of (number_in r.0) k) [
 -- the number of its tube, and the report about its change
 abbrev pub moved_told : Numbering → MovedRow → List ℕ × Moved
 moved_told k m = (m.tube, record { tube = unwrap_or (name_of (number_in m.tube) k) []; from = m.from; to = m.to })
+
+-- the same for a change that may not have been made, with the body
+abbrev pub shared_told : {E : Type 0} → Numbering → Option (Result (MovedRow × List ℕ) E) → Option (Result ((List ℕ × Moved) × List ℕ) E)
+shared_told k None = None
+shared_told k (Some (Err e)) = Some (Err e)
+shared_told k (Some (Ok s)) = Some (Ok (moved_told k s.0, s.1))

@@ -1,8 +1,8 @@
 //! The jobs of a work queue, kept with the numbers of their tubes. The names of the tubes are in a
 //! table outside.
-ghost use Rattle.std.specs.Option.{option_and_then, option_map};
+ghost use Rattle.std.specs.Option.{option_map};
 ghost use Rattle.std.specs.Prelude.{◌≡◌, ◌+◌, ◌-◌, ◌<◌, ◌^◌, ◌∷◌, if◌then◌else◌, []};
-ghost use Rattle.std.specs.Prelude.{nat_lt, true, false, length, IfOk, IfSome, None};
+ghost use Rattle.std.specs.Prelude.{nat_lt, false, length, IfOk, IfSome, None, Some};
 ghost use Rattle.std.specs.BTreeMap.{is_at};
 ghost use Rattle.std.specs.Cmp.Lexicographic.{slice_cmp};
 ghost use Rattle.std.specs.Map.{remove_entry};
@@ -20,7 +20,7 @@ ghost use Rattle.bq_jobs.specs.Changed.{AsksNoTube, IgnoresTube, KeepsId, moved_
 ghost use Rattle.bq_jobs.specs.Names.{number_in};
 ghost use Rattle.bq_jobs.specs.Numbering.{Extends, HasNumber, IsPaired, name_of, number_of};
 ghost use Rattle.bq_jobs.specs.Seen.{IsBodyOf, IsTubeOf, but_for_tube};
-ghost use Rattle.bq_jobs.specs.Told.{moved_told, removed_told};
+ghost use Rattle.bq_jobs.specs.Told.{moved_told, removed_told, shared_told};
 ghost use Rattle.bq_jobs.specs.Kept.{ComparesAtMost, ranked, with_added};
 ghost use Rattle.bq_jobs.specs.Laws.{AddsAtTheEnd, ChosenHasItsId, NextIsFree};
 ghost use Rattle.bq_jobs.specs.Leases.{deadline_of, is_lease_before};
@@ -28,6 +28,7 @@ ghost use Rattle.bq_jobs.specs.Places.{held_by, list_of};
 ghost use Rattle.bq_jobs.specs.Ranks.{first_held, first_timed, id_in};
 ghost use Rattle.bq_jobs.specs.Room.{MakesRoom, RemovesIf};
 ghost use Rattle.bq_jobs.specs.Searching.{FindsById, Searches};
+ghost use Rattle.bq_jobs.specs.Sharing.{SharesAndChanges};
 
 use super::ghost_name::GhostName;
 use super::places::{Group, JobList, Timer};
@@ -192,6 +193,25 @@ impl NumberedJobs {
     {
         let moved = self.rows.change(id, edit);
         told_of(&self.tubes, moved)
+    }
+
+    /// Does the same, and also returns another reference to the job's body, or `NoMemory` if `Arc`
+    /// refuses one. In that case nothing is changed. The job is searched once.
+    #[tactic(auto, using(crate::proofs::NamedJobs::changes))]
+    pub fn share_and_change<E: JobEdit>(
+        &mut self,
+        id: JobId,
+        edit: &E,
+    ) -> Option<Result<((TubeNumber, Moved), Body), NoMemory>>
+        requires id { KeepsId (E.edited edit.now) }
+        requires tube { IgnoresTube (E.edited edit.now) }
+        ensures { SharesAndChanges
+            (λ r. (Some r.1 ≡ option_map (moved_by (E.edited edit.now)) (job_with id self.old.jobs))
+            × HasNumber r.1.tube r.0 self.old.tubes)
+            id (E.edited edit.now) result self.old self.new }
+    {
+        let shared = self.rows.share_and_change(id, edit);
+        shared_of(&self.tubes, shared)
     }
 
     /// Returns the record of the job with this id. It has all of the job but the name of its tube.
@@ -466,15 +486,40 @@ fn told_of(tubes: &Snapshot<NumberedTubes>, moved: Option<MovedRow>) -> Option<(
     ensures { result ≡ option_map (moved_told tubes.now.value) moved }
 {
     let moved = moved?;
+    Some(report_of(tubes, moved))
+}
+
+// Returns the same for a record that was found.
+fn report_of(tubes: &Snapshot<NumberedTubes>, moved: MovedRow) -> (TubeNumber, Moved)
+    ensures { result ≡ moved_told tubes.now.value moved }
+{
     let tube = GhostName::of(tubes, moved.tube);
-    Some((
+    (
         moved.tube,
         Moved {
             tube,
             from: moved.from,
             to: moved.to,
         },
-    ))
+    )
+}
+
+// Returns the same for a change that may not have been made, with the body.
+#[inline(always)]
+fn shared_of(
+    tubes: &Snapshot<NumberedTubes>,
+    shared: Option<Result<(MovedRow, Body), NoMemory>>,
+) -> Option<Result<((TubeNumber, Moved), Body), NoMemory>>
+    ensures { result ≡ shared_told tubes.now.value shared }
+{
+    match shared {
+        None => None,
+        Some(Err(fault)) => Some(Err(fault)),
+        Some(Ok(pair)) => {
+            let (moved, body) = pair;
+            Some(Ok((report_of(tubes, moved), body)))
+        }
+    }
 }
 
 // Properties of the model's definitions: what an addition does, and which job an id finds.

@@ -2,19 +2,22 @@
 //! The names of the tubes are in a table outside, one for the whole core.
 ghost use Rattle.std.specs.Option.{option_map};
 ghost use Rattle.std.specs.Prelude.{◌≡◌, ◌+◌, ◌-◌, ◌<◌, ◌^◌, if◌then◌else◌, []};
-ghost use Rattle.std.specs.Prelude.{nat_lt, length, is_some, IfOk, IfSome, None};
+ghost use Rattle.std.specs.Prelude.{nat_lt, length, is_some, IfOk, IfSome, None, Some};
 ghost use Rattle.bq_job.specs.machine.Changes.{job_with};
 ghost use Rattle.bq_job.specs.beside.Lawful.{AreIdsWithin};
 ghost use Rattle.std.specs.BTreeMap.{is_at};
 ghost use Rattle.std.specs.Ordering.{nat_cmp};
+ghost use Rattle.bq_index.specs.Edited.{MayReturn, edited_by};
 ghost use Rattle.bq_index.specs.Removed.{passing, removed_if};
 ghost use Rattle.bq_index.specs.Shelf.{ComparesFew};
 ghost use Rattle.bq_jobs.specs.Changed.{IgnoresTube, KeepsId, entry_at, row_moved_by, row_removed, standing, with_changed, with_edited};
 ghost use Rattle.bq_jobs.specs.Kept.{ComparesAtMost, with_added};
+ghost use Rattle.bq_jobs.specs.Moves.{CanMove, CanMoveIf, Moves, MovesIf, group_at, timer_at};
 ghost use Rattle.bq_jobs.specs.Ranks.{first_held, first_timed};
 ghost use Rattle.bq_jobs.specs.Room.{MakesRoom, RemovesIf};
 ghost use Rattle.bq_jobs.specs.Searching.{FindsById, Searches};
 ghost use Rattle.bq_jobs.specs.Seen.{IsBodyOf, IsTubeOf};
+ghost use Rattle.bq_jobs.specs.Sharing.{MayShare, SharesAndChanges, if_shared};
 ghost use Rattle.bq_jobs.specs.Stages.{state_of};
 
 use super::ghost_name::GhostName;
@@ -22,7 +25,7 @@ use super::groups::Groups;
 use super::places::{self, Group, Timer};
 use super::timers::Timers;
 use super::tubes::TubeNumber;
-use bq_index::{BoxSource, Edit, Shelf, Test};
+use bq_index::{BoxSource, Edit, Shelf, Test, TryEdit};
 use bq_job::{Body, Counts, Job, JobId, JobState, Moment, NoMemory, NumberedBody, Pri, Seat};
 use std::alloc::Global;
 use std::marker::Model;
@@ -392,16 +395,26 @@ impl Rows {
     {
         let moved = edit_at(&mut self.by_id, id, edit)?;
         let (from, to) = (moved.from, moved.to);
-        let (left, entered) = (
-            places::place_in_groups(id, moved.tube, from),
-            places::place_in_groups(id, moved.tube, to),
-        );
-        self.groups.shift(left, entered);
-        self.timers.shift(
-            places::place_in_timers(id, from),
-            places::place_in_timers(id, to),
-        );
+        shift_places(&mut self.groups, &mut self.timers, id, moved.tube, from, to);
         Some(moved)
+    }
+
+    /// Does the same, and also returns another reference to the job's body, or `NoMemory` if `Arc`
+    /// refuses one. In that case nothing is changed. The record is searched once.
+    pub(crate) fn share_and_change<E: JobEdit>(
+        &mut self,
+        id: JobId,
+        edit: &E,
+    ) -> Option<Result<(MovedRow, Body), NoMemory>>
+        requires id { KeepsId (E.edited edit.now) }
+        requires tube { IgnoresTube (E.edited edit.now) }
+        ensures { SharesAndChanges
+            (λ moved. Some moved ≡ option_map (row_moved_by (E.edited edit.now)) (job_with id self.old.jobs))
+            id (E.edited edit.now) result self.old self.new }
+    {
+        let shared = share_at(&mut self.by_id, id, edit);
+        shift_if_shared(&mut self.groups, &mut self.timers, id, &shared);
+        shared
     }
 
     /// Returns the record of the job with this id.
@@ -477,13 +490,40 @@ impl<'e, E: JobEdit> Edit<Row, MovedRow> for Reported<'e, E> {
     ghost told = { λ r. row_moved_by (E.edited r.edit.now) };
 
     fn edit(&self, job: &mut Row) -> MovedRow {
-        let (tube, from) = (job.tube, Standing::of_row(job));
-        self.edit.edit(job);
-        MovedRow {
-            tube,
-            from,
-            to: Standing::of_row(job),
-        }
+        report_change(self.edit, job)
+    }
+}
+
+// Changes a job and returns what has changed.
+#[inline(always)]
+fn report_change<E: JobEdit>(edit: &E, job: &mut Row) -> MovedRow
+    ensures job { job.new ≡ E.edited edit.now job.old }
+    ensures report { result ≡ row_moved_by (E.edited edit.now) job.old }
+{
+    let (tube, from) = (job.tube, Standing::of_row(job));
+    edit.edit(job);
+    MovedRow {
+        tube,
+        from,
+        to: Standing::of_row(job),
+    }
+}
+
+// A change of a job that is made only if there is another reference to its body.
+#[derive(Drop)]
+struct Shared<'e, E> {
+    edit: &'e E,
+}
+
+impl<'e, E: JobEdit> TryEdit<Row, Result<(MovedRow, Body), NoMemory>> for Shared<'e, E> {
+    ghost edited = { λ s told j. if_shared (E.edited s.edit.now) told j };
+
+    ghost MayTell = { λ s j told. MayShare (E.edited s.edit.now) j told };
+
+    fn try_edit(&self, job: &mut Row) -> Result<(MovedRow, Body), NoMemory> {
+        let body = job.share_body()?;
+        let moved = report_change(self.edit, job);
+        Ok((moved, body))
     }
 }
 
@@ -497,6 +537,66 @@ fn edit_at<E: JobEdit>(by_id: &mut Shelf<JobId, Row>, id: JobId, edit: &E) -> Op
     ensures comparisons { ComparesFew by_id.old by_id.new }
 {
     by_id.edit(&id, &Reported { edit })
+}
+
+// Changes the job with this id in place, if there is one, and returns another reference to its body.
+// If that is refused, the job is unchanged.
+fn share_at<E: JobEdit>(
+    by_id: &mut Shelf<JobId, Row>,
+    id: JobId,
+    edit: &E,
+) -> Option<Result<(MovedRow, Body), NoMemory>>
+    ensures shared { MayReturn (MayShare (E.edited edit.now)) (entry_at id by_id.old.entries) result }
+    ensures entries { by_id.new.entries
+        ≡ with_edited id (edited_by (if_shared (E.edited edit.now)) result)
+        (entry_at id by_id.old.entries) by_id.old.entries }
+    ensures spare { by_id.new.spare ≡ by_id.old.spare }
+    ensures comparisons { ComparesFew by_id.old by_id.new }
+{
+    by_id.try_edit(&id, &Shared { edit })
+}
+
+// Moves a job to its new place in each order.
+#[inline(always)]
+fn shift_places(
+    groups: &mut Groups,
+    timers: &mut Timers,
+    id: JobId,
+    tube: TubeNumber,
+    from: Standing,
+    to: Standing,
+)
+    requires groups { CanMove ⟦<Group as Ord>⟧.cmp (group_at id tube from) (group_at id tube to) groups.old }
+    requires timers { CanMove ⟦<Timer as Ord>⟧.cmp (timer_at id from) (timer_at id to) timers.old }
+    ensures groups { Moves ⟦<Group as Ord>⟧.cmp (group_at id tube from) (group_at id tube to) groups.old groups.new }
+    ensures timers { Moves ⟦<Timer as Ord>⟧.cmp (timer_at id from) (timer_at id to) timers.old timers.new }
+{
+    let (left, entered) = (
+        places::place_in_groups(id, tube, from),
+        places::place_in_groups(id, tube, to),
+    );
+    groups.shift(left, entered);
+    timers.shift(
+        places::place_in_timers(id, from),
+        places::place_in_timers(id, to),
+    );
+}
+
+// Does the same for a job that was changed, unless the reference to its body was refused.
+#[inline(always)]
+fn shift_if_shared(
+    groups: &mut Groups,
+    timers: &mut Timers,
+    id: JobId,
+    shared: &Option<Result<(MovedRow, Body), NoMemory>>,
+)
+    requires { CanMoveIf ⟦<Group as Ord>⟧.cmp ⟦<Timer as Ord>⟧.cmp id shared.now groups.old timers.old }
+    ensures { MovesIf ⟦<Group as Ord>⟧.cmp ⟦<Timer as Ord>⟧.cmp id shared.now groups.old groups.new
+        timers.old timers.new }
+{
+    if let Some(Ok((moved, _))) = shared {
+        shift_places(groups, timers, id, moved.tube, moved.from, moved.to);
+    }
 }
 
 // A test of an entry by its record.
