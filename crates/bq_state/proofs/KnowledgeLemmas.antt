@@ -1,15 +1,18 @@
 -- What is known without a search follows each change of the jobs, the seats and the tubes.
 use Rattle.std.proofs.Common.{Bool, List, None, Some, [], arith, false, filter, fold, if◌then◌else◌, is_some, length, map, not, set}
-use Rattle.std.proofs.{Common.{slice_get, subst, sym, true, ℕ, ◌&&◌, ◌++◌, ◌∙◌, ◌∷◌, ◌≡◌, ◌≤◌}, lemmas.Grind.common_steps}
+use Rattle.std.proofs.Common.{ap, slice_get, subst, sym, true, ℕ, ◌&&◌, ◌++◌, ◌∙◌, ◌∷◌, ◌≡◌, ◌≤◌}
+use Rattle.std.proofs.lemmas.Grind.{common_steps}
 use Rattle.std.{proofs.lemmas.List.length-map, specs.List.list_any}
 use Rattle.bq_job.specs.{declared.job.Job.Job, machine.{SeatRecord, TubeRecord, empty_seat, greatest, is_ready, is_ready_state}}
-use Rattle.bq_job.specs.machine.{is_seated_at, is_waiting, job_with, next_job, numbers, seat_with, tube_after_timers, watches, watching}
+use Rattle.bq_job.specs.machine.{forgetting, is_seated_at, is_waiting, job_with, next_job, numbers, seat_with, tube_after_timers}
+use Rattle.bq_job.specs.machine.{watches, watching}
 use Rattle.bq_job.specs.reading.TubeName.{is_same_name}
 use Rattle.bq_jobs.specs.{Changed.{moved_by, with_changed}, Kept.{with_added, without}, declared.rows.Moved.Moved}
 use Rattle.bq_state.proofs.{ClientLemmas.{clients_moved, clients_watching}, CrowdLemmas.crowds_moved, CrowdPlaces.crowds_kept}
 use Rattle.bq_state.proofs.{CrowdPlaces.{crowds_of_provided, first_crowds}, CrowdWatching.{crowds_ignoring, crowds_watching}}
 use Rattle.bq_state.proofs.{FirstTimeoutLemmas.{first_timeouts, timeouts_of_seat, timeouts_watching}, LeavingLemmas.alive_left}
 use Rattle.bq_state.proofs.MaybeGoneLemmas.{alive_added, alive_forgotten, alive_ignoring, alive_provided, alive_renamed, alive_taken}
+use Rattle.bq_state.proofs.MaybeGoneLemmas.{all_stay}
 use Rattle.bq_state.proofs.{MaybeGoneLemmas.{alive_watching, end_of_those_left}, MovedLemmas.{alive_changed, counted_moved, known_moved}}
 use Rattle.bq_state.proofs.{MovedLemmas.{one_tube, tube_kept, warned_moved}, PartsLemmas.{all_filtered, counted_provided, entries_of_seat}}
 use Rattle.bq_state.proofs.PartsLemmas.{entries_of_tube, first_entries, first_numbered, id_kept, name_kept_at, numbered_after, tube_counts}
@@ -21,8 +24,10 @@ use Rattle.bq_state.proofs.{WantedLemmas.{known_of_seat, known_watching}, Warnin
 use Rattle.bq_state.{proofs.WarningLemmas.warned_watching, specs.{CoreParts.machine_of, Counting.{AreCounts, recounted_for, tubes_with}}}
 use Rattle.bq_state.specs.{Counting.{with_crowds_at, with_tallies_at}, Crowds.{is_waiter, may_wait, recounted, share_of_watcher}}
 use Rattle.bq_state.specs.{Crowds.{share_of_watching, touched}, Dues.{first_pause_end, with_warning_due}, JobChanges.changed}
-use Rattle.bq_state.specs.{KeptTubes.{KeptTubes, first_tubes}, Knowledge.{IsSo, nothing_known, with_forgotten, with_job, with_joined}}
-use Rattle.bq_state.specs.{Knowledge.{with_left, with_moved, with_tube_changed, without_job}, MaybeGoneTubes.{AreAlive, with_gone}}
+use Rattle.bq_state.specs.{KeptTubes.{KeptTubes, first_tubes}, Knowledge.{IsSo, nothing_known, with_forgotten, with_job}}
+use Rattle.bq_state.specs.Knowledge.{with_joined}
+use Rattle.bq_state.specs.{Knowledge.{with_left, with_moved, with_tube_changed, without_job}, MaybeGoneTubes.{AreAlive, is_none_gone}}
+use Rattle.bq_state.specs.MaybeGoneTubes.{with_gone}
 use Rattle.bq_state.specs.{SeatChanges.seat_changed_at, Soundness.Soundness, Tallies.{tallies_with, tallies_without, tally_moved}}
 use Rattle.bq_state.specs.TubeEntries.{has_entry, is_counted, is_tube_of, provided, tube_changed, tube_changed_at}
 use Rattle.bq_state.specs.{WaitingTurns.WaitingTurns, WantedJobs.with_all_wanted, Warnings.{has_waiting_holder, may_hold, warned_if_due}}
@@ -112,6 +117,12 @@ module _ (st : CoreParts) where
       let p = λ (t : TubeRecord). is_tube_of st.jobs.jobs st.seats.items t.name in
       let now = rw left at counts in
       rw left (search (known_forgotten (machine_of st), alive_forgotten, end_of_those_left p, filters_swap is_counted p))
+
+  -- If no tube may have gone, none is dropped.
+  pub none_forgotten : is_none_gone st.known.maybe_gone ≡ true → machine_of st ≡ forgetting (machine_of st)
+  none_forgotten none =
+      let all = all_stay st.known.maybe_gone st.jobs.jobs st.seats.items st.tubes.entries none st.sound.known.alive in
+      ap (λ tubes. record (machine_of st) { tubes = tubes }) (sym (ap (filter is_counted) all) ∙ filters_swap is_counted _ st.tubes.entries)
 
   -- No waiting client can receive a job.
   pub so_with_nothing : next_job (machine_of st) ≡ None

@@ -7,8 +7,9 @@ use Rattle.bq_job.specs.{beside.AreIdsWithin, declared.job.Job.Job, machine.{Sea
 use Rattle.bq_job.specs.{machine.{is_seated_at, job_with, watching, with_record}, reading.TubeName.is_same_name}
 use Rattle.bq_jobs.{proofs.Changes.{changed, found_id}, specs.Kept.{with_added, without}}
 use Rattle.bq_state.{proofs.TubeLemmas.{before_differs, same_itself, same_name}, specs.Dues.{first_pause_end, pause_end_left}}
-use Rattle.bq_state.specs.{MaybeGoneTubes.{AreAlive, may_be_gone, with_existing, with_gone}, TubeEntries.{has_entry, is_tube_of, provided}}
-use Rattle.bq_state.specs.declared.known.maybe_gone.MaybeGone.{MaybeGone, TheVariants.{Nothing, Of}}
+use Rattle.bq_state.specs.MaybeGoneTubes.{AreAlive, is_none_gone, may_be_gone, with_existing, with_gone}
+use Rattle.bq_state.specs.TubeEntries.{has_entry, is_tube_of, provided}
+use Rattle.bq_state.specs.declared.known.maybe_gone.MaybeGone.{MaybeGone, TheVariants.{Any, Nothing, Of}}
 
 both_same : (a b c : List ℕ) → is_same_name a b ≡ true → is_same_name a c ≡ true → is_same_name c b ≡ true
 both_same a b c h i = grind (arith, same_name a b, same_name a c, same_itself)
@@ -99,6 +100,12 @@ alive_or b h = grind (arith, common_steps)
 pub all_kept_alive : (jobs : List Job) (seats : List SeatRecord) (entries : List TubeRecord) → AreAlive Nothing jobs seats entries
     → filter (λ t. is_tube_of jobs seats t.name) entries ≡ entries
 all_kept_alive jobs seats entries all = grind (arith, common_steps, alive_or, filter_all, all_weaker)
+
+pub all_stay : (maybe : MaybeGone) (jobs : List Job) (seats : List SeatRecord) (entries : List TubeRecord) → is_none_gone maybe ≡ true
+    → AreAlive maybe jobs seats entries → filter (λ t. is_tube_of jobs seats t.name) entries ≡ entries
+all_stay Nothing jobs seats entries none all = all_kept_alive jobs seats entries all
+all_stay (Of gone) jobs seats entries none all = absurd cc
+all_stay Any jobs seats entries none all = absurd cc
 
 -- If one tube may have gone, all other entries are kept.
 pub alive_but : (b c : Bool) → (b || c) ≡ true → c ≡ false → (b || false) ≡ true

@@ -3,6 +3,12 @@ use Rattle.std.specs.{List.AllByRecursion, Prelude.{◌||◌, ◌≡◌, if◌th
 use Rattle.bq_job.specs.{declared.job.Job.Job, machine.{SeatRecord, TubeRecord}, reading.TubeName.is_same_name}
 use Rattle.bq_state.specs.{declared.known.maybe_gone.MaybeGone.{MaybeGone, TheVariants.{Any, Nothing, Of}}, TubeEntries.is_tube_of}
 
+-- no tube may have gone
+abbrev pub is_none_gone : MaybeGone → Bool
+is_none_gone Nothing = true
+is_none_gone (Of gone) = false
+is_none_gone Any = false
+
 -- the tube with this name may have gone
 abbrev pub may_be_gone : MaybeGone → List ℕ → Bool
 may_be_gone Nothing name = false

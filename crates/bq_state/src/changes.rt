@@ -332,8 +332,21 @@ pub fn tube_names<'a>(state: &'a CoreParts, alloc: Global) -> Result<Names<'a>, 
 }
 
 /// Drops the entries and the numbers of tubes that no longer exist. Only tubes that may have gone
-/// are checked.
+/// are checked. After most commands there are none, and it returns at once.
+#[inline(always)]
+#[tactic(auto, using(crate::proofs::KnowledgeLemmas::none_forgotten))]
 pub fn forget_tubes(state: &mut CoreParts)
+    ensures after { machine_of state.new ≡ forgetting (machine_of state.old) }
+    ensures jobs { state.new.jobs ≡ record state.old.jobs { tubes = state.new.jobs.tubes } }
+{
+    if !state.known.maybe_gone.is_nothing() {
+        forget_gone(state);
+    }
+}
+
+// Does the same where some tube may have gone. It is not inlined, since it is rare.
+#[inline(never)]
+fn forget_gone(state: &mut CoreParts)
     ensures after { machine_of state.new ≡ forgetting (machine_of state.old) }
     ensures jobs { state.new.jobs ≡ record state.old.jobs { tubes = state.new.jobs.tubes } }
 {

@@ -1,6 +1,7 @@
 //! Which entries may be of tubes that have gone.
 ghost use Rattle.std.specs.{Option.option_copied, Prelude.{[], if◌then◌else◌, ◌∷◌, ◌≡◌}};
-ghost use Rattle.bq_state.specs.{Leaving.{exists_in, gone_all, gone_if, gone_of, gone_unless}, MaybeGoneTubes.{with_existing, with_gone}};
+ghost use Rattle.bq_state.specs.Leaving.{exists_in, gone_all, gone_if, gone_of, gone_unless};
+ghost use Rattle.bq_state.specs.MaybeGoneTubes.{is_none_gone, with_existing, with_gone};
 
 use crate::seats::SeatRecord;
 use crate::tubes::{Share, Tubes};
@@ -20,6 +21,16 @@ pub enum MaybeGone {
 }
 
 impl MaybeGone {
+    /// Returns true if no tube may have gone.
+    pub(crate) fn is_nothing(&self) -> bool
+        ensures { result ≡ is_none_gone self.now }
+    {
+        match self {
+            MaybeGone::Nothing => true,
+            _ => false,
+        }
+    }
+
     /// This tube may have gone too. It is not inlined, since it is rare and copies a name.
     #[inline(never)]
     pub(crate) fn add(&mut self, name: &TubeName, hint: TubeNumber)

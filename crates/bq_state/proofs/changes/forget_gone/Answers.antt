@@ -1,7 +1,7 @@
 use Rattle.std.proofs.Common.{ap, arith}
 use Rattle.bq_state.proofs.{KnowledgeLemmas.so_forgotten, PartsLemmas.entries_forgotten, TubeLemmas.filters_swap}
 use Rattle.bq_state.specs.{CoreParts.machine_of, TubeEntries.{AreEntries, is_counted}}
-use Rattle.bq_state.proofs.changes.forget_tubes.Goals as goal
+use Rattle.bq_state.proofs.changes.forget_gone.Goals as goal
 
 pub returns-clause-after : goal.returns-clause-after
 returns-clause-after c =
