@@ -1,8 +1,8 @@
 -- What is known without a search follows each change of the jobs, the seats and the tubes.
 use Rattle.std.proofs.Common.{Bool, List, None, Some, [], arith, false, filter, fold, if◌then◌else◌, is_some, length, map, not, set}
-use Rattle.std.proofs.Common.{ap, slice_get, subst, sym, true, ℕ, ◌&&◌, ◌++◌, ◌∙◌, ◌∷◌, ◌≡◌, ◌≤◌}
+use Rattle.std.proofs.Common.{ap, refl, slice_get, subst, sym, true, ℕ, ◌&&◌, ◌++◌, ◌==◌, ◌^◌, ◌∙◌, ◌∷◌, ◌≡◌, ◌≤◌}
 use Rattle.std.proofs.lemmas.Grind.{common_steps}
-use Rattle.std.{proofs.lemmas.List.length-map, specs.List.list_any}
+use Rattle.std.{proofs.lemmas.List.length-map, specs.{List.list_any, Option.option_map}}
 use Rattle.bq_job.specs.{declared.job.Job.Job, machine.{SeatRecord, TubeRecord, empty_seat, greatest, is_ready, is_ready_state}}
 use Rattle.bq_job.specs.machine.{forgetting, is_seated_at, is_waiting, job_with, next_job, numbers, seat_with, tube_after_timers}
 use Rattle.bq_job.specs.machine.{watches, watching}
@@ -14,6 +14,9 @@ use Rattle.bq_state.proofs.{FirstTimeoutLemmas.{first_timeouts, timeouts_of_seat
 use Rattle.bq_state.proofs.MaybeGoneLemmas.{alive_added, alive_forgotten, alive_ignoring, alive_provided, alive_renamed, alive_taken}
 use Rattle.bq_state.proofs.MaybeGoneLemmas.{all_stay}
 use Rattle.bq_state.proofs.{MaybeGoneLemmas.{alive_watching, end_of_those_left}, MovedLemmas.{alive_changed, counted_moved, known_moved}}
+use Rattle.bq_job.{proofs.KeptLemmas.ids_of_map, specs.beside.AreIdsWithin}
+use Rattle.bq_jobs.proofs.Told.{told_of}
+use Rattle.bq_state.proofs.{CrowdPlaces.waiters_counted, MovedLemmas.{entries_of_changed, one_id}, PartsLemmas.few_jobs}
 use Rattle.bq_state.proofs.{MovedLemmas.{one_tube, tube_kept, warned_moved}, PartsLemmas.{all_filtered, counted_provided, entries_of_seat}}
 use Rattle.bq_state.proofs.PartsLemmas.{entries_of_tube, first_entries, first_numbered, id_kept, name_kept_at, numbered_after, tube_counts}
 use Rattle.bq_state.proofs.{PartsLemmas.tube_name_kept, PauseLemmas.{end_after_change, end_provided}, TallyPlaces.counted_added}
@@ -24,7 +27,7 @@ use Rattle.bq_state.proofs.{WantedLemmas.{known_of_seat, known_watching}, Warnin
 use Rattle.bq_state.{proofs.WarningLemmas.warned_watching, specs.{CoreParts.machine_of, Counting.{AreCounts, recounted_for, tubes_with}}}
 use Rattle.bq_state.specs.{Counting.{with_crowds_at, with_tallies_at}, Crowds.{is_waiter, may_wait, recounted, share_of_watcher}}
 use Rattle.bq_state.specs.{Crowds.{share_of_watching, touched}, Dues.{first_pause_end, with_warning_due}, JobChanges.changed}
-use Rattle.bq_state.specs.{KeptTubes.{KeptTubes, first_tubes}, Knowledge.{IsSo, nothing_known, with_forgotten, with_job}}
+use Rattle.bq_state.specs.{KeptTubes.{KeptTubes, first_tubes}, Knowledge.{IsSo, is_wanted_by, nothing_known, with_forgotten, with_job}}
 use Rattle.bq_state.specs.Knowledge.{with_joined}
 use Rattle.bq_state.specs.{Knowledge.{with_left, with_moved, with_tube_changed, without_job}, MaybeGoneTubes.{AreAlive, is_none_gone}}
 use Rattle.bq_state.specs.MaybeGoneTubes.{with_gone}
@@ -58,6 +61,29 @@ module _ (st : CoreParts) where
       (with_tallies_at m.tube (tally_moved m) st.tubes)
   so_with_moved id what j m is_wanted waits found is fits wants holds = search
       (counted_moved, alive_changed, known_moved, warned_moved, id_kept what, tube_kept what, one_tube id (changed what) (tube_kept what))
+
+  pub sound_with_moved : (id : ℕ) (what : JobChange) (m : Moved) → AreIdsWithin 0 st.jobs.jobs (2 ^ 64)
+      → Some m ≡ option_map (moved_by (changed what)) (job_with id st.jobs.jobs)
+      → Soundness (with_changed id (changed what) st.jobs.jobs) st.seats.items (with_tallies_at m.tube (tally_moved m) st.tubes) st.waiting
+      (with_moved m (is_wanted_by st.known st.tubes m) (has_waiting_holder m.to.state st.seats.items) st.known) st.next_id st.draining
+  sound_with_moved id what m ordered is =
+      let f = changed what in
+      let of = told_of (moved_by f) (job_with id st.jobs.jobs) m (sym is) in
+      let fits = few_jobs st.next_id st.jobs.jobs st.sound.ids ordered in
+      let entries = entries_of_changed (λ k. if k.id == id then f k else k) (one_tube id f (tube_kept what)) _ _ _ st.sound.entries in
+      let ids = ids_of_map (λ k. if k.id == id then f k else k) 1 st.next_id st.jobs.jobs (one_id id f (id_kept what)) st.sound.ids in
+      let wanted = waiters_counted m.tube st.known.clients st.tubes.crowds st.seats.items st.tubes.entries st.sound.entries.of_seats
+      st.sound.known.crowds st.sound.known.clients in
+      let known = so_with_moved id what of.job m (is_wanted_by st.known st.tubes m) (has_waiting_holder m.to.state st.seats.items)
+      of.there of.is fits (ap (λ b. is_ready_state m.to.state && b) wanted) refl in
+      record {
+        entries = entries;
+        numbered = st.sound.numbered;
+        next = st.sound.next;
+        ids = ids;
+        waiting = st.sound.waiting;
+        known = known;
+      }
 
   -- A seat changes, and so do its shares at its tubes,
   pub so_with_seat : (n : ℕ) (what : SeatChange) → length st.seats.items ≤ greatest → may_wait what (seat_with n st.seats.items) ≡ true

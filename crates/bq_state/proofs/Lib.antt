@@ -8,6 +8,7 @@ pub mod EndLemmas
 pub mod EndMoves
 pub mod FirstTimeoutLemmas
 pub mod GoneLemmas
+pub mod HandOutLemmas
 pub mod JobTests
 pub mod KnowledgeLemmas
 pub mod LeavingLemmas

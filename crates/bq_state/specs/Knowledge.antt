@@ -1,11 +1,12 @@
 -- What is known without a search: that it is true, and how it changes.
-use Rattle.std.specs.Prelude.{Bool, List, None, Option, [], if◌then◌else◌, not, ℕ, ◌≡◌}
-use Rattle.bq_job.specs.{declared.job.Job.Job, machine.{SeatRecord, TubeRecord}}
+use Rattle.std.specs.Prelude.{Bool, List, None, Option, [], if◌then◌else◌, nat_lt, not, ℕ, ◌&&◌, ◌≡◌}
+use Rattle.bq_job.specs.{declared.job.Job.Job, machine.{SeatRecord, TubeRecord, is_ready_state}}
 use Rattle.bq_jobs.specs.declared.rows.{Moved.Moved, Removed.Removed}
 use Rattle.bq_state.specs.{Clients.{clients_of, clients_with, clients_without}, Crowds.AreCrowds, Dues.{first_pause_end, pause_end_after}}
 use Rattle.bq_state.specs.{Dues.pause_end_left, FirstTimeouts.{AreTimeouts, timeout_after}, KeptTubes.KeptTubes, Leaving.gone_of}
 use Rattle.bq_state.specs.{MaybeGoneTubes.{AreAlive, with_existing, with_gone}, Tallies.{AreCounted, tally_left, tally_moved, tally_of}}
 use Rattle.bq_state.specs.{Tallies.{tally_with, tally_without}, TubeEntries.counted, WantedJobs.{AreKnown, wanted_after_seat}}
+use Rattle.bq_state.specs.Offers.{is_waited_at}
 use Rattle.bq_state.specs.{WantedJobs.{wanted_after_tube, with_wanted}, Warnings.{AreWarned, warned_by_seat, with_holder_of}}
 use Rattle.bq_state.specs.declared.{known.Known.Known, seats.SeatChange.SeatChange, tubes.entry.{Share.Share, TubeChange.TubeChange}}
 use Rattle.bq_state.specs.declared.known.first_timeout.FirstTimeout.TheVariants as ends
@@ -63,6 +64,10 @@ with_removal r has_seats k = record k {
   tally = tally_left r.at k.tally;
   maybe_gone = if not has_seats then with_gone r.tube k.maybe_gone else k.maybe_gone;
 }
+
+-- whether a changed job is ready and a client waits for jobs of its tube
+abbrev pub is_wanted_by : Known → KeptTubes → Moved → Bool
+is_wanted_by k tubes m = is_ready_state m.to.state && (nat_lt 0 k.clients.waiting && is_waited_at m.tube tubes)
 
 -- and with a job changed
 abbrev pub with_moved : Moved → Bool → Bool → Known → Known

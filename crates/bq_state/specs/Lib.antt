@@ -7,6 +7,7 @@ pub mod Crowds
 pub mod Dues
 pub mod EndingWaits
 pub mod FirstTimeouts
+pub mod HandOuts
 pub mod JobChanges
 pub mod JobKinds
 pub mod Keeping

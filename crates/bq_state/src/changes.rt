@@ -13,6 +13,7 @@ ghost use Rattle.bq_state.specs.{JobChanges.{changed, is_passed_by, once_deleted
 ghost use Rattle.bq_state.specs.{Names.names_of, Offers.is_waited_at, SeatChanges.{fewer_watched, has_tube_of, more_watched, seat_changed}};
 ghost use Rattle.bq_state.specs.{SeatChanges.watches_other, TubeEntries.{has_entry, is_tube_of, tube_changed}, Warnings.may_hold};
 ghost use Rattle.bq_state.specs.Warnings.{warned_if_due, with_holder};
+ghost use Rattle.bq_state.specs.{HandOuts.{CountsIf, CountsMove, HandsOutTo, HasNumberIf, body_in}, SeatChanges.AreNumbered};
 ghost use Rattle.bq_state.specs.declared.known.wanted.Wanted.TheVariants as wanted_jobs;
 
 use crate::core_parts::CoreParts;
@@ -24,8 +25,8 @@ use crate::tubes::{Moving, TubeChange, Tubes};
 use crate::waiting::Waiting;
 use crate::{job_store, seats, shares};
 use bq_core_api::Config;
-use bq_job::{Job, JobId, JobState, Moment, NoMemory, Seat, TubeName};
-use bq_jobs::{NumberedJobs, Tube, TubeNumber};
+use bq_job::{Body, Job, JobId, JobState, Moment, NoMemory, Seat, TubeName};
+use bq_jobs::{Moved, NumberedJobs, Tube, TubeNumber};
 use std::alloc::Global;
 
 // The last id that is given out. Its put makes the core drain, so the next id always fits.
@@ -113,11 +114,85 @@ pub fn change_job(state: &mut CoreParts, id: JobId, what: &JobChange)
         return;
     };
     let (number, moved) = report;
-    let name = moved.tube.read(state.tubes.names(), number);
-    let is_wanted = is_wanted(&state.known, &state.tubes, moved.to.state, name, number);
-    let waits = seats::holder_waits(state.seats.as_slice(), moved.to.state);
-    state.known.move_job(&moved, name, number, is_wanted, waits);
-    state.tubes.move_job(&moved, number);
+    count_move(
+        &mut state.known,
+        &mut state.tubes,
+        state.seats.as_slice(),
+        &moved,
+        number,
+    );
+}
+
+/// Hands the job with this id out to the client at the seat, and returns another reference to its
+/// body. Returns `NoMemory` if `Arc` refuses the reference, and None if there is no such job; then
+/// nothing changes. The job is searched once.
+#[tactic(auto, using(crate::proofs::MovedLemmas::tube_ignored))]
+pub fn hand_out(state: &mut CoreParts, seat: Seat, id: JobId) -> Option<Result<Body, NoMemory>>
+    ensures { HandsOutTo seat id result state.old state.new }
+{
+    let what = JobChange::HandOut(seat, state.moment);
+    let shared = state.jobs.share_and_change(id, &what);
+    count_if_moved(
+        &mut state.known,
+        &mut state.tubes,
+        state.seats.as_slice(),
+        &shared,
+    );
+    body_of(shared)
+}
+
+// Returns the body of a job that was changed.
+#[inline(always)]
+fn body_of(
+    shared: Option<Result<((TubeNumber, Moved), Body), NoMemory>>,
+) -> Option<Result<Body, NoMemory>>
+    ensures { result ≡ body_in shared }
+{
+    match shared {
+        None => None,
+        Some(Err(fault)) => Some(Err(fault)),
+        Some(Ok(pair)) => {
+            let (_report, body) = pair;
+            Some(Ok(body))
+        }
+    }
+}
+
+// Counts a job that was changed, unless the reference to its body was refused.
+#[inline(always)]
+fn count_if_moved(
+    known: &mut Known,
+    tubes: &mut Tubes,
+    seats: &[SeatRecord],
+    shared: &Option<Result<((TubeNumber, Moved), Body), NoMemory>>,
+)
+    requires number { HasNumberIf shared.now tubes.old.numbers }
+    requires seats { AreNumbered seats.now }
+    ensures { CountsIf shared.now seats.now known.old known.new tubes.old tubes.new }
+{
+    if let Some(Ok(((number, moved), _))) = shared {
+        count_move(known, tubes, seats, moved, *number);
+    }
+}
+
+// Counts a changed job in its tube, which has this number, and notes what is known of it then.
+#[inline(always)]
+fn count_move(
+    known: &mut Known,
+    tubes: &mut Tubes,
+    seats: &[SeatRecord],
+    moved: &Moved,
+    number: TubeNumber,
+)
+    requires number { HasNumber moved.now.tube number tubes.old.numbers }
+    requires seats { AreNumbered seats.now }
+    ensures { CountsMove moved.now seats.now known.old known.new tubes.old tubes.new }
+{
+    let name = moved.tube.read(tubes.names(), number);
+    let is_wanted = is_wanted(known, tubes, moved.to.state, name, number);
+    let waits = seats::holder_waits(seats, moved.to.state);
+    known.move_job(moved, name, number, is_wanted, waits);
+    tubes.move_job(moved, number);
 }
 
 /// Changes the seat with this number. If it starts to use a tube, that tube already has an entry.
