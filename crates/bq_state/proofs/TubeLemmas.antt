@@ -127,10 +127,6 @@ placed x (t ∷ entries) h = let parts = or_parts (is_same_name x.name t.name) (
       | inr e ↦ rw (parts.0, e, after _ _ parts.0 e) (grind (arith, placed x entries parts.1))
     ]
 
--- the first element that fails, or else the end
-pub place_read : {A : Type 0} (p : A → Bool) (xs : List A) → unwrap_or (position (λ x. not (p x)) xs) (length xs) ≡ prefix_len p xs
-place_read {A = A} p xs = grind (arith, prefix_len-le-length)
-
 later_inserted : (name : List ℕ) (x : TubeRecord) (entries : List TubeRecord) → is_name_before name x.name ≡ true → AreLater name entries
     → AreLater name (with_record x entries)
 later_inserted name x [] b all = (b, tt)
