@@ -1,18 +1,20 @@
 -- Timers of jobs fire one after another, and jobs are released one after another.
-use Rattle.std.proofs.Common.{Bool, List, None, Option, Some, [], ap, arith, false, if◌then◌else◌, inl, inr, map, refl, suc, sym, true, ℕ}
-use Rattle.std.proofs.{Common.{◌&&◌, ◌+◌, ◌<◌, ◌==◌, ◌∙◌, ◌∷◌, ◌≡◌, ◌≤◌}, lemmas.Bool.{Decides.nat_tests, cases_Bool, eqb-true}}
+use Rattle.std.proofs.Common.{Bool, List, None, Option, Some, [], ap, arith, false, if◌then◌else◌, inl, inr, is_some, map, refl, suc}
+use Rattle.std.proofs.{Common.{sym, true, ℕ, ◌&&◌, ◌+◌, ◌<◌, ◌==◌, ◌∙◌, ◌∷◌, ◌≡◌, ◌≤◌}, lemmas.Bool.Decides.nat_tests}
+use Rattle.std.proofs.lemmas.Bool.{cases_Bool, eqb-true}
 use Rattle.std.{proofs.lemmas.Grind.common_steps, specs.{List.{AllByRecursion as All, list_any}, Prelude.{count_by, nat_le, option_map}}}
-use Rattle.bq_core.{proofs.{KickLemmas.{no_id, one_of_id}, TurnLemmas.none_stronger}, specs.FiredTimers.{ExpiresOne, IsOne}}
-use Rattle.bq_core.specs.FiredTimers.{after_giving_back, after_job_timers, is_ripe, is_some_due, is_some_expired}
+use Rattle.bq_core.proofs.{KickLemmas.{no_id, one_of_id}, TurnLemmas.none_stronger}
+use Rattle.bq_core.specs.FiredTimers.{HaveFired, IsDue, IsOne, after_giving_back, after_job_timers, fired, id_if_past, is_ripe}
+use Rattle.bq_core.specs.declared.timers.Due.{Due, TheVariants.{Expired, Ripe}}
 use Rattle.bq_job.proofs.ChoiceLemmas.{first_of_contains, first_of_is_least, first_of_none, first_of_none_passes, first_of_passes}
 use Rattle.bq_job.proofs.{ChoiceLemmas.pair_order, ListLemmas.{all_always, all_both, all_from_members, all_weaker, count_all_not}}
 use Rattle.bq_job.{proofs.ListLemmas.{list_any_not, list_any_with, map_all_same, none_pass}, specs.beside.AreIdsWithin}
 use Rattle.bq_job.specs.{declared.job.{Job.Job, JobState.JobState}, machine.{Machine.Machine, due_of, ends_waiting, first_of, given_back}}
-use Rattle.bq_job.specs.machine.{grown, in_state, is_delayed, is_due, is_due_before, is_ending_lease, is_expired, is_held_by, is_holder}
+use Rattle.bq_job.specs.machine.{greatest, in_state, is_delayed, is_due, is_due_before, is_ending_lease, is_expired, is_held_by, is_holder}
 use Rattle.bq_job.specs.machine.{is_pair_before, is_reserved, is_wait_before, is_waiting, job_after_timers, job_with, next_end, with_job}
 use Rattle.bq_jobs.{proofs.Changes.{found_by_id, none_changed, others_above}, specs.{Kept.{Kept, ranked}, Leases.deadline_of}}
 use Rattle.bq_jobs.specs.Leases.{is_lease_before}
-use Rattle.bq_state.specs.{CoreParts.{Held, OnlyCompares, count_jobs, held, machine_held, machine_of}, EndingWaits.has_waited}
+use Rattle.bq_state.specs.{CoreParts.{Held, OnlyCompares, count_jobs, machine_held, machine_of}, EndingWaits.has_waited}
 use Rattle.bq_state.specs.{EndingWaits.{is_lease_short, is_soon}, declared.core_parts.CoreParts.CoreParts}
 
 -- changing one job and then all is changing all, if the second change subsumes the first
@@ -37,49 +39,32 @@ as_many p g id (k ∷ jobs) all = grind (arith, common_steps, as_many p g id job
 fired_once : (moment : ℕ) (j : Job) → job_after_timers moment (job_after_timers moment j) ≡ job_after_timers moment j
 fired_once moment j = grind (arith, common_steps)
 
--- one delayed job that is due becomes ready
-module _ (old mid new : CoreParts) (id : ℕ) (same : OnlyCompares old mid)
-    (after : machine_of new ≡ with_job id (job_after_timers old.moment) (machine_of mid))
-    (one : IsOne (λ j. is_due old.moment j.state) old.jobs.jobs id) where
-  ripens : machine_of new ≡ with_job id (job_after_timers old.moment) (machine_of old)
-  ripens = after ∙ ap (λ (h : Held). with_job id (job_after_timers old.moment) (machine_held h)) same
+-- If one timer that is due fires, the others are left to fire.
+module _ (m : Machine) (ids : AreIdsWithin 1 m.jobs m.next_id) where
+  others_left : (due : Due) → IsDue m due → after_job_timers (fired due m) ≡ after_job_timers m
+  others_left (Ripe id) one =
+      let f = job_after_timers m.moment in
+      let p = λ (j : Job). is_expired m.moment j.state in
+      let jobs = absorbed f f id m.jobs (all_always _ m.jobs (λ k e. fired_once m.moment k)) in
+      let count = as_many p f id m.jobs (all_weaker _ _ m.jobs (λ k is e. grind (arith, common_steps))
+      (one_of_id id 1 m.next_id m.jobs one.job ids one.found)) in
+      rw (jobs, count) refl
+  others_left (Expired id) one = grind (arith, common_steps, absorbed, all_always, fired_once, one_fewer)
 
-  pub fired_due : after_job_timers (machine_of new) ≡ after_job_timers (machine_of old)
-  fired_due =
-      let f = job_after_timers old.moment in
-      let p = λ (j : Job). is_expired old.moment j.state in
-      let jobs = absorbed f f id old.jobs.jobs (all_always _ old.jobs.jobs (λ k e. fired_once old.moment k)) in
-      let count = as_many p f id old.jobs.jobs (all_weaker _ _ old.jobs.jobs (λ k is e. grind (arith, common_steps))
-      (one_of_id id 1 old.next_id old.jobs.jobs one.job old.sound.ids one.found)) in
-      ap after_job_timers ripens ∙ rw (jobs, count) refl
+  one_ripe_fewer : (due : Due) → IsDue m due → count_by (is_ripe m.moment) (fired due m).jobs < count_by (is_ripe m.moment) m.jobs
+  one_ripe_fewer (Ripe id) one = grind (arith, common_steps, one_fewer, one.found, one.passes_is)
+  one_ripe_fewer (Expired id) one = grind (arith, common_steps, one_fewer, one.found, one.passes_is)
 
-  pub fewer_due : count_jobs (is_ripe old.moment) new < count_jobs (is_ripe old.moment) old
-  fewer_due = grind (arith, common_steps, one_fewer, ripens, one.found, one.passes_is, old.sound.ids)
+module _ (old mid new : CoreParts) (due : Due) (is : IsDue (machine_of old) due) (same : OnlyCompares old mid)
+    (after : machine_of new ≡ fired due (machine_of mid)) where
+  fires : machine_of new ≡ fired due (machine_of old)
+  fires = after ∙ ap (λ (h : Held). fired due (machine_held h)) same
 
--- one reservation ended and was counted, or none
-module _ (old mid new : CoreParts) (b : Bool)
-    (none : b ≡ false → (is_some_expired (machine_of old) ≡ false) × (machine_of mid ≡ machine_of old))
-    (one : b ≡ true → ExpiresOne (machine_of old) (machine_of mid))
-    (counted : held new ≡ record (held mid) { timeouts = grown (if b then 1 else 0) mid.timeouts }) where
-  pub none_fires : b ≡ false → is_some_due (machine_of old) ≡ false → machine_of new ≡ after_job_timers (machine_of old)
-  none_fires e due =
-      let n = none e in
-      let over = none_pass _ _ n.0 in
-      let jobs = map_all_same (job_after_timers old.moment) old.jobs.jobs
-      (all_weaker _ _ _ (λ j none. rw (none.0, none.1) refl) (all_both _ _ _ (none_pass _ _ due) over)) in
-      let count = count_all_not _ _ over in
-      grind (arith, common_steps)
+  pub fired_one : after_job_timers (machine_of new) ≡ after_job_timers (machine_of old)
+  fired_one = ap after_job_timers fires ∙ others_left (machine_of old) old.sound.ids due is
 
-  pub fired_expired : after_job_timers (machine_of new) ≡ after_job_timers (machine_of old)
-  fired_expired = ap (λ (h : Held). after_job_timers (machine_held h)) counted ∙ fires _ (machine_of mid) old.sound.ids none one
-    where
-      fires : (m n : Machine) → AreIdsWithin 1 m.jobs m.next_id → (b ≡ false → (is_some_expired m ≡ false) × (n ≡ m))
-          → (b ≡ true → ExpiresOne m n)
-          → after_job_timers (record n { timeouts = grown (if b then 1 else 0) n.timeouts }) ≡ after_job_timers m
-      fires m n ids none one = grind (arith, common_steps, absorbed, all_always, fired_once, one_fewer)
-
-  pub fewer_expired : b ≡ true → count_jobs (is_ripe old.moment) new < count_jobs (is_ripe old.moment) old
-  fewer_expired e = let x = one e in grind (arith, common_steps, one_fewer, old.sound.ids)
+  pub fewer_ripe : count_jobs (is_ripe old.moment) new < count_jobs (is_ripe old.moment) old
+  fewer_ripe = rw (ap (λ (x : Machine). x.jobs) fires) (one_ripe_fewer (machine_of old) old.sound.ids due is)
 
 -- the first job by a number, and what is known of it
 pub record Chosen (p : Job → Bool) (before : Job → Job → Bool) (jobs : List Job) (id : ℕ) : Type 0 where
@@ -101,11 +86,6 @@ chosen p before low next jobs id ids e =
       passes_is = first_of_passes p before jobs j.0 j.1;
     }
 
--- this was found, and its number is no later than t
-abbrev is_past : ℕ → Option (ℕ × ℕ) → Bool
-is_past t None = false
-is_past t (Some rank) = nat_le rank.0 t
-
 -- The first job of a kind by a number decides whether any has a number up to t.
 module _ (p : Job → Bool) (number : Job → ℕ) (q : ℕ → Job → Bool) (q_is : (t : ℕ) (j : Job) → q t j ≡ (p j && nat_le (number j) t))
     (jobs : List Job) (t : ℕ) where
@@ -115,26 +95,26 @@ module _ (p : Job → Bool) (number : Job → ℕ) (q : ℕ → Job → Bool) (q
   pub none_such : list_any p jobs ≡ false → list_any (q t) jobs ≡ false
   none_such none = none_stronger p (q t) jobs (λ j fail. q_is t j ∙ rw fail refl) none
 
-  past_is : list_any (q t) jobs ≡ is_past t (option_map (ranked number) (first_of p by_number jobs))
+  past_is : list_any (q t) jobs ≡ is_some (id_if_past t (option_map (ranked number) (first_of p by_number jobs)))
   past_is = go (first_of p by_number jobs) refl
     where
-      go : (o : Option Job) → first_of p by_number jobs ≡ o → list_any (q t) jobs ≡ is_past t (option_map (ranked number) o)
+      go : (o : Option Job) → first_of p by_number jobs ≡ o → list_any (q t) jobs ≡ is_some (id_if_past t (option_map (ranked number) o))
       go None e = none_such (first_of_none p by_number jobs e)
       go (Some j) e = elim (cases_Bool (nat_le (number j) t)) [
         | inl past ↦ list_any_with (q t) jobs j (first_of_contains p by_number jobs j e)
-            (q_is t j ∙ rw (first_of_passes p by_number jobs j e, past) refl) ∙ sym past
+            (q_is t j ∙ rw (first_of_passes p by_number jobs j e, past) refl) ∙ rw past refl
         | inr later ↦ list_any_not (q t) jobs (all_from_members _ jobs (λ k here.
             let least = first_of_is_least p (pair_order number (λ k. k.id)) jobs j k e here in
-            q_is t k ∙ (grind (arith, common_steps, cases_Bool, nat_tests)))) ∙ sym later
+            q_is t k ∙ (grind (arith, common_steps, cases_Bool, nat_tests)))) ∙ rw later refl
       ]
 
-  pub none_past : {o : Option (ℕ × ℕ)} → o ≡ option_map (ranked number) (first_of p by_number jobs) → is_past t o ≡ false
+  pub none_past : (found : Option (ℕ × ℕ)) → found ≡ option_map (ranked number) (first_of p by_number jobs) → None ≡ id_if_past t found
       → list_any (q t) jobs ≡ false
-  none_past e later = past_is ∙ ap (is_past t) (sym e) ∙ later
+  none_past found is none = past_is ∙ ap (λ o. is_some (id_if_past t o)) (sym is) ∙ sym (ap is_some none)
 
-  pub first_past : (low next at id : ℕ) → AreIdsWithin low jobs next
-      → Some (at, id) ≡ option_map (ranked number) (first_of p by_number jobs) → at ≤ t → IsOne (q t) jobs id
-  first_past low next at id ids e past =
+  pub first_past : (low next id : ℕ) → AreIdsWithin low jobs next → (found : Option (ℕ × ℕ))
+      → found ≡ option_map (ranked number) (first_of p by_number jobs) → Some id ≡ id_if_past t found → IsOne (q t) jobs id
+  first_past low next id ids found is past =
       let c = chosen p by_number low next jobs id ids (grind (arith, common_steps)) in
       grind (arith, common_steps, nat_tests)
 
@@ -144,33 +124,61 @@ dues_are t j = grind (arith, common_steps)
 pub expiries_are : (t : ℕ) (j : Job) → is_expired t j.state ≡ (is_reserved j.state && nat_le (deadline_of j.state) t)
 expiries_are t j = grind (arith, common_steps)
 
-pub no_first_due : (has : Bool) (jobs : List Job) → has ≡ list_any (λ j. is_delayed j.state) jobs → has ≡ false
-    → None ≡ option_map (λ j. due_of j.state) (first_of (λ j. is_delayed j.state) is_due_before jobs)
-no_first_due has jobs is none = ap (option_map (λ j. due_of j.state)) (sym (first_of_none_passes _ is_due_before jobs (sym is ∙ none)))
+-- If no timer is due, all have fired.
+none_fires : (m : Machine) → m.timeouts ≤ greatest → list_any (λ j. is_due m.moment j.state) m.jobs ≡ false
+    → list_any (λ j. is_expired m.moment j.state) m.jobs ≡ false → m ≡ after_job_timers m
+none_fires m fits due expired =
+    let over = none_pass _ _ expired in
+    let jobs = map_all_same (job_after_timers m.moment) m.jobs
+    (all_weaker _ _ _ (λ j none. rw (none.0, none.1) refl) (all_both _ _ _ (none_pass _ _ due) over)) in
+    let count = count_all_not _ _ over in
+    grind (arith, common_steps)
 
-pub no_first_deadline : (has : Bool) (jobs : List Job) → has ≡ list_any (λ j. is_reserved j.state) jobs → has ≡ false
-    → None ≡ option_map (λ j. deadline_of j.state) (first_of (λ j. is_reserved j.state) is_lease_before jobs)
-no_first_deadline has jobs is none =
-    ap (option_map (λ j. deadline_of j.state)) (sym (first_of_none_passes _ is_lease_before jobs (sym is ∙ none)))
+-- the first delayed job and the first reserved one
+module _ (st mid : CoreParts) (same : OnlyCompares st mid) (delayed lease : Option (ℕ × ℕ))
+    (delayed_is : delayed ≡ option_map (ranked (λ j. due_of j.state)) (first_of (λ j. is_delayed j.state) is_due_before st.jobs.jobs))
+    (lease_is : lease ≡ option_map (ranked (λ j. deadline_of j.state))
+    (first_of (λ j. is_reserved j.state) is_lease_before mid.jobs.jobs)) where
+  first_of_leases : lease ≡ option_map (ranked (λ j. deadline_of j.state))
+      (first_of (λ j. is_reserved j.state) is_lease_before st.jobs.jobs)
+  first_of_leases = lease_is ∙ ap (λ (h : Held). option_map (ranked (λ j. deadline_of j.state))
+      (first_of (λ j. is_reserved j.state) is_lease_before h.jobs.jobs)) same
+
+  pub lease_due : (id : ℕ) → Some id ≡ id_if_past st.moment lease → IsDue (machine_of st) (Expired id)
+  lease_due id past = first_past _ _ _ expiries_are st.jobs.jobs st.moment 1 st.next_id id st.sound.ids lease first_of_leases past
+
+  pub none_due : (new : CoreParts) → OnlyCompares mid new → st.timeouts ≤ greatest → None ≡ id_if_past st.moment delayed
+      → None ≡ id_if_past st.moment lease → HaveFired st new
+  none_due new then_same fits no_delay no_lease = ap machine_held then_same ∙ ap machine_held same ∙ none_fires (machine_of st) fits
+      (none_past _ _ _ dues_are st.jobs.jobs st.moment delayed delayed_is no_delay)
+      (none_past _ _ _ expiries_are st.jobs.jobs st.moment lease first_of_leases no_lease)
+
+pub none_delayed : (has : Bool) (jobs : List Job) → has ≡ list_any (λ j. is_delayed j.state) jobs → has ≡ false
+    → None ≡ option_map (ranked (λ j. due_of j.state)) (first_of (λ j. is_delayed j.state) is_due_before jobs)
+none_delayed has jobs is none = sym (ap (option_map _) (first_of_none_passes _ is_due_before jobs (sym is ∙ none)))
+
+pub none_leased : (has : Bool) (jobs : List Job) → has ≡ list_any (λ j. is_reserved j.state) jobs → has ≡ false
+    → None ≡ option_map (ranked (λ j. deadline_of j.state)) (first_of (λ j. is_reserved j.state) is_lease_before jobs)
+none_leased has jobs is none = sym (ap (option_map _) (first_of_none_passes _ is_lease_before jobs (sym is ∙ none)))
 
 ending_is : (moment seat : ℕ) (s : JobState) → is_ending_lease moment seat s ≡ (is_holder seat s && nat_le (deadline_of s) (moment + 1000))
 ending_is moment seat s = grind (arith, common_steps)
 
 -- The first of some leases decides whether any of these ends within a second.
-soon_is : (moment : ℕ) (found : Option (ℕ × ℕ)) → is_soon moment found ≡ is_past (moment + 1000) found
+soon_is : (moment : ℕ) (found : Option (ℕ × ℕ)) → is_soon moment found ≡ is_some (id_if_past (moment + 1000) found)
 soon_is moment found = grind (arith, common_steps, nat_tests)
 
 pub seat_warned : (seat moment : ℕ) (jobs : List Job) (found : Option (ℕ × ℕ)) (soon : Bool) → soon ≡ is_soon moment found
     → found ≡ option_map (ranked (λ j. deadline_of j.state)) (first_of (is_held_by seat) is_lease_before jobs)
     → soon ≡ list_any (λ j. is_ending_lease moment seat j.state) jobs
-seat_warned seat moment jobs found soon told is = told ∙ soon_is moment found ∙ ap (is_past (moment + 1000)) is
+seat_warned seat moment jobs found soon told is = told ∙ soon_is moment found ∙ ap (λ o. is_some (id_if_past (moment + 1000) o)) is
     ∙ sym ((λ i. list_any (λ j. ending_is moment seat j.state i) jobs)
     ∙ past_is (is_held_by seat) (λ j. deadline_of j.state) _ (λ t j. refl) jobs (moment + 1000))
 
 pub some_warned : (moment : ℕ) (jobs : List Job) (found : Option (ℕ × ℕ)) (soon : Bool) → soon ≡ is_soon moment found
     → found ≡ option_map (ranked (λ j. deadline_of j.state)) (first_of (λ j. is_reserved j.state) is_lease_before jobs)
     → soon ≡ list_any (is_lease_short moment) jobs
-some_warned moment jobs found soon told is = told ∙ soon_is moment found ∙ ap (is_past (moment + 1000)) is
+some_warned moment jobs found soon told is = told ∙ soon_is moment found ∙ ap (λ o. is_some (id_if_past (moment + 1000) o)) is
     ∙ sym (past_is (λ j. is_reserved j.state) (λ j. deadline_of j.state) _ (λ t j. refl) jobs (moment + 1000))
 
 -- one job that the client at the seat holds is brought into a state, or there is none

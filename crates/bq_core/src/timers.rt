@@ -1,14 +1,12 @@
 //! Fires due timers, makes jobs of closed connections ready again, and finds when something happens
 //! by itself next.
-ghost use Rattle.std.specs.{List.list_any, Option.{option_copied, option_map}, Prelude.{IfSome, None, count_by, false, fold}};
-ghost use Rattle.std.specs.Prelude.{if◌then◌else◌, length, true, ◌*◌, ◌+◌, ◌<◌, ◌≡◌};
-ghost use Rattle.bq_core.specs.FiredTimers.{ExpiresOne, HaveFired, IsOne, after_giving_back, after_job_timers, is_ripe, is_some_due};
-ghost use Rattle.bq_core.specs.FiredTimers.{is_some_expired};
+ghost use Rattle.std.specs.{Option.{option_copied, option_map}, Prelude.{IfSome, None, count_by, false, fold}};
+ghost use Rattle.std.specs.Prelude.{if◌then◌else◌, length, ◌*◌, ◌+◌, ◌≡◌};
+ghost use Rattle.bq_core.specs.FiredTimers.{HaveFired, IsDue, after_giving_back, fired, id_if_past, is_ripe};
 ghost use Rattle.bq_job.specs.{beside.NextDue.next_due as next_due_of, machine.{Asked.state_once_left, Changes.{first_of, is_held_by}}};
 ghost use Rattle.bq_job.specs.machine.{Changes.is_waiting, JobStates.{due_of, is_delayed, is_due_before, is_reserved}, Timers.after_timers};
-ghost use Rattle.bq_job.specs.machine.Timers.{is_due, is_expired};
-ghost use Rattle.bq_jobs.specs.{Leases.{deadline_of, is_lease_before}, Searching.{Asks, Searches}};
-ghost use Rattle.bq_state.specs.{CoreParts.{count_jobs, machine_of}, Dues.{earlier_of_both, timers_due, warning_due, warning_due_at}};
+ghost use Rattle.bq_jobs.specs.{Kept.ranked, Leases.{deadline_of, is_lease_before}, Searching.{Asks, Searches}};
+ghost use Rattle.bq_state.specs.{CoreParts.{count_jobs, machine_of}, Dues.{timers_due, warning_due, warning_due_at}};
 ghost use Rattle.bq_state.specs.{Dues.{with_seat_due, with_warning_due}, FirstTimeouts.AreTimeouts, Keeping.Looks, SeatTurns.AreTurnsOf};
 ghost use Rattle.bq_state.specs.{WaitingTurns.at_turn, Warnings.{AreWarned, is_waiting_there}};
 
@@ -20,105 +18,80 @@ use bq_state::known::{FirstTimeout, Warns, earlier_of, first_to_give_up};
 use bq_state::seats::{SeatRecord, Turn};
 use bq_state::{changes, job_store, seats};
 
-// Returns the first delayed job that is due. If no job is delayed, nothing is searched.
-#[tactic(auto, using(bq_state::proofs::PartsLemmas::compared_sound))]
-fn first_ripe(state: &mut CoreParts) -> Option<JobId>
-    ensures found { IfSome result
-        (λ id. IsOne (λ j. is_due state.old.moment j.state) state.old.jobs.jobs id) }
-    ensures none { result ≡ None
-        → list_any (λ j. is_due state.old.moment j.state) state.old.jobs.jobs ≡ false }
+// A timer of a job that is due: its delay has ended, or its time to run has expired.
+enum Due {
+    Ripe(JobId),
+    Expired(JobId),
+}
+
+// Returns the delayed job that is due first, and when it is. If no job is delayed, nothing is
+// searched.
+#[tactic(auto, using(bq_state::proofs::PartsLemmas::compared_sound, crate::proofs::FiredTimerLemmas::none_delayed))]
+fn first_delayed(state: &mut CoreParts) -> Option<(Moment, JobId)>
+    ensures rank { result ≡ option_map (ranked (λ j. due_of j.state))
+        (first_of (λ j. is_delayed j.state) is_due_before state.old.jobs.jobs) }
     ensures kept { Looks 1 state.old state.new }
 {
     if !state.has_delayed() {
         return None;
     }
-    let (due, id) = state.jobs.next_due()?;
-    if due <= state.moment { Some(id) } else { None }
+    state.jobs.next_due()
 }
 
-// Returns the first job whose time to run has expired. If no client holds a job, nothing is
-// searched.
-#[tactic(auto, using(bq_state::proofs::PartsLemmas::compared_sound))]
-fn first_expired(state: &mut CoreParts) -> Option<JobId>
-    ensures found { IfSome result
-        (λ id. IsOne (λ j. is_expired state.old.moment j.state) state.old.jobs.jobs id) }
-    ensures none { result ≡ None
-        → list_any (λ j. is_expired state.old.moment j.state) state.old.jobs.jobs ≡ false }
+// Returns the reserved job whose time to run ends first, and when it does. If no client holds a
+// job, nothing is searched.
+#[tactic(auto, using(bq_state::proofs::PartsLemmas::compared_sound, crate::proofs::FiredTimerLemmas::none_leased))]
+fn first_lease(state: &mut CoreParts) -> Option<(Moment, JobId)>
+    ensures rank { result ≡ option_map (ranked (λ j. deadline_of j.state))
+        (first_of (λ j. is_reserved j.state) is_lease_before state.old.jobs.jobs) }
     ensures kept { Looks 1 state.old state.new }
 {
     if !state.has_lease() {
         return None;
     }
-    let (deadline, id) = state.jobs.next_deadline()?;
-    if deadline <= state.moment {
-        Some(id)
-    } else {
-        None
+    state.jobs.next_deadline()
+}
+
+// Returns the id of the job that was found, if its moment has come.
+fn id_if_past(found: Option<(Moment, JobId)>, moment: Moment) -> Option<JobId>
+    ensures { result ≡ id_if_past moment found }
+{
+    let (at, id) = found?;
+    if at <= moment { Some(id) } else { None }
+}
+
+// Returns the first timer of a job that is due. Delays come first.
+fn first_due(state: &mut CoreParts) -> Option<Due>
+    ensures due { IfSome result (IsDue (machine_of state.old)) }
+    ensures none { result ≡ None → HaveFired state.old state.new }
+    ensures kept { Looks 2 state.old state.new }
+{
+    let moment = state.moment;
+    let _timeouts = state.timeouts; // For the proof, which needs its range.
+    let delayed = first_delayed(state);
+    if let Some(id) = id_if_past(delayed, moment) {
+        return Some(Due::Ripe(id));
+    }
+    let lease = first_lease(state);
+    match id_if_past(lease, moment) {
+        None => None,
+        Some(id) => Some(Due::Expired(id)),
     }
 }
 
-// Makes one delayed job ready, if one is due.
-fn ripen(state: &mut CoreParts) -> bool
-    ensures done { result ≡ false → is_some_due (machine_of state.old) ≡ false }
-    ensures same { result ≡ false → machine_of state.new ≡ machine_of state.old }
-    ensures fired { after_job_timers (machine_of state.new)
-        ≡ after_job_timers (machine_of state.old) }
-    ensures fewer { result ≡ true → count_jobs (is_ripe state.old.moment) state.new
-        < count_jobs (is_ripe state.old.moment) state.old }
-    ensures asks { Asks (if result then 9 else 1) state.old.jobs state.new.jobs }
+// Makes a job ready because of this timer. If its time to run has expired, that is counted.
+fn fire_one(state: &mut CoreParts, due: Due)
+    ensures fired { machine_of state.new ≡ fired due (machine_of state.old) }
+    ensures asks { Asks 8 state.old.jobs state.new.jobs }
 {
-    let moment = state.moment;
-    let Some(id) = first_ripe(state) else {
-        return false;
-    };
-    changes::change_job(state, id, &JobChange::FireTimers(moment));
-    true
-}
-
-// Ends one reservation, if its time to run has expired.
-fn expire_first(state: &mut CoreParts) -> bool
-    ensures none { result ≡ false → (is_some_expired (machine_of state.old) ≡ false)
-        × (machine_of state.new ≡ machine_of state.old) }
-    ensures one { result ≡ true → ExpiresOne (machine_of state.old) (machine_of state.new) }
-    ensures asks { Asks (if result then 9 else 1) state.old.jobs state.new.jobs }
-{
-    let moment = state.moment;
-    let Some(id) = first_expired(state) else {
-        return false;
-    };
-    changes::change_job(state, id, &JobChange::FireTimers(moment));
-    true
-}
-
-// Ends and counts one reservation, if its time to run has expired.
-#[tactic(auto, using(crate::proofs::FiredTimerLemmas::none_fires))]
-fn expire(state: &mut CoreParts) -> bool
-    ensures done { result ≡ false → is_some_due (machine_of state.old) ≡ false
-        → HaveFired state.old state.new }
-    ensures same { result ≡ false → (machine_of state.new).jobs ≡ (machine_of state.old).jobs }
-    ensures fired { after_job_timers (machine_of state.new)
-        ≡ after_job_timers (machine_of state.old) }
-    ensures fewer { result ≡ true → count_jobs (is_ripe state.old.moment) state.new
-        < count_jobs (is_ripe state.old.moment) state.old }
-    ensures asks { Asks (if result then 9 else 1) state.old.jobs state.new.jobs }
-{
-    let expired = expire_first(state);
-    changes::count_timeout_if(state, expired);
-    expired
-}
-
-// Fires one timer of a job, if one is due.
-#[tactic(auto, using(crate::proofs::AskLemmas::asks_more, crate::proofs::AskLemmas::asks_then))]
-fn fire_one(state: &mut CoreParts) -> bool
-    ensures done { result ≡ false → HaveFired state.old state.new }
-    ensures same { result ≡ false → (machine_of state.new).jobs ≡ (machine_of state.old).jobs }
-    ensures fired { after_job_timers (machine_of state.new)
-        ≡ after_job_timers (machine_of state.old) }
-    ensures fewer { result ≡ true → count_jobs (is_ripe state.old.moment) state.new
-        < count_jobs (is_ripe state.old.moment) state.old }
-    ensures asks { Asks (if result then 10 else 2) state.old.jobs state.new.jobs }
-{
-    ripen(state) || expire(state)
+    let change = JobChange::FireTimers(state.moment);
+    match due {
+        Due::Ripe(id) => changes::change_job(state, id, &change),
+        Due::Expired(id) => {
+            changes::change_job(state, id, &change);
+            changes::count_timeout_if(state, true);
+        }
+    }
 }
 
 // Fires all due timers of jobs.
@@ -128,7 +101,9 @@ fn fire_jobs(state: &mut CoreParts)
     ensures asks { Asks
         (10 * count_jobs (is_ripe state.old.moment) state.old + 2) state.old.jobs state.new.jobs }
 {
-    while fire_one(state) {}
+    while let Some(due) = first_due(state) {
+        fire_one(state, due);
+    }
 }
 
 /// Fires all due timers.
@@ -148,34 +123,17 @@ pub(crate) fn state_once_left(state: &CoreParts) -> JobState
     job_store::delayed_by(state.config.requeue_delay, state.moment)
 }
 
-// Brings one job that the client at the seat holds into this state, if there is one.
-#[tactic(auto, using(crate::proofs::FiredTimerLemmas::given_none))]
-fn give_back_one(state: &mut CoreParts, seat: Seat, becomes: JobState) -> bool
-    requires free { is_reserved becomes ≡ false }
-    ensures done { result ≡ false
-        → machine_of state.new ≡ after_giving_back becomes seat (machine_of state.old) }
-    ensures given { after_giving_back becomes seat (machine_of state.new)
-        ≡ after_giving_back becomes seat (machine_of state.old) }
-    ensures fewer { result ≡ true
-        → count_jobs (is_held_by seat) state.new < count_jobs (is_held_by seat) state.old }
-    ensures asks { Asks (if result then 9 else 1) state.old.jobs state.new.jobs }
-{
-    let Some(id) = state.jobs.first_held(seat) else {
-        return false;
-    };
-    changes::change_job(state, id, &JobChange::GiveBack(becomes));
-    true
-}
-
 /// Brings all jobs that the client at the seat holds into this state.
-#[tactic(auto, using(crate::proofs::AskLemmas::asks_more, crate::proofs::AskLemmas::asks_none, crate::proofs::AskLemmas::asks_then))]
+#[tactic(auto, using(crate::proofs::AskLemmas::asks_more, crate::proofs::AskLemmas::asks_none, crate::proofs::AskLemmas::asks_then, crate::proofs::FiredTimerLemmas::given_none))]
 pub(crate) fn give_back_all(state: &mut CoreParts, seat: Seat, becomes: JobState)
     requires free { is_reserved becomes ≡ false }
     ensures after { machine_of state.new ≡ after_giving_back becomes seat (machine_of state.old) }
     ensures asks { Asks
         (9 * count_jobs (is_held_by seat) state.old + 1) state.old.jobs state.new.jobs }
 {
-    while give_back_one(state, seat, becomes) {}
+    while let Some(id) = state.jobs.first_held(seat) {
+        changes::change_job(state, id, &JobChange::GiveBack(becomes));
+    }
 }
 
 fn moment_of(found: Option<(Moment, JobId)>) -> Option<Moment>
@@ -265,44 +223,15 @@ fn warnings_due(
     }
 }
 
-// Returns when the first delay ends. If no job is delayed, nothing is searched.
-#[tactic(auto, using(crate::proofs::FiredTimerLemmas::no_first_due))]
-fn first_due(jobs: &mut NumberedJobs, has_delayed: bool) -> Option<Moment>
-    requires { has_delayed ≡ list_any (λ j. is_delayed j.state) jobs.old.jobs }
-    ensures due { result
-        ≡ option_map (λ j. due_of j.state) (first_of (λ j. is_delayed j.state) is_due_before jobs.old.jobs) }
-    ensures kept { Searches 1 jobs.old jobs.new }
-{
-    if !has_delayed {
-        return None;
-    }
-    moment_of(jobs.next_due())
-}
-
-// Returns when the first time to run ends. If no client holds a job, nothing is searched.
-#[tactic(auto, using(crate::proofs::FiredTimerLemmas::no_first_deadline))]
-fn first_deadline(jobs: &mut NumberedJobs, has_lease: bool) -> Option<Moment>
-    requires { has_lease ≡ list_any (λ j. is_reserved j.state) jobs.old.jobs }
-    ensures due { result
-        ≡ option_map (λ j. deadline_of j.state) (first_of (λ j. is_reserved j.state) is_lease_before jobs.old.jobs) }
-    ensures kept { Searches 1 jobs.old jobs.new }
-{
-    if !has_lease {
-        return None;
-    }
-    moment_of(jobs.next_deadline())
-}
-
 // Returns when a timer of a job is due, not counting DEADLINE_SOON.
-fn jobs_due(jobs: &mut NumberedJobs, has_delayed: bool, has_lease: bool) -> Option<Moment>
-    requires delayed { has_delayed ≡ list_any (λ j. is_delayed j.state) jobs.old.jobs }
-    requires lease { has_lease ≡ list_any (λ j. is_reserved j.state) jobs.old.jobs }
-    ensures due { result ≡ timers_due jobs.old.jobs }
-    ensures kept { Searches 2 jobs.old jobs.new }
+#[tactic(auto, using(std::proofs::lemmas::Grind::common_steps))]
+fn jobs_due(state: &mut CoreParts) -> Option<Moment>
+    ensures due { result ≡ timers_due state.old.jobs.jobs }
+    ensures kept { Looks 2 state.old state.new }
 {
-    let due = first_due(jobs, has_delayed);
-    let deadline = first_deadline(jobs, has_lease);
-    earlier_of(due, deadline)
+    let due = first_delayed(state);
+    let deadline = first_lease(state);
+    earlier_of(moment_of(due), moment_of(deadline))
 }
 
 // Returns when the first wait times out. If that is known, no seat is checked.
@@ -325,8 +254,7 @@ pub(crate) fn next_due(state: &mut CoreParts) -> Option<Moment>
     ensures asks { Asks
         (count_by is_waiting state.old.seats.items + 2) state.old.jobs state.new.jobs }
 {
-    let (has_delayed, has_lease) = (state.has_delayed(), state.has_lease());
-    let jobs = jobs_due(&mut state.jobs, has_delayed, has_lease);
+    let jobs = jobs_due(state);
     let warning = warnings_due(
         &mut state.jobs,
         state.seats.as_slice(),

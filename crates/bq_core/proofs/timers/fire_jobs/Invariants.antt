@@ -5,13 +5,13 @@ use Rattle.bq_jobs.specs.Searching.{Asks}
 use Rattle.bq_state.specs.CoreParts.{count_jobs, machine_of}
 use Rattle.bq_core.proofs.timers.fire_jobs.Given as goal
 
-abbrev pub invariant-loop : goal.invariant-loop
-invariant-loop l = record {
+abbrev pub invariant-loop-due : goal.invariant-loop-due
+invariant-loop-due l = record {
   left : after_job_timers (machine_of l.state) ≡ after_job_timers (machine_of l.fn.state);
   asks : Asks (10 * (count_jobs (is_ripe l.fn.state.moment) l.fn.state - count_jobs (is_ripe l.fn.state.moment) l.state))
       l.fn.state.jobs l.state.jobs;
   fewer : count_jobs (is_ripe l.fn.state.moment) l.state ≤ count_jobs (is_ripe l.fn.state.moment) l.fn.state;
 }
 
-abbrev pub decreases-loop : goal.decreases-loop
-decreases-loop l = count_jobs (is_ripe l.fn.state.moment) l.state
+abbrev pub decreases-loop-due : goal.decreases-loop-due
+decreases-loop-due l = count_jobs (is_ripe l.fn.state.moment) l.state

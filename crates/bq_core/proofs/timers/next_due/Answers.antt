@@ -1,19 +1,24 @@
-use Rattle.std.proofs.{Common.{None, ap, arith, fold, ◌∙◌}, lemmas.Grind.common_steps}
+use Rattle.std.proofs.Common.{None, ap, fold, ◌∙◌}
 use Rattle.bq_job.specs.beside.{dues_of_pause, dues_of_wait, earliest}
-use Rattle.bq_state.{proofs.DueLemmas.{all_due, earliest_of_all, jobs_due_is, pauses_counted}, specs.CoreParts.{Held, machine_of}}
-use Rattle.bq_state.specs.Dues.{with_seat_due}
+use Rattle.bq_state.proofs.{DueLemmas.{all_due, earliest_of_all, jobs_due_is, pauses_counted}, PartsLemmas.compared_sound}
+use Rattle.bq_state.specs.{CoreParts.{Held, machine_of}, Dues.{with_seat_due, with_warning_due}}
 use Rattle.bq_core.proofs.timers.next_due.Goals as goal
 
 pub returns-clause-due : goal.returns-clause-due
 returns-clause-due c =
     let st = c.args.state.now in
-    let warning = rw (c.jobs_due-jobs.ensures.kept.same, c.as_slice.ensures.value) at c.warnings_due-warning.ensures.due in
+    let mid = c.jobs_due-jobs.new.state in
+    let same = c.jobs_due-jobs.ensures.kept.same in
+    let warning = c.warnings_due-warning.ensures.due ∙ ap (fold (with_warning_due mid.jobs.jobs) None) c.as_slice.ensures.value
+    ∙ ap (λ (h : Held). fold (with_warning_due h.jobs.jobs) None h.seats.items) same in
     let jobs = rw (c.jobs_due-jobs.ensures.due, warning) at c.earlier_of.ensures in
-    let tubes = ap (λ (h : Held). h.known.pause_end) c.settle_warnings.ensures ∙ st.sound.known.pauses
-    ∙ earliest_of_all (λ t. dues_of_pause t.pause) st.tubes.entries ∙ ap earliest (pauses_counted _ st.sound.entries.fresh) in
+    let tubes = ap (λ (h : Held). h.known.pause_end) c.settle_warnings.ensures ∙ ap (λ (h : Held). h.known.pause_end) same
+    ∙ st.sound.known.pauses ∙ earliest_of_all (λ t. dues_of_pause t.pause) st.tubes.entries
+    ∙ ap earliest (pauses_counted _ st.sound.entries.fresh) in
     let seats = c.seats_due-seats.ensures ∙ ap (fold with_seat_due None) c.as_slice-3.ensures.value
-    ∙ earliest_of_all (λ s. dues_of_wait s.wait) st.seats.items in
+    ∙ ap (λ (h : Held). fold with_seat_due None h.seats.items) same ∙ earliest_of_all (λ s. dues_of_wait s.wait) st.seats.items in
     c.earlier_of-3.ensures ∙ rw (jobs, jobs_due_is (machine_of st), c.earlier_of-2.ensures, tubes, seats, ← all_due)
 
-pub invariant_of-state : goal.invariant_of-state
-invariant_of-state c = grind (arith, common_steps, c.jobs_due-jobs.ensures.kept.same, c.warnings_due-warning.ensures.kept.same)
+pub invariant_of-state-clause-sound : goal.invariant_of-state-clause-sound
+invariant_of-state-clause-sound c =
+    compared_sound c.jobs_due-jobs.new.state c.warnings_due-warning.new.jobs c.warnings_due-warning.ensures.kept.same
