@@ -1,6 +1,8 @@
 -- Kicking the first job of a kind repeatedly kicks the first ones in order.
+use lib.Seq.{take-nil}
 use Rattle.std.proofs.Common.{Bool, List, None, Option, Some, [], ap, arith, eq-eqb, false, filter, if◌then◌else◌, inl, inr, length, map}
-use Rattle.std.proofs.{Common.{map-id, not, refl, suc, sym, take, true, ℕ, ◌<◌, ◌==◌, ◌∙◌, ◌∷◌, ◌≡◌}, lemmas.Bool.{cases_Bool, eqb-true}}
+use Rattle.std.proofs.Common.{map-id, not, refl, suc, sym, take, true, ℕ, ◌+◌, ◌-◌, ◌<◌, ◌==◌, ◌∙◌, ◌∷◌, ◌≡◌, ◌≤◌}
+use Rattle.std.proofs.lemmas.Bool.{cases_Bool, eqb-true}
 use Rattle.std.{proofs.lemmas.{Bool.{Decides.nat_tests, ne_eqb}, Grind.common_steps}, specs.List.AllByRecursion as All}
 use Rattle.std.specs.Prelude.{option_map}
 use Rattle.bq_core.{proofs.ActLemmas.none_left, specs.Kicking.{KicksFirst, all_kicked, jobs_of}}
@@ -110,3 +112,14 @@ kickable_delayed tube jobs none = ap (kicked_first tube jobs) (sym (none_of_kind
 
 pub none_kicked : (jobs : List Job) → all_kicked [] jobs ≡ jobs
 none_kicked jobs = map-id jobs
+
+-- Once none is left, all were kicked.
+pub kicked_all : (kind : JobKind) (tube : List ℕ) (bound done : ℕ) (first jobs : List Job) → done ≤ bound
+    → ((n : ℕ) → all_kicked (take (done + n) (jobs_of kind tube first)) first ≡ all_kicked (take n (jobs_of kind tube jobs)) jobs)
+    → None ≡ option_map (λ j. j.id) (first_of (is_of kind tube) (is_before_of kind) jobs)
+    → all_kicked (take bound (jobs_of kind tube first)) first ≡ jobs
+kicked_all kind tube bound done first jobs l in_turn none =
+    let nothing : jobs_of kind tube jobs ≡ [] = ap (in_order (is_before_of kind)) (none_of_kind kind tube jobs none) in
+    let whole : bound ≡ done + (bound - done) = omega arith in
+    ap (λ n. all_kicked (take n (jobs_of kind tube first)) first) whole ∙ in_turn (bound - done)
+    ∙ ap (λ ks. all_kicked ks jobs) (ap (take (bound - done)) nothing ∙ take-nil (bound - done)) ∙ none_kicked jobs

@@ -1,5 +1,5 @@
-ghost use Rattle.std.specs.Prelude.{[], false, if◌then◌else◌, length, take, true, ◌*◌, ◌+◌, ◌<◌, ◌≡◌, ◌≤◌};
-ghost use Rattle.bq_core.specs.{Kicking.{KicksFirst, jobs_of}, Replying.RepliesAt};
+ghost use Rattle.std.specs.Prelude.{false, length, take, ◌*◌, ◌+◌, ◌≡◌, ◌≤◌};
+ghost use Rattle.bq_core.specs.{Kicking.jobs_of, Replying.RepliesAt};
 ghost use Rattle.bq_core_api.specs.Cost.{changed_jobs};
 ghost use Rattle.bq_job.specs.{declared.job.Job.Job, machine.JobCommands.{after_kick, kick_effect, kickable, kicked}};
 ghost use Rattle.bq_jobs.specs.Searching.{Asks, Searches};
@@ -27,29 +27,8 @@ fn kind_to_kick(jobs: &mut NumberedJobs, tubes: &NumberedTubes, tube: &Tube) -> 
     }
 }
 
-// Kicks the first job of this kind. Returns false if there is none.
-#[tactic(auto, using(std::proofs::lemmas::Grind::common_steps, crate::proofs::KickLemmas::none_of_kind))]
-fn kick_first(state: &mut CoreParts, kind: JobKind, tube: &Tube) -> bool
-    requires out { (k : Job) → is_of kind tube.now (kicked k) ≡ false }
-    ensures none { result ≡ false → (jobs_of kind tube.now state.old.jobs.jobs ≡ [])
-        × (machine_of state.new ≡ machine_of state.old) }
-    ensures kicked { result ≡ true
-        → KicksFirst kind tube.now (machine_of state.old).jobs (machine_of state.new).jobs }
-    ensures others { machine_of state.new
-        ≡ record (machine_of state.old) { jobs = (machine_of state.new).jobs } }
-    ensures fewer { result ≡ true
-        → count_jobs (is_of kind tube.now) state.new < count_jobs (is_of kind tube.now) state.old }
-    ensures asks { Asks (if result then 9 else 1) state.old.jobs state.new.jobs }
-{
-    let Some(id) = state.first(kind, tube) else {
-        return false;
-    };
-    changes::change_job(state, id, &JobChange::Kick);
-    true
-}
-
 // Kicks at most `bound` jobs of this kind, in order, and returns how many.
-#[tactic(auto, using(crate::proofs::ToldLemmas::loop_asks))]
+#[tactic(auto, using(crate::proofs::ToldLemmas::loop_asks, crate::proofs::KickLemmas::none_of_kind))]
 fn kick_some(state: &mut CoreParts, kind: JobKind, tube: &Tube, bound: u32) -> u64
     requires out { (k : Job) → is_of kind tube.now (kicked k) ≡ false }
     ensures kicked { machine_of state.new
@@ -62,9 +41,10 @@ fn kick_some(state: &mut CoreParts, kind: JobKind, tube: &Tube, bound: u32) -> u
     ensures asks { Asks (9 * result + 1) state.old.jobs state.new.jobs }
 {
     for done in 0..bound {
-        if !kick_first(state, kind, tube) {
+        let Some(id) = state.first(kind, tube) else {
             return u64::from(done);
-        }
+        };
+        changes::change_job(state, id, &JobChange::Kick);
     }
     u64::from(bound)
 }

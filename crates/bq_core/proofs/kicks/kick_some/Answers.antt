@@ -1,23 +1,37 @@
 use Rattle.std.proofs.{Common.{ap, arith, suc, sym, ℕ, ◌+◌, ◌∙◌, ◌≡◌}, lemmas.Grind.common_steps}
-use Rattle.bq_core.proofs.{AskLemmas.{asks_more, asks_then}, KickLemmas.none_kicked}
-use Rattle.bq_state.specs.CoreParts.{machine_of}
+use Rattle.bq_core.proofs.{AskLemmas.{asks_more, asks_then}, FiredTimerLemmas.{chosen, one_fewer}}
+use Rattle.bq_core.proofs.KickLemmas.{kicked_all, kicks_first, none_kicked}
+use Rattle.bq_core.specs.Kicking.{KicksFirst}
+use Rattle.bq_job.specs.machine.{Machine.Machine, kicked}
+use Rattle.bq_state.specs.{CoreParts.{Held, machine_held, machine_of}, JobKinds.is_of}
 use Rattle.bq_core.proofs.kicks.kick_some.Goals as goal
 
 pub loop-done-preserved : goal.loop-done-preserved
 loop-done-preserved c =
     let was = c.loop-done.invariant in
-    let one = c.kick_first.ensures.kicked c.if-not-kick_first.false in
+    let st = c.loop-done.state in
+    let found = c.in-Some.ensures in
+    let one = chosen _ _ _ _ _ _ st.sound.ids found.id in
+    let made = ap (λ (x : Machine). x.jobs) c.change_job.ensures.after in
+    let same = ap (λ (h : Held). h.jobs.jobs) found.kept.same in
+    let kicks : KicksFirst c.args.kind c.args.tube.now st.jobs.jobs c.change_job.new.state.jobs.jobs =
+    rw (made, same, one.id_is) (kicks_first _ _ _ _ _ _ c.requires.out st.sound.ids one.first) in
+    let few = one_fewer (is_of c.args.kind c.args.tube.now) kicked c.in-Some.id 1 st.next_id _ one.job
+    st.sound.ids one.found one.passes_is (c.requires.out one.job) in
     let on : (n : ℕ) → (c.loop-done.done + 1) + n ≡ c.loop-done.done + suc n = λ n. omega arith in
     record {
-      kicked = λ n. rw (on n) (was.kicked (suc n) ∙ one.jobs n);
-      count = λ n. rw (on n) (was.count (suc n) ∙ (let e = one.count n in omega arith));
+      kicked = λ n. rw (on n) (was.kicked (suc n) ∙ kicks.jobs n);
+      count = λ n. rw (on n) (was.count (suc n) ∙ (let e = kicks.count n in omega arith));
       others = grind (arith, common_steps);
-      fewer = grind (arith, common_steps);
-      asks = asks_more _ (omega arith) (asks_then was.asks (rw c.if-not-kick_first.false at c.kick_first.ensures.asks));
+      fewer = rw (made, same) (omega (arith, few, was.fewer));
+      asks = asks_more _ (omega arith) (asks_then was.asks (asks_then found.kept.asks c.change_job.ensures.asks));
     }
 
-pub returns-then-not-kick_first-clause-kicked : goal.returns-then-not-kick_first-clause-kicked
-returns-then-not-kick_first-clause-kicked c = grind (arith, common_steps, none_kicked)
+pub returns-in_default-clause-kicked : goal.returns-in_default-clause-kicked
+returns-in_default-clause-kicked c =
+    let was = c.loop-done.invariant in
+    ap machine_held c.in_default.ensures.kept.same ∙ was.others ∙ ap (λ js. record (machine_of c.args.state.now) { jobs = js })
+    (sym (kicked_all _ _ c.args.bound c.loop-done.done _ _ (omega arith) was.kicked c.in_default.ensures.id))
 
 pub returns-clause-kicked : goal.returns-clause-kicked
 returns-clause-kicked c =
