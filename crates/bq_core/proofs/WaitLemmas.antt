@@ -1,7 +1,8 @@
 -- The ends of waits, one waiting client after another in the order of their turns.
 use Rattle.std.proofs.Common.{Bool, List, None, Option, Some, [], ap, arith, cond, false, get_or, if◌then◌else◌, inl, inr, length, map}
-use Rattle.std.proofs.{Common.{map-id, not, refl, slice_get, sym, true, ℕ, ◌&&◌, ◌+◌, ◌<◌, ◌==◌, ◌∙◌, ◌∷◌, ◌≡◌, ◌≤◌}, lemmas.Bool.and_from}
-use Rattle.std.proofs.lemmas.{Bool.{Decides.nat_tests, and_parts, cases_Bool, eqb-true}, Grind.common_steps, Option.slice_get_read}
+use Rattle.std.proofs.Common.{map-id, not, refl, slice_get, sym, true, ℕ, ◌&&◌, ◌+◌, ◌<◌, ◌==◌, ◌∙◌, ◌∷◌, ◌≡◌, ◌≤◌}
+use Rattle.std.proofs.lemmas.{Bool.{Decides.nat_tests, and_from, and_parts, cases_Bool, eqb-true}, Grind.common_steps}
+use Rattle.std.proofs.lemmas.Option.{slice_get_read}
 use Rattle.std.specs.{List.{AllByRecursion as All, Contains, list_any}, Prelude.count_by}
 use Rattle.bq_core.proofs.{ActLemmas.number_found, AskLemmas.{asks_more, asks_none, asks_then}, TurnLemmas.{gives_joined, gives_nothing}}
 use Rattle.bq_core.{proofs.TurnLemmas.{one_end, room_kept, same_read}, specs.{Turns.{Gives, HasRoom, none_refused}, WaitEnds.LooksAt}}
@@ -86,7 +87,7 @@ module _ (st : CoreParts) (last : Option (ℕ × ℕ)) (looked : AreLookedAt (ma
 
   -- what becomes of it
   module _ (old new : Outbox) (next : Machine) (looks : LooksAt (machine_of st) k old new next) where
-    pub look_given : Gives WaitEndTurn none_refused (machine_of st) next old new
+    look_given : Gives WaitEndTurn none_refused (machine_of st) next old new
     look_given =
         let is = looks s here passes.0 in
         elim (cases_Bool (ends_waiting (machine_of st) s)) [
@@ -101,7 +102,7 @@ module _ (st : CoreParts) (last : Option (ℕ × ℕ)) (looked : AreLookedAt (ma
         ∙ ap (λ seats. record (machine_of st) { seats = seats }) (sym (map-id st.seats.items))
 
     module _ (turn : ℕ × ℕ) (turn_is : turn ≡ turn_of s) where
-      pub look_passed : AreLookedAt next (Some turn)
+      look_passed : AreLookedAt next (Some turn)
       look_passed =
           let b = ends_waiting (machine_of st) s in
           rw (changed b refl, turn_is) (all_of_map _ _ _ (all_from_members _ _ (λ t c. passed t c b (t.number == s.number) refl refl)))
@@ -114,7 +115,7 @@ module _ (st : CoreParts) (last : Option (ℕ × ℕ)) (looked : AreLookedAt (ma
           passed t c true false e o h = comes_after t c (is_left t c h) o
           passed t c false false e o h = comes_after t c (is_left t c h) o
 
-      pub look_falls : left_after (Some turn) next < left_after last (machine_of st)
+      look_falls : left_after (Some turn) next < left_after last (machine_of st)
       look_falls =
           let b = ends_waiting (machine_of st) s in
           let q = waits_after (Some (turn_of s)) in
@@ -132,6 +133,10 @@ module _ (st : CoreParts) (last : Option (ℕ × ℕ)) (looked : AreLookedAt (ma
           out : (b : Bool) → not (waits_after (Some (turn_of s)) (if b then without_wait s else s)) ≡ true
           out true = refl
           out false = grind (arith, common_steps, nat_tests)
+
+      pub looked_on : Gives WaitEndTurn none_refused (machine_of st) next old new × AreLookedAt next (Some turn)
+          × (left_after (Some turn) next < left_after last (machine_of st))
+      looked_on = (look_given, look_passed, look_falls)
 
 -- a turn of the loop over the waiting clients, under a name that an attribute can cite
 pub ruleset ends_of_waits = (common_steps, asks_more, asks_none, asks_then, gives_joined, gives_nothing, room_kept, all_always, count_cons)

@@ -1,10 +1,10 @@
 //! Ends waits: because of a timeout, or because a time to run ends soon.
-ghost use Rattle.std.specs.{List.list_any, Prelude.{IfSome, None, Some, false, if◌then◌else◌, length, slice_get, true, ◌+◌, ◌<◌, ◌≡◌}};
-ghost use Rattle.bq_core.specs.{Serving.IsLastTurn, Turns.{Gives, HasRoom, none_refused}, WaitEnds.{EndsWait, LooksAt}};
+ghost use Rattle.std.specs.{List.list_any, Prelude.{IfSome, None, Some, false, length, slice_get, true, ◌+◌, ◌<◌, ◌≡◌}};
+ghost use Rattle.bq_core.specs.{Turns.{Gives, HasRoom, none_refused}, WaitEnds.{EndsWait, LooksAt}};
 ghost use Rattle.bq_job.specs.{beside.Computed.waiting_count, machine.{Changes.first_of, Dispatch.is_wait_before, Machine.SeatRecord}};
 ghost use Rattle.bq_job.specs.machine.Waits.{WaitEndTurn, is_ending_lease, next_end};
 ghost use Rattle.bq_jobs.specs.Searching.{Asks, Searches};
-ghost use Rattle.bq_state.specs.{CoreParts.{held, machine_of}, EndingWaits.{AreLookedAt, has_waited, is_lease_short, is_soon, left_after}};
+ghost use Rattle.bq_state.specs.{CoreParts.{held, machine_of}, EndingWaits.{has_waited, is_lease_short, is_soon}};
 ghost use Rattle.bq_state.specs.{EndingWaits.{may_end, told_at_end, waits_after}, Keeping.Looks, Places.item_at};
 
 use bq_core_api::Outs;
@@ -78,7 +78,7 @@ fn end_wait(state: &mut CoreParts, outs: &mut Outs, k: usize, answer: Answer)
 
 // Ends the wait of the waiting client at place k if it ends now.
 #[tactic(auto, using(std::proofs::lemmas::Grind::common_steps))]
-fn look_at(state: &mut CoreParts, outs: &mut Outs, k: usize)
+fn end_one(state: &mut CoreParts, outs: &mut Outs, k: usize)
     requires seat { k < length state.old.seats.items }
     requires room { length outs.old.given < outs.old.most }
     ensures looked { LooksAt (machine_of state.old) k outs.old outs.new (machine_of state.new) }
@@ -104,29 +104,6 @@ fn next_waiting(state: &CoreParts, last: Option<Turn>) -> Option<usize>
     }
 }
 
-// Checks the next waiting client after `last`. Returns false if there is none.
-#[tactic(auto, using(crate::proofs::WaitLemmas::none_left))]
-fn turn(state: &mut CoreParts, outs: &mut Outs, last: &mut Option<Turn>) -> bool
-    requires looked { AreLookedAt (machine_of state.old) last.old }
-    requires room { HasRoom 0 (machine_of state.old) outs.old }
-    ensures done { result ≡ false
-        → IsLastTurn (next_end (machine_of state.old)) state.old state.new outs.old outs.new }
-    ensures given { result ≡ true
-        → Gives WaitEndTurn none_refused (machine_of state.old)
-        (machine_of state.new) outs.old outs.new }
-    ensures looked { result ≡ true → AreLookedAt (machine_of state.new) last.new }
-    ensures fewer { result ≡ true
-        → left_after last.new (machine_of state.new) < left_after last.old (machine_of state.old) }
-    ensures asks { Asks (if result then 1 else 0) state.old.jobs state.new.jobs }
-{
-    let Some(k) = next_waiting(state, *last) else {
-        return false;
-    };
-    *last = Some(state.seats[k].turn());
-    look_at(state, outs, k);
-    true
-}
-
 // Ends the waits that end now, if there may be some. Each waiting client is checked once, in the
 // order of tickets.
 #[inline(never)]
@@ -139,7 +116,10 @@ fn end_all(state: &mut CoreParts, outs: &mut Outs)
     ensures asks { Asks (waiting_count (machine_of state.old)) state.old.jobs state.new.jobs }
 {
     let mut last = None;
-    while turn(state, outs, &mut last) {}
+    while let Some(k) = next_waiting(state, last) {
+        last = Some(state.seats[k].turn());
+        end_one(state, outs, k);
+    }
 }
 
 // Returns true if some wait has timed out, or its client sends no more.

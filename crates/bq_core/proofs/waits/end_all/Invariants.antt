@@ -6,8 +6,8 @@ use Rattle.bq_jobs.specs.Searching.{Asks}
 use Rattle.bq_state.specs.{CoreParts.machine_of, EndingWaits.{AreLookedAt, left_after}}
 use Rattle.bq_core.proofs.waits.end_all.Given as goal
 
-abbrev pub invariant-loop-last : goal.invariant-loop-last
-invariant-loop-last l = record {
+abbrev pub invariant-loop-k : goal.invariant-loop-k
+invariant-loop-k l = record {
   given : Gives WaitEndTurn none_refused (machine_of l.fn.state) (machine_of l.state) l.fn.outs l.outs;
   looked : AreLookedAt (machine_of l.state) l.last;
   fewer : left_after l.last (machine_of l.state) ≤ waiting_count (machine_of l.fn.state);
@@ -15,5 +15,5 @@ invariant-loop-last l = record {
   room : HasRoom 0 (machine_of l.state) l.outs;
 }
 
-abbrev pub decreases-loop-last : goal.decreases-loop-last
-decreases-loop-last l = left_after l.last (machine_of l.state)
+abbrev pub decreases-loop-k : goal.decreases-loop-k
+decreases-loop-k l = left_after l.last (machine_of l.state)

@@ -2,7 +2,7 @@ use Rattle.std.proofs.Common.{ap, subst}
 use Rattle.bq_core.{proofs.WaitLemmas.told_is, specs.WaitEnds.EndsWait}
 use Rattle.bq_job.specs.machine.Machine.{Machine}
 use Rattle.bq_state.specs.CoreParts.{machine_held, machine_of}
-use Rattle.bq_core.proofs.waits.look_at.Goals as goal
+use Rattle.bq_core.proofs.waits.end_one.Goals as goal
 
 pub returns-in-Some-clause-looked : goal.returns-in-Some-clause-looked
 returns-in-Some-clause-looked c s found waits =
