@@ -5,7 +5,8 @@ use Rattle.std.{proofs.lemmas.{Grind.common_steps, Nat.mul-le}, specs.{List.AllB
 use Rattle.bq_core.proofs.{ActLemmas.{acts_silent, asking_client, number_found}, AskLemmas.{asks_more, asks_then, search_grows}}
 use Rattle.bq_core.proofs.{CostLemmas.given_length, DispatchLemmas.{id_of_best, next_is, next_offer, taker_known}}
 use Rattle.bq_core.proofs.{SearchLemmas.{client_entries, client_waits}, StepLemmas.waiting_alike, TurnLemmas.{gives_nothing, shared_given}}
-use Rattle.bq_core.{proofs.TurnLemmas.turn_given, specs.{Acting.Acts, AtOnce.{ActsOrGives, is_reserve, waiting_at}, HandOuts.handed_to}}
+use Rattle.bq_core.{proofs.TurnLemmas.turn_given, specs.{Acting.Acts, AtOnce.{ActsOrGives, is_reserve, may_take, waiting_at}}}
+use Rattle.bq_core.specs.HandOuts.{handed_to}
 use Rattle.bq_core.specs.Serving.{NoneIsGone}
 use Rattle.bq_core_api.specs.{Cost.changed_jobs, Outbox.Outbox}
 use Rattle.bq_job.{proofs.{KeptLemmas.only_seat, QuietLemmas.forgets_nothing}, specs.{declared.step.Step.Step, machine.DispatchTurn}}
@@ -13,7 +14,7 @@ use Rattle.bq_job.specs.machine.{Machine.Machine, SeatRecord, effect, forgetting
 use Rattle.bq_job.specs.machine.{raised, reserved_by, seat_with, silent, waiting_from, with_job, without_wait}
 use Rattle.bq_jobs.specs.{Kept.Kept, Searching.Asks, Seen.IsBodyOf}
 use Rattle.bq_state.proofs.{PartsLemmas.numbered_after, WantedLemmas.{known_nothing, known_of_seat, none_known}}
-use Rattle.bq_state.specs.{Asking.{AsksAsChanged, AsksWithin}, CoreParts.{AtSeat, machine_of}, Offers.with_offer, SeatStates.is_asking}
+use Rattle.bq_state.specs.{Asking.{AsksAsChanged, AsksWithin}, CoreParts.{AtSeat, machine_of}, Offers.with_offer}
 use Rattle.bq_state.specs.{WantedJobs.{AreKnown, is_nothing}, declared.core_parts.CoreParts.CoreParts}
 use Rattle.bq_state.specs.declared.{known.wanted.Wanted.TheVariants.{Client, Nothing}, seats.SeatChange.TheVariants.Wait}
 use Rattle.bq_job.specs.declared.answer.Answer.TheVariants as answers
@@ -50,8 +51,7 @@ pub record Reserves (st : CoreParts) (seat : ℕ) (what : Step) : Type 0 where
   until : Option ℕ
   is : effect (machine_of st) seat what ≡ silent (waiting_at seat until (machine_of st))
 
-pub reserves : (st : CoreParts) (seat : ℕ) (what : Step)
-    → (is_reserve what && (is_nothing st.known.wanted && is_asking (seat_with seat st.seats.items))) ≡ true → Reserves st seat what
+pub reserves : (st : CoreParts) (seat : ℕ) (what : Step) → may_take seat what st ≡ true → Reserves st seat what
 reserves st seat what may =
     let parts = and_parts (is_reserve what) _ may in
     let both = and_parts (is_nothing st.known.wanted) _ parts.1 in

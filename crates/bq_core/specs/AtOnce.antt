@@ -1,11 +1,12 @@
 -- A command's own effect, and the job that a reserve is given at once.
-use Rattle.std.specs.Prelude.{Bool, Option, false, length, true, ℕ, ◌*◌, ◌+◌, ◌≡◌}
+use Rattle.std.specs.Prelude.{Bool, Option, false, length, true, ℕ, ◌&&◌, ◌*◌, ◌+◌, ◌≡◌}
 use Rattle.bq_core.specs.{Acting.Acts, Turns.Gives}
 use Rattle.bq_core_api.specs.{Cost.changed_jobs, Outbox.Outbox}
 use Rattle.bq_job.specs.{declared.{request.Request.Request, step.Step.Step}, machine.{DispatchTurn, forgetting, has_refused_share, raised}}
-use Rattle.bq_job.specs.machine.{Machine.Machine, waiting_from, with_seat}
+use Rattle.bq_job.specs.machine.{Machine.Machine, seat_with, waiting_from, with_seat}
 use Rattle.bq_jobs.specs.{Kept.Kept, Searching.Asks}
-use Rattle.bq_state.specs.{Asking.AsksWithin, Cost.waited}
+use Rattle.bq_state.specs.{Asking.AsksWithin, Cost.waited, SeatStates.is_asking, WantedJobs.is_nothing}
+use Rattle.bq_state.specs.declared.core_parts.CoreParts.{CoreParts}
 use Rattle.bq_job.specs.declared.request.Request.TheVariants as requests
 use Rattle.bq_job.specs.declared.step.Step.TheVariants as steps
 
@@ -17,6 +18,10 @@ is_reserve_request request = false
 abbrev pub is_reserve : Step → Bool
 is_reserve (steps.Ask request) = is_reserve_request request
 is_reserve what = false
+
+-- the step is a reserve of a client that can ask, and no waiting client may have a job
+abbrev pub may_take : ℕ → Step → CoreParts → Bool
+may_take seat what st = is_reserve what && (is_nothing st.known.wanted && is_asking (seat_with seat st.seats.items))
 
 -- the model once the client at this seat waits, with the next ticket
 abbrev pub waiting_at : ℕ → Option ℕ → Machine → Machine

@@ -1,15 +1,11 @@
 -- Dispatch, and then the ends of waits, with their answers appended.
-use Rattle.std.specs.{List.list_all, Prelude.{IsTrue, List, None, Option, length, ℕ, ◌*◌, ◌++◌, ◌+◌, ◌||◌, ◌≡◌}}
+use Rattle.std.specs.{List.list_all, Prelude.{IsTrue, List, length, ℕ, ◌*◌, ◌++◌, ◌+◌, ◌||◌, ◌≡◌}}
 use Rattle.bq_core.specs.Turns.{HasRoom}
 use Rattle.bq_core_api.specs.{Cost.IsStepWithin, Outbox.{Outbox, outcome_of}}
 use Rattle.bq_job.specs.{beside.waiting_count, declared.step.Step.Step, machine.{GivenAnswer, Serves, has_refused_share, is_tube}}
 use Rattle.bq_job.specs.machine.Machine.{Machine}
 use Rattle.bq_jobs.specs.{Kept.Kept, Searching.Asks}
 use Rattle.bq_state.specs.{CoreParts.machine_of, Cost.waited, declared.core_parts.CoreParts.CoreParts}
-
--- there was no next turn, and nothing happened
-abbrev pub IsLastTurn : {A : Type 0} → Option A → CoreParts → CoreParts → Outbox → Outbox → Type 0
-IsLastTurn next old new outs more = (next ≡ None) × (machine_of new ≡ machine_of old) × (more ≡ outs)
 
 -- The model keeps no records of tubes that do not exist.
 abbrev pub NoneIsGone : Machine → Type 0

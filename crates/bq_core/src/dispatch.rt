@@ -1,17 +1,17 @@
 //! Hands ready jobs out: to the clients that wait for them, and to a client whose reserve finds one at
 //! once.
-ghost use Rattle.std.specs.{List.{AllByRecursion, list_any, sum_by}, Option.option_map, Prelude.{IfOk, IfSome, None, Some, [], false}};
+ghost use Rattle.std.specs.{List.sum_by, Option.option_map, Prelude.{IfOk, IfSome, None, Some, []}};
 ghost use Rattle.std.specs.Prelude.{fold, if◌then◌else◌, is_some, length, true, ◌&&◌, ◌++◌, ◌+◌, ◌<◌, ◌∷◌, ◌≡◌};
-ghost use Rattle.bq_core.specs.{AtOnce.{ActsOrGives, is_reserve}, HandOuts.{HandsOut, IsPicked, handed_to}, Serving.IsLastTurn};
+ghost use Rattle.bq_core.specs.{AtOnce.{ActsOrGives, is_reserve, may_take}, HandOuts.{HandsOut, IsPicked, handed_to}};
 ghost use Rattle.bq_core.specs.{Serving.NoneIsGone, Turns.{Gives, HasRoom}};
-ghost use Rattle.bq_job.specs.{beside.Computed.waiting_count, machine.Changes.{first_of, job_with, seat_with, with_job, with_seat}};
-ghost use Rattle.bq_job.specs.machine.{Changes.without_wait, Dispatch.{DispatchTurn, is_wait_before, next_job, reserved_by}, Limits.raised};
+ghost use Rattle.bq_job.specs.{beside.Computed.waiting_count, machine.Changes.{job_with, seat_with, with_job, with_seat}};
+ghost use Rattle.bq_job.specs.machine.{Changes.without_wait, Dispatch.{DispatchTurn, next_job, reserved_by}, Limits.raised};
 ghost use Rattle.bq_job.specs.machine.Steps.{has_refused_share};
 ghost use Rattle.bq_jobs.specs.{Searching.{Asks, Searches}, Seen.IsBodyOf};
 ghost use Rattle.bq_state.specs.{Asking.AsksByTurn, CoreParts.{AtSeat, machine_of}, Cost.{waited, waited_tubes}, Keeping.Looks};
-ghost use Rattle.bq_state.specs.Offers.{better_rank, is_waited_at, next_rank, offered, these, waits_at, with_offer, with_offers};
-ghost use Rattle.bq_state.specs.{SeatChanges.AreNumbered, SeatStates.is_asking, WaitingTurns.{by_seat, turns_of, waited_at}};
-ghost use Rattle.bq_state.specs.WantedJobs.{is_nothing, may_get};
+ghost use Rattle.bq_state.specs.Offers.{better_rank, is_waited_at, next_rank, offered, these, with_offer, with_offers};
+ghost use Rattle.bq_state.specs.{SeatChanges.AreNumbered, WaitingTurns.{by_seat, turns_of, waited_at}};
+ghost use Rattle.bq_state.specs.WantedJobs.{is_nothing};
 ghost use Rattle.bq_job.specs.declared.answer.Answer.TheVariants as answers;
 
 use crate::acts;
@@ -201,12 +201,15 @@ fn next_offer(state: &mut CoreParts) -> Option<Offer>
     }
 }
 
-// Returns the id of the job that is handed out next.
-#[tactic(auto, using(crate::proofs::DispatchLemmas::id_of_best))]
+// Returns the id of the job that is handed out next. If no client waits, nothing is searched.
+#[tactic(auto, using(crate::proofs::AskLemmas::asks_more, crate::proofs::AskLemmas::asks_none, crate::proofs::DispatchLemmas::id_of_best))]
 fn next_job(state: &mut CoreParts) -> Option<JobId>
     ensures id { result ≡ option_map (λ j. j.id) (next_job (machine_of state.old)) }
     ensures kept { Looks (waited (machine_of state.old)) state.old state.new }
 {
+    if !state.has_waiter() {
+        return None;
+    }
     match next_offer(state) {
         None => None,
         Some((_, id)) => Some(id),
@@ -305,30 +308,18 @@ fn hand_out(
     }
 }
 
-// Hands one job out, if there is one that a waiting client may have.
-fn turn(state: &mut CoreParts, outs: &mut Outs) -> bool
+// Hands out the next job, which has this id. Some client waits for it.
+fn hand_out_one(state: &mut CoreParts, outs: &mut Outs, id: JobId)
+    requires next { Some id ≡ option_map (λ j. j.id) (next_job (machine_of state.old)) }
     requires room { HasRoom 0 (machine_of state.old) outs.old }
-    ensures done { result ≡ false
-        → IsLastTurn (next_job (machine_of state.old)) state.old state.new outs.old outs.new }
-    ensures given { result ≡ true
-        → Gives DispatchTurn has_refused_share (machine_of state.old)
+    ensures given { Gives DispatchTurn has_refused_share (machine_of state.old)
         (machine_of state.new) outs.old outs.new }
-    ensures fewer { result ≡ true
-        → waiting_count (machine_of state.new) < waiting_count (machine_of state.old) }
-    ensures asks { Asks (if result then waited (machine_of state.old) + 9 else waited (machine_of state.old))
-        state.old.jobs state.new.jobs }
+    ensures fewer { waiting_count (machine_of state.new) < waiting_count (machine_of state.old) }
+    ensures asks { Asks 9 state.old.jobs state.new.jobs }
 {
-    if !state.has_waiter() {
-        return false;
+    if let Some((number, shared)) = pick(state, id) {
+        hand_out(state, outs, id, number, shared);
     }
-    let Some(id) = next_job(state) else {
-        return false;
-    };
-    let Some((number, shared)) = pick(state, id) else {
-        return false;
-    };
-    hand_out(state, outs, id, number, shared);
-    true
 }
 
 // While a waiting client may have a ready job, hands the least such job out to the client that has
@@ -343,7 +334,9 @@ fn dispatch_all(state: &mut CoreParts, outs: &mut Outs)
     ensures asks { AsksByTurn
         (waited (machine_of state.old)) outs.old outs.new state.old.jobs state.new.jobs }
 {
-    while turn(state, outs) {}
+    while let Some(id) = next_job(state) {
+        hand_out_one(state, outs, id);
+    }
 }
 
 /// While a waiting client may have a ready job, hands the least such job out to the client that has
@@ -376,22 +369,25 @@ fn is_reserve(what: &Step) -> bool
 // Returns true if the step is a reserve of a client that can ask, and no waiting client may have a
 // job.
 fn may_take(state: &CoreParts, seat: Seat, what: &Step) -> bool
-    ensures { result ≡ (is_reserve what.now
-        && (is_nothing state.now.known.wanted && is_asking (seat_with seat state.now.seats.items))) }
+    ensures { result ≡ may_take seat what.now state.now }
 {
     is_reserve(what) && (state.known.wanted.is_nothing() && state.is_asking(seat))
 }
 
-// Returns the job that the client at the seat would be handed if it waited, and another reference to
-// its body. Returns None if there is no such job, if the client watches many tubes, or if the
-// body cannot be shared.
-fn find_job(state: &mut CoreParts, seat: Seat) -> Option<(JobId, Body)>
+// Returns the job that the client at the seat is handed at once, and another reference to its body.
+// Returns None if the step may take no job, if there is none, if the client watches many tubes, or
+// if the body cannot be shared.
+fn job_at_once(state: &mut CoreParts, seat: Seat, what: &Step) -> Option<(JobId, Body)>
+    ensures may { IfSome result (λ _. may_take seat what.now state.old ≡ true) }
     ensures job { IfSome result (λ p. AtSeat seat state.old (λ s. Some p.0
         ≡ option_map (λ r. r.1) (fold (with_offer state.old.jobs.jobs state.old.tubes.entries) None s.watched))) }
     ensures body { IfSome result (λ p. IsBodyOf (job_with p.0 (machine_of state.old).jobs) p.1) }
     ensures few { IfSome result (λ _. AtSeat seat state.old (λ s. Asks (length s.watched + 1) state.old.jobs state.new.jobs)) }
     ensures kept { Looks 9 state.old state.new }
 {
+    if !may_take(state, seat, what) {
+        return None;
+    }
     if state.known.tally.ready == 0 {
         return None;
     }
@@ -422,24 +418,6 @@ fn hand_over(state: &mut CoreParts, outs: &mut Outs, seat: Seat, id: JobId, body
     outs.push(seat, Answer::Reserved(id, body));
 }
 
-// Hands the client a job if the step is a reserve and there is a job for it. Returns whether it did;
-// if not, nothing is changed.
-fn reserve(state: &mut CoreParts, seat: Seat, what: &Step, outs: &mut Outs) -> bool
-    requires tubes { NoneIsGone (machine_of state.old) }
-    requires room { HasRoom 1 (machine_of state.old) outs.old }
-    ensures same { result ≡ false → (machine_of state.new ≡ machine_of state.old) × (outs.new ≡ outs.old) × Asks 9 state.old.jobs state.new.jobs }
-    ensures given { result ≡ true → ActsOrGives (machine_of state.old) seat what.now outs.old outs.new (machine_of state.new) state.old.jobs state.new.jobs }
-{
-    if !may_take(state, seat, what) {
-        return false;
-    }
-    let Some((id, body)) = find_job(state, seat) else {
-        return false;
-    };
-    hand_over(state, outs, seat, id, body);
-    true
-}
-
 /// Carries out the command's own effect and drops tubes that are gone. If the command is a reserve
 /// and its client may have a job, the client is handed the job: by the rules it begins to wait, and
 /// dispatch then hands it the job and ends its wait. Here it is not entered among the clients that
@@ -455,9 +433,11 @@ pub(crate) fn act_or_hand_out(
     requires room { HasRoom 1 (machine_of state.old) outs.old }
     ensures { ActsOrGives (machine_of state.old) seat what.now outs.old outs.new (machine_of state.new) state.old.jobs state.new.jobs }
 {
-    if reserve(state, seat, what, outs) {
-        return;
+    match job_at_once(state, seat, what) {
+        Some((id, body)) => hand_over(state, outs, seat, id, body),
+        None => {
+            acts::act(state, alloc, seat, what, outs);
+            changes::forget_tubes(state);
+        }
     }
-    acts::act(state, alloc, seat, what, outs);
-    changes::forget_tubes(state);
 }

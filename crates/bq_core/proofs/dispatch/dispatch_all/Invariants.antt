@@ -6,12 +6,12 @@ use Rattle.bq_jobs.specs.Searching.{Asks}
 use Rattle.bq_state.specs.{CoreParts.machine_of, Cost.waited}
 use Rattle.bq_core.proofs.dispatch.dispatch_all.Given as goal
 
-abbrev pub invariant-loop : goal.invariant-loop
-invariant-loop l = record {
+abbrev pub invariant-loop-id : goal.invariant-loop-id
+invariant-loop-id l = record {
   given : Gives DispatchTurn has_refused_share (machine_of l.fn.state) (machine_of l.state) l.fn.outs l.outs;
   asks : Asks ((length l.outs.given - length l.fn.outs.given) * (waited (machine_of l.fn.state) + 9)) l.fn.state.jobs l.state.jobs;
   room : HasRoom 0 (machine_of l.state) l.outs;
 }
 
-abbrev pub decreases-loop : goal.decreases-loop
-decreases-loop l = waiting_count (machine_of l.state)
+abbrev pub decreases-loop-id : goal.decreases-loop-id
+decreases-loop-id l = waiting_count (machine_of l.state)
