@@ -14,7 +14,6 @@ pub mod SeenLemmas
 pub mod SocketLemmas
 pub mod StreamLemmas
 pub mod SureLemmas
-pub mod TailLemmas
 pub mod TendingLemmas
 pub mod TogetherLemmas
 pub mod WritingLemmas

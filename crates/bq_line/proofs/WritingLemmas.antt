@@ -1,12 +1,11 @@
 -- Texts that are written in several parts.
-use Rattle.std.proofs.Common.{◌≡◌, ℕ, ◌+◌, ◌-◌, ◌≤◌, Bool, true, false, nat_lt, List, [], ◌∷◌, ◌++◌, append-nil}
+use Rattle.std.proofs.Common.{◌≡◌, ℕ, ◌+◌, ◌-◌, ◌≤◌, Bool, true, false, List, [], ◌∷◌, ◌++◌, append-nil}
 use Rattle.std.proofs.Common.{refl, sym, ap, subst, ◌∙◌, arith, length, take, take_all, drop, take-add, append_assoc, if◌then◌else◌}
 use Rattle.std.proofs.Common.{◌==◌, Result, Ok, Err}
 use Rattle.std.specs.Io.{WritesAtMost}
 use Rattle.std.proofs.lemmas.Bool.Decides.{nat_tests}
 use Rattle.std.proofs.lemmas.Grind.{common_steps}
-use Rattle.std.proofs.lemmas.List.{length-append, take-append-drop, take-append-le, drop-append-le, drop_all}
-use Rattle.std.proofs.Math.Seq.{drop-append-add}
+use Rattle.std.proofs.lemmas.List.{length-append, take-append-drop, take-append-le}
 use Rattle.bq_job.specs.promise.LineSteps.{LineSeen, IsBeginning}
 use Rattle.bq_job.specs.declared.line_end.LineFault.TheVariants as faults
 use Rattle.bq_line.specs.LineCalls.{after_write, with_line_fault}
@@ -65,13 +64,6 @@ pub breaks_off : (old mid new : LineSeen) (text cut : List ℕ) → IsBeginning 
     → new ≡ with_line_fault faults.Write mid → BreaksOff text old new
 breaks_off old mid new text cut begins m n = record { cut = cut; is_beginning = begins; seen = n ∙ ap (with_line_fault faults.Write) m }
 
-pub breaks_at_once : (old new : LineSeen) (text : List ℕ) → new ≡ with_line_fault faults.Write old → BreaksOff text old new
-breaks_at_once old new text n = record {
-  cut = [];
-  is_beginning = (text, refl);
-  seen = n ∙ ap (λ w. with_line_fault faults.Write (record old { written = w })) (sym (append-nil old.written));
-}
-
 pub take_begins : (n : ℕ) (bytes : List ℕ) → IsBeginning (take n bytes) bytes
 take_begins n bytes = (drop n bytes, sym (take-append-drop n bytes))
 
@@ -93,21 +85,6 @@ stops text old new first sent wrote false at w n =
 pub whole_on : (text : List ℕ) (new first : LineSeen) (sent : ℕ) → length text ≤ sent → new ≡ with_begun text sent first
     → new ≡ with_written text first
 whole_on text new first sent all n = n ∙ ap (λ bytes. with_written bytes first) (take_all sent text all)
-
--- what remains of two parts
-pub left_of_two : (n : ℕ) (xs ys : List ℕ) → drop n (xs ++ ys) ≡ drop n xs ++ drop (n - length xs) ys
-left_of_two n xs ys = by (nat_lt n (length xs)) refl
-  where
-    by : (b : Bool) → nat_lt n (length xs) ≡ b → drop n (xs ++ ys) ≡ drop n xs ++ drop (n - length xs) ys
-    by true h =
-        let within : n ≤ length xs = grind (arith, nat_tests, h) in
-        let none : n - length xs ≡ 0 = omega (arith, within) in
-        drop-append-le n xs ys within ∙ ap (λ m. drop n xs ++ drop m ys) (sym none)
-    by false h =
-        let beyond : length xs ≤ n = grind (arith, nat_tests, h) in
-        let parts : n ≡ length xs + (n - length xs) = omega (arith, beyond) in
-        ap (λ m. drop m (xs ++ ys)) parts ∙ drop-append-add xs ys (n - length xs)
-        ∙ ap (λ l. l ++ drop (n - length xs) ys) (sym (drop_all n xs beyond))
 
 -- two parts without bytes
 pub nothing_appended : (head body tail : List ℕ) → (length body == 0) ≡ true → (length tail == 0) ≡ true → head ≡ head ++ body ++ tail

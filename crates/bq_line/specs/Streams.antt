@@ -1,6 +1,6 @@
 -- The state of a stream in both directions, what a connection over it moved, and why it may have
 -- failed.
-use Rattle.std.specs.Prelude.{ℕ, ◌≡◌, ◌<◌, Bool, false, true, List, length, Option, None, Some, Result, Ok, Err, IfSome}
+use Rattle.std.specs.Prelude.{ℕ, ◌≡◌, ◌<◌, Bool, false, true, List, length, Option, None, Result, Ok, Err, IfSome}
 use Rattle.std.proofs.Common.{◌∙◌, sym, true≢false}
 use Rattle.std.specs.Io.{ReadsAtMost, WritesAtMost}
 use Rattle.std.specs.Io.KnownBytes.{Appends, Consumes, Keeps, ReadConsumes, WriteAppends}

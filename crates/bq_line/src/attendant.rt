@@ -185,17 +185,6 @@ impl<L: Line + Drop> Attendant<L> {
         matches!(self.place, LinePlace::On(_, Action::Write(_), _))
     }
 
-    /// Returns true if it is blocked on input that has not come, as far as its connection knows: it
-    /// wants to read and has no outstanding answer.
-    pub fn awaits_bytes(&self) -> bool {
-        match &self.place {
-            LinePlace::On(line, Action::Read, _) => {
-                !line.may_give() && !self.machine.has_outstanding()
-            }
-            _ => false,
-        }
-    }
-
     /// Returns true if it has to read or write again although nothing moved and no event will
     /// report it, because the call was interrupted or timed out. A seat that waits for an answer
     /// polls its mail before it reads again.
