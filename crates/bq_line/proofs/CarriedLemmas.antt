@@ -10,11 +10,11 @@ use Rattle.bq_seat.specs.declared.machine.Event.{Event}
 use Rattle.bq_seat.specs.declared.machine.Event.TheVariants as events
 use Rattle.bq_seat.specs.SeatMoves.{IsMove}
 use Rattle.bq_job.specs.texts.AnswerText.{answer_text}
-use Rattle.bq_line.specs.declared.buffers.Wrote.TheVariants as wrotes
-use Rattle.bq_line.specs.Carried.{CanEnd, Carried, CarriedPart, EndsAs, HasGone, IsPolledAs, IsReadAs, IsSubmittedAs, MayCall, with_part}
+use Rattle.bq_line.specs.Carried.{CanEnd, Carried, CarriedPart, EndsAs, HasGone, IsPolledAs, IsReadAs, IsSubmittedAs, IsWrittenAs, MayCall}
+use Rattle.bq_line.specs.Carried.{with_part}
 use Rattle.bq_line.specs.declared.attendant.Progress.{Progress}
 use Rattle.bq_line.specs.declared.attendant.Progress.TheVariants as results
-use Rattle.bq_line.specs.Writing.{Resumes}
+use Rattle.bq_line.specs.Writing.{BreaksOff, with_begun, with_written}
 use Rattle.bq_line.specs.Links.{Calls}
 use Rattle.bq_line.specs.Submitting.{IsSubmittedOn}
 use Rattle.bq_line.specs.Tending.{MayEndAt}
@@ -27,13 +27,6 @@ abbrev pub Comes : {K : Type 0} → (K → List Step → List Answer → K → T
 Comes went result old seen link new later after next action =
     (submitted : List Step) × (taken : List Answer) × HasGone went link action submitted taken after
     × Carried result old seen action new later next submitted taken
-
-pub comes_by : {K : Type 0} (went : K → List Step → List Answer → K → Type 0) (result : Progress) (old : SeatMachine) (seen : LineSeen)
-    (link : K) (new : SeatMachine) (later : LineSeen) (after : K) (next action same : Action)
-    → action ≡ same → (submitted : List Step) (taken : List Answer) → HasGone went link same submitted taken after
-    → Carried result old seen same new later next submitted taken → Comes went result old seen link new later after next action
-comes_by went result old seen link new later after next action same e submitted taken h c =
-    subst (Comes went result old seen link new later after next) (sym e) (submitted, taken, h, c)
 
 -- the same by parts
 abbrev pub ComesOn : {K : Type 0} → (K → List Step → List Answer → K → Type 0) → Progress → SeatMachine → LineSeen → ℕ → K → SeatMachine
@@ -61,16 +54,6 @@ same_before (actions.Write answer) sent line other = absurd (other answer refl)
 same_before (actions.LineOver end) sent line other = refl
 same_before actions.Stray sent line other = refl
 
-may_call : (result : Progress) (old : SeatMachine) (seen : LineSeen) (action : Action) (new : SeatMachine) (later : LineSeen)
-    (next : Action) (submitted : List Step) (taken : List Answer)
-    → Carried result old seen action new later next submitted taken → MayCall action submitted taken
-may_call result old seen (actions.Submit step) new later next submitted taken c = tt
-may_call result old seen actions.Read new later next submitted taken c = (c.0, c.1)
-may_call result old seen actions.PollMail new later next submitted taken c = tt
-may_call result old seen (actions.Write answer) new later next submitted taken c = (c.0, c.1)
-may_call result old seen (actions.LineOver end) new later next submitted taken c = (c.none_submitted, c.none_taken)
-may_call result old seen actions.Stray new later next submitted taken c = (c.none_submitted, c.none_taken)
-
 ends_submitted : (result : Progress) (old : SeatMachine) (step : Step) (new : SeatMachine) (next : Action) (submitted : List Step)
     (taken : List Answer)
     → IsSubmittedAs result old step new next submitted → taken ≡ [] → EndsAs result (actions.Submit step) submitted taken
@@ -92,111 +75,75 @@ ends_polled results.Moved old new next submitted taken c s = record { can_end = 
 ends_polled results.NoMail old new next submitted taken c s = record { can_end = inr refl; still = λ moved. (s, c.0) }
 ends_polled _ old new next submitted taken c s = absurd c
 
--- What the result of an action says about it.
+-- What the result of an action that writes no answer says about it, and whether it used the link.
 ends_as : (result : Progress) (old : SeatMachine) (seen : LineSeen) (action : Action) (new : SeatMachine) (later : LineSeen) (next : Action)
     (submitted : List Step) (taken : List Answer) → ((answer : Answer) → action ≡ actions.Write answer → ⊥)
-    → Carried result old seen action new later next submitted taken → EndsAs result action submitted taken
+    → Carried result old seen action new later next submitted taken → EndsAs result action submitted taken × MayCall action submitted taken
 ends_as result old seen (actions.Submit step) new later next submitted taken other c =
-    ends_submitted result old step new next submitted taken c.2 c.1
+    (ends_submitted result old step new next submitted taken c.2 c.1, tt)
 ends_as result old seen actions.Read new later next submitted taken other c =
-    record { can_end = ends_read result seen c.2.0 later c.2.1; still = λ moved. (c.0, c.1) }
+    (record { can_end = ends_read result seen c.2.0 later c.2.1; still = λ moved. (c.0, c.1) }, (c.0, c.1))
 ends_as result old seen actions.PollMail new later next submitted taken other c =
-    ends_polled result old new next submitted taken c.2 c.1
+    (ends_polled result old new next submitted taken c.2 c.1, tt)
 ends_as result old seen (actions.Write answer) new later next submitted taken other c = absurd (other answer refl)
 ends_as result old seen (actions.LineOver end) new later next submitted taken other c =
-    record { can_end = c.result_is; still = λ moved. (c.none_submitted, c.none_taken) }
+    (record { can_end = c.result_is; still = λ moved. (c.none_submitted, c.none_taken) }, (c.none_submitted, c.none_taken))
 ends_as result old seen actions.Stray new later next submitted taken other c =
-    record { can_end = c.result_is; still = λ moved. (c.none_submitted, c.none_taken) }
+    (record { can_end = c.result_is; still = λ moved. (c.none_submitted, c.none_taken) }, (c.none_submitted, c.none_taken))
 
 -- An action that writes no answer was carried out at once.
 pub at_once : {K : Type 0} (went : K → List Step → List Answer → K → Type 0) (result : Progress) (old : SeatMachine) (seen : LineSeen)
     (sent : ℕ) (link : K) (new : SeatMachine) (later : LineSeen) (after : K) (next action : Action)
     → ((answer : Answer) → action ≡ actions.Write answer → ⊥) → Comes went result old seen link new later after next action
     → ComesOn went result old seen sent link new later 0 after next action
-at_once went result old seen sent link new later after next action other c = (
-  c.0,
-  c.1,
-  c.2,
-  (
-    ends_as result old seen action new later next c.0 c.1 other c.3,
-    may_call result old seen action new later next c.0 c.1 c.3,
-    λ first e. (
-      later,
-      none_begun next later,
-      subst (λ s. Carried result old s action new later next c.0 c.1) (e ∙ same_before action sent first other) c.3,
+at_once went result old seen sent link new later after next action other c =
+    let ends = ends_as result old seen action new later next c.0 c.1 other c.3 in
+    let carried = λ (first : LineSeen) (begun : seen ≡ with_part action sent first).
+    subst (λ line. Carried result old line action new later next c.0 c.1) (begun ∙ same_before action sent first other) c.3 in
+    (c.0, c.1, c.2, (ends.0, ends.1, λ first begun. (later, none_begun next later, carried first begun)))
+
+module _ {K : Type 0} (went : K → List Step → List Answer → K → Type 0) (old : SeatMachine) (seen later : LineSeen) (sent : ℕ) (link : K)
+    {action : Action} {answer : Answer} (is : action ≡ actions.Write answer) where
+  -- Nothing is submitted or taken while an answer is written.
+  wrote_as : (result : Progress) (new : SeatMachine) (next : Action) (now : ℕ) → CanEnd result (actions.Write answer)
+      → ((first : LineSeen) → seen ≡ with_begun (answer_text answer) sent first
+      → (last : LineSeen) × (later ≡ with_part next now last) × IsWrittenAs result old first answer new last next)
+      → ComesOn went result old seen sent link new later now link next action
+  wrote_as result new next now can wrote = rw is (
+    [],
+    [],
+    refl,
+    (
+      record { can_end = can; still = λ moved. (refl, refl) },
+      (refl, refl),
+      λ first begun. let w = wrote first begun in (w.0, w.1, (refl, refl, w.2)),
     ),
-  ),
-)
+  )
 
--- Nothing is submitted or taken while an answer is written.
-pub ends_write : (result : Progress) (answer : Answer) → CanEnd result (actions.Write answer)
-    → EndsAs result (actions.Write answer) [] []
-ends_write result answer can = record { can_end = can; still = λ moved. (refl, refl) }
+  -- The rest of the answer was written: all of it, as far as there was room, or it was cut off.
+  pub wrote_whole : {new : SeatMachine} {next : Action}
+      → ((first : LineSeen) → seen ≡ with_begun (answer_text answer) sent first → later ≡ with_written (answer_text answer) first)
+      → IsMove old events.WriteDone next new → ComesOn went results.Moved old seen sent link new later 0 link next action
+  wrote_whole {new = new} {next = next} w move =
+      wrote_as results.Moved new next 0 (inl refl) (λ first begun. (later, none_begun next later, inl (w first begun, move)))
 
--- The rest of the answer was written: all of it, as far as there was room, or it was cut off.
-pub wrote_whole : {K : Type 0} (went : K → List Step → List Answer → K → Type 0) (old : SeatMachine) (seen : LineSeen) (sent : ℕ) (link : K)
-    (new : SeatMachine) (later : LineSeen) (now : ℕ) (next : Action) {action : Action} (answer : Answer)
-    → action ≡ actions.Write answer → Resumes (answer_text answer) sent seen wrotes.Whole now later → IsMove old events.WriteDone next new
-    → ComesOn went results.Moved old seen sent link new later 0 link next action
-wrote_whole went old seen sent link new later now next answer e w move =
-    subst (ComesOn went results.Moved old seen sent link new later 0 link next) (sym e) (
-      [],
-      [],
-      refl,
-      (
-        ends_write results.Moved answer (inl refl),
-        (refl, refl),
-        λ first f. (later, none_begun next later, (refl, refl, inl (w first f, move))),
-      ),
-    )
+  pub broke_off : {new : SeatMachine} {next : Action}
+      → ((first : LineSeen) → seen ≡ with_begun (answer_text answer) sent first → BreaksOff (answer_text answer) first later)
+      → IsMove old events.WriteFault next new → ComesOn went results.Moved old seen sent link new later 0 link next action
+  broke_off {new = new} {next = next} w move =
+      wrote_as results.Moved new next 0 (inl refl) (λ first begun. (later, none_begun next later, inr (w first begun, move)))
 
-pub not_yet : {K : Type 0} (went : K → List Step → List Answer → K → Type 0) (old : SeatMachine) (seen : LineSeen) (sent : ℕ) (link : K)
-    (later : LineSeen) (now : ℕ) {action : Action} (answer : Answer)
-    → action ≡ actions.Write answer → Resumes (answer_text answer) sent seen wrotes.NotYet now later
-    → ComesOn went results.NoRoom old seen sent link old later now link (actions.Write answer) action
-not_yet went old seen sent link later now answer e w =
-    subst (ComesOn went results.NoRoom old seen sent link old later now link (actions.Write answer)) (sym e) (
-      [],
-      [],
-      refl,
-      (
-        ends_write results.NoRoom answer (inr (inl refl)),
-        (refl, refl),
-        λ first f. (first, w first f, (refl, refl, (refl, refl, refl))),
-      ),
-    )
+  pub not_yet : (now : ℕ)
+      → ((first : LineSeen) → seen ≡ with_begun (answer_text answer) sent first → later ≡ with_begun (answer_text answer) now first)
+      → ComesOn went results.NoRoom old seen sent link old later now link (actions.Write answer) action
+  not_yet now w =
+      wrote_as results.NoRoom old (actions.Write answer) now (inr (inl refl)) (λ first begun. (first, w first begun, (refl, refl, refl)))
 
-pub wrote_part : {K : Type 0} (went : K → List Step → List Answer → K → Type 0) (old : SeatMachine) (seen : LineSeen) (sent : ℕ) (link : K)
-    (later : LineSeen) (now : ℕ) {action : Action} (answer : Answer)
-    → action ≡ actions.Write answer → Resumes (answer_text answer) sent seen wrotes.Part now later
-    → ComesOn went results.Part old seen sent link old later now link (actions.Write answer) action
-wrote_part went old seen sent link later now answer e w =
-    subst (ComesOn went results.Part old seen sent link old later now link (actions.Write answer)) (sym e) (
-      [],
-      [],
-      refl,
-      (
-        ends_write results.Part answer (inr (inr refl)),
-        (refl, refl),
-        λ first f. (first, w first f, (refl, refl, (refl, refl, refl))),
-      ),
-    )
-
-pub broke_off : {K : Type 0} (went : K → List Step → List Answer → K → Type 0) (old : SeatMachine) (seen : LineSeen) (sent : ℕ) (link : K)
-    (new : SeatMachine) (later : LineSeen) (now : ℕ) (next : Action) {action : Action} (answer : Answer)
-    → action ≡ actions.Write answer → Resumes (answer_text answer) sent seen wrotes.Fault now later → IsMove old events.WriteFault next new
-    → ComesOn went results.Moved old seen sent link new later 0 link next action
-broke_off went old seen sent link new later now next answer e w move =
-    subst (ComesOn went results.Moved old seen sent link new later 0 link next) (sym e) (
-      [],
-      [],
-      refl,
-      (
-        ends_write results.Moved answer (inl refl),
-        (refl, refl),
-        λ first f. (later, none_begun next later, (refl, refl, inr (w first f, move))),
-      ),
-    )
+  pub wrote_part : (now : ℕ)
+      → ((first : LineSeen) → seen ≡ with_begun (answer_text answer) sent first → later ≡ with_begun (answer_text answer) now first)
+      → ComesOn went results.Part old seen sent link old later now link (actions.Write answer) action
+  wrote_part now w =
+      wrote_as results.Part old (actions.Write answer) now (inr (inr refl)) (λ first begun. (first, w first begun, (refl, refl, refl)))
 
 none : (P : List Step → List Answer → Type 0) (submitted : List Step) (taken : List Answer) → submitted ≡ [] → taken ≡ []
     → P [] [] → P submitted taken

@@ -4,6 +4,7 @@ use Rattle.std.proofs.Common.{[], ◌∷◌, ◌++◌, refl, sym, ap, ◌∙◌,
 use Rattle.std.proofs.Common.{replicate, subst, inl, inr, Option, Some, None, IfSome, true≢false, if◌then◌else◌}
 use Rattle.std.proofs.lemmas.List.{replicate-append-replicate}
 use Rattle.std.proofs.lemmas.Bool.{cases_Bool}
+use Rattle.std.proofs.KnownBytes.{Consumes-nil, Consumes-trans}
 use Rattle.std.specs.Prelude.{nat_eq}
 use Rattle.std.specs.Cmp.Lexicographic.{pointwise}
 use Rattle.bq_job.specs.promise.ControlDid.{are_same, drain_word, drains, drains_from, one_if}
@@ -66,24 +67,18 @@ line_read kept byte feed rest failed =
 
 -- nothing was read first
 pub read_none : (before : Option (List ℕ)) → Consumes before before []
-read_none None = tt
-read_none (Some xs) = refl
+read_none before = Consumes-nil before
 
 -- bytes followed by bytes
 pub read_on : (before next after : Option (List ℕ)) (text bytes : List ℕ) → Consumes before next text → Consumes next after bytes
     → Consumes before after (text ++ bytes)
-read_on None next after text bytes h i = tt
-read_on (Some x) None after text bytes h i = absurd h
-read_on (Some x) (Some y) None text bytes h i = absurd i
-read_on (Some x) (Some y) (Some z) text bytes h i = h ∙ ap (λ xs. text ++ xs) i ∙ sym (append_assoc text bytes z)
+read_on before next after text bytes h i = Consumes-trans before next after text bytes h i
 
 -- nothing more came
 pub read_same : (before next after : Option (List ℕ)) (text : List ℕ) → Consumes before next text → Consumes next after []
     → Consumes before after text
-read_same None next after text h i = tt
-read_same (Some x) None after text h i = absurd h
-read_same (Some x) (Some y) None text h i = absurd i
-read_same (Some x) (Some y) (Some z) text h i = h ∙ ap (λ xs. text ++ xs) i
+read_same before next after text h i =
+    subst (Consumes before after) (append-nil text) (Consumes-trans before next after text [] h i)
 
 -- the end or a fault was met
 pub ends_read : (before next after : Option (List ℕ)) (text : List ℕ) (failed : Bool) → Consumes before next text → Consumes next after []
@@ -101,9 +96,9 @@ fails_read (Some x) (Some y) None text h i = absurd i
 fails_read (Some x) (Some y) (Some z) text h i = (h ∙ ap (λ xs. text ++ xs) i, λ f. absurd (true≢false f))
 
 -- some drains, and then more
-submits_both : {K : Type 0} (went : K → List Step → K → Type 0) (first last : K) (before : List Step) (n m total : ℕ) → total ≡ n + m
+submits_both : {K : Type 0} (went : K → List Step → K → Type 0) (first last : K) (before : List Step) (n m : ℕ) {total : ℕ} → total ≡ n + m
     → went first ((before ++ replicate n Drain) ++ replicate m Drain) last → went first (before ++ replicate total Drain) last
-submits_both went first last before n m total is h =
+submits_both went first last before n m is h =
     subst (λ (xs : List Step). went first xs last)
     (append_assoc before (replicate n Drain) (replicate m Drain) ∙ ap (λ xs. before ++ xs) (replicate-append-replicate n m Drain)
     ∙ ap (λ k. before ++ replicate k Drain) (sym is)) h
@@ -122,69 +117,60 @@ pub record HasDrained {K : Type 0} (went : K → List Step → K → Type 0) (at
   pub counted : (rest : List ℕ) (failed : Bool) → drains (seen.text ++ rest) failed ≡ count + drains_from kept rest failed
   pub drained : Drained went old count new
 
--- a byte of a line
-pub drained_byte : {K : Type 0} (went : K → List Step → K → Type 0) (at_first left after : Option (List ℕ)) (old new : K)
-    (kept later : List ℕ) (seen : ControlSeen) (byte : ℕ)
-    → HasDrained went at_first left old kept seen new → Consumes left after (byte ∷ []) → HasRead kept (byte ∷ []) false later
-    → HasDrained went at_first after old later (after_heard (hears.Byte byte) seen) new
-drained_byte went at_first left after old new kept later seen byte h read noted = record {
-  count = h.count;
-  read = read_on at_first left after seen.text (byte ∷ []) h.read read;
-  well = h.well;
-  counted = λ rest failed. ap (λ xs. drains xs failed) (append_assoc seen.text (byte ∷ []) rest) ∙ h.counted (byte ∷ rest) failed
-      ∙ ap (λ n. h.count + n) (noted rest failed);
-  drained = h.drained;
-}
+module _ {K : Type 0} {went : K → List Step → K → Type 0} {at_first left : Option (List ℕ)} {old new : K}
+    {kept : List ℕ} {seen : ControlSeen} (h : HasDrained went at_first left old kept seen new) where
+  -- a byte of a line
+  pub drained_byte : {after : Option (List ℕ)} {later : List ℕ} (byte : ℕ) → Consumes left after (byte ∷ [])
+      → HasRead kept (byte ∷ []) false later
+      → HasDrained went at_first after old later (after_heard (hears.Byte byte) seen) new
+  drained_byte {after = after} byte read noted = record {
+    count = h.count;
+    read = read_on at_first left after seen.text (byte ∷ []) h.read read;
+    well = h.well;
+    counted = λ rest failed. ap (λ xs. drains xs failed) (append_assoc seen.text (byte ∷ []) rest) ∙ h.counted (byte ∷ rest) failed
+        ∙ ap (λ n. h.count + n) (noted rest failed);
+    drained = h.drained;
+  }
 
--- the byte that ends a line
-pub drained_line : {K : Type 0} (went : K → List Step → K → Type 0) (at_first left after : Option (List ℕ)) (old new last : K)
-    (kept later : List ℕ) (seen : ControlSeen) (byte : ℕ)
-    → HasDrained went at_first left old kept seen new → Consumes left after (byte ∷ []) → HasRead kept (byte ∷ []) true later
-    → Drained went new (one_if (are_same later drain_word)) last
-    → HasDrained went at_first after old [] (after_heard (hears.Byte byte) seen) last
-drained_line went at_first left after old new last kept later seen byte h read noted drained = record {
-  count = h.count + one_if (are_same later drain_word);
-  read = read_on at_first left after seen.text (byte ∷ []) h.read read;
-  well = h.well;
-  counted = λ rest failed.
-      ap (λ xs. drains xs failed) (append_assoc seen.text (byte ∷ []) rest) ∙ h.counted (byte ∷ rest) failed
-      ∙ ap (λ n. h.count + n) (noted rest failed)
-      ∙ omega (arith);
-  drained = λ first before w. submits_both went first last before h.count (one_if (are_same later drain_word)) _ refl
-      (drained first _ (h.drained first before w));
-}
+  -- the byte that ends a line
+  pub drained_line : {after : Option (List ℕ)} {last : K} (later : List ℕ) (byte : ℕ) → Consumes left after (byte ∷ [])
+      → HasRead kept (byte ∷ []) true later
+      → Drained went new (one_if (are_same later drain_word)) last
+      → HasDrained went at_first after old [] (after_heard (hears.Byte byte) seen) last
+  drained_line {after = after} {last = last} later byte read noted drained = record {
+    count = h.count + one_if (are_same later drain_word);
+    read = read_on at_first left after seen.text (byte ∷ []) h.read read;
+    well = h.well;
+    counted = λ rest failed.
+        ap (λ xs. drains xs failed) (append_assoc seen.text (byte ∷ []) rest) ∙ h.counted (byte ∷ rest) failed
+        ∙ ap (λ n. h.count + n) (noted rest failed)
+        ∙ omega (arith);
+    drained = λ first before w.
+        submits_both went first last before h.count (one_if (are_same later drain_word)) refl (drained first _ (h.drained first before w));
+  }
 
--- no byte yet
-pub drained_still : {K : Type 0} (went : K → List Step → K → Type 0) (at_first left after : Option (List ℕ)) (old new : K) (kept : List ℕ)
-    (seen : ControlSeen)
-    → HasDrained went at_first left old kept seen new → Consumes left after [] → HasDrained went at_first after old kept seen new
-drained_still went at_first left after old new kept seen h read = record {
-  count = h.count;
-  read = read_same at_first left after seen.text h.read read;
-  well = h.well;
-  counted = h.counted;
-  drained = h.drained;
-}
+  -- no byte yet
+  pub drained_still : {after : Option (List ℕ)} → Consumes left after [] → HasDrained went at_first after old kept seen new
+  drained_still {after = after} read = record {
+    count = h.count;
+    read = read_same at_first left after seen.text h.read read;
+    well = h.well;
+    counted = h.counted;
+    drained = h.drained;
+  }
 
--- the text that was read, after which nothing comes
-counts_all : (kept text : List ℕ) (count : ℕ) (failed : Bool)
-    → ((rest : List ℕ) (failed : Bool) → drains (text ++ rest) failed ≡ count + drains_from kept rest failed)
-    → drains text failed ≡ count + drains_from kept [] failed
-counts_all kept text count failed h = ap (λ xs. drains xs failed) (sym (append-nil text)) ∙ h [] failed
+  -- the text that was read, after which nothing comes
+  counts_all : (failed : Bool) → drains seen.text failed ≡ h.count + drains_from kept [] failed
+  counts_all failed = ap (λ xs. drains xs failed) (sym (append-nil seen.text)) ∙ h.counted [] failed
 
--- the end of the input, which also ends the last line
-pub drained_all : {K : Type 0} (went : K → List Step → K → Type 0) (at_first left : Option (List ℕ)) (old new last : K) (kept : List ℕ)
-    (seen : ControlSeen)
-    → HasDrained went at_first left old kept seen new → Drained went new (one_if (are_same kept drain_word)) last
-    → Drained went old (drains seen.text seen.failed) last
-drained_all went at_first left old new last kept seen h drained first before w =
-    submits_both went first last before h.count (one_if (are_same kept drain_word)) _
-    (ap (λ b. drains seen.text b) h.well ∙ counts_all kept seen.text h.count false h.counted) (drained first _ (h.drained first before w))
+  -- the end of the input, which also ends the last line
+  pub drained_all : {last : K} → Drained went new (one_if (are_same kept drain_word)) last
+      → Drained went old (drains seen.text seen.failed) last
+  drained_all {last = last} drained first before w =
+      submits_both went first last before h.count (one_if (are_same kept drain_word))
+      (ap (λ b. drains seen.text b) h.well ∙ counts_all false) (drained first _ (h.drained first before w))
 
--- a fault, after which an unfinished line does not count
-pub drained_before : {K : Type 0} (went : K → List Step → K → Type 0) (at_first left : Option (List ℕ)) (old new : K) (kept : List ℕ)
-    (seen : ControlSeen)
-    → HasDrained went at_first left old kept seen new → Drained went old (drains seen.text true) new
-drained_before went at_first left old new kept seen h first before w =
-    subst (λ (n : ℕ). went first (before ++ replicate n Drain) new) (sym (counts_all kept seen.text h.count true h.counted ∙ omega (arith)))
-    (h.drained first before w)
+  -- a fault, after which an unfinished line does not count
+  pub drained_before : Drained went old (drains seen.text true) new
+  drained_before first before w =
+      subst (λ (n : ℕ). went first (before ++ replicate n Drain) new) (sym (counts_all true ∙ omega (arith))) (h.drained first before w)

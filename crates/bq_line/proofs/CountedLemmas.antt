@@ -1,13 +1,11 @@
 -- How many connections have ended at a seat, and how often it was answered `Closed`.
-use Rattle.std.proofs.Common.{ℕ, suc, ◌≡◌, ◌+◌, ◌≤◌, Bool, true, false, List, [], ◌∷◌, ◌++◌, map, length, Some, None}
+use Rattle.std.proofs.Common.{ℕ, ◌≡◌, ◌+◌, ◌≤◌, Bool, true, false, List, [], ◌∷◌, ◌++◌, length}
 use Rattle.std.proofs.Common.{refl, sym, ap, ◌∙◌, arith, subst, inl, inr, append-nil}
 use Rattle.std.specs.Prelude.{MatchBool}
 use Rattle.std.proofs.lemmas.Bool.{cases_Bool}
-use Rattle.std.specs.List.{list_any}
 use Rattle.bq_job.specs.beside.Closings.{closes, closings}
 use Rattle.bq_job.specs.declared.answer.Answer.{Answer}
 use Rattle.bq_job.specs.declared.answer.Answer.TheVariants.{Closed}
-use Rattle.bq_job.specs.declared.line_end.LineEnd.{LineEnd}
 use Rattle.bq_job.specs.declared.step.Step.{Step}
 use Rattle.bq_job.specs.declared.step.Step.TheVariants as steps
 use Rattle.bq_job.specs.machine.OneClient.{has_closed, is_closed_answer}
@@ -15,10 +13,10 @@ use Rattle.bq_job.specs.promise.LineSteps.{LineSeen, heard}
 use Rattle.bq_job.proofs.ClosedLemmas.{asked_steps_closings, closings_append, line_closings, lines_closings}
 use Rattle.bq_job.proofs.CutLemmas.{closes_append, unclosed_closes}
 use Rattle.bq_seat.specs.InTurn.{IsInTurn}
-use Rattle.bq_seat.specs.Looks.{IsLineOver, LooksAfterClose, LooksOn}
-use Rattle.bq_seat.specs.Past.{Awaited, Past, has_close, with_action}
+use Rattle.bq_seat.specs.Looks.{IsLineOver, LooksAfterClose}
+use Rattle.bq_seat.specs.Past.{has_close, with_action}
 use Rattle.bq_seat.specs.SeatMoves.{IsMove}
-use Rattle.bq_seat.specs.SeatStands.{end_if, kept_bytes}
+use Rattle.bq_seat.specs.SeatStands.{end_if}
 use Rattle.bq_seat.specs.Served.{seen_line}
 use Rattle.bq_seat.specs.declared.machine.Action.{Action}
 use Rattle.bq_seat.specs.declared.machine.Action.TheVariants as actions

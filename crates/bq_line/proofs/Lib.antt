@@ -3,7 +3,6 @@ pub mod BufferLemmas
 pub mod CarriedLemmas
 pub mod ControlLemmas
 pub mod CountedLemmas
-pub mod EventLemmas
 pub mod LineNumberLemmas
 pub mod LineSoFarLemmas
 pub mod PartLemmas

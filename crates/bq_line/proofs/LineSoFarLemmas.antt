@@ -1,5 +1,5 @@
 -- An open connection so far, whatever action comes next: its steps, and what was written to it.
-use Rattle.std.proofs.Common.{◌≡◌, ℕ, zero, suc, List, [], ◌∷◌, ◌++◌, Option, Some, None, take}
+use Rattle.std.proofs.Common.{◌≡◌, ℕ, List, [], ◌∷◌, ◌++◌, Option, Some, None, take}
 use Rattle.std.proofs.Common.{refl, sym, ap, ◌∙◌, subst, append_assoc}
 use Rattle.bq_job.specs.declared.answer.Answer.{Answer}
 use Rattle.bq_job.specs.declared.line_end.LineFault.{LineFault}
@@ -17,6 +17,8 @@ use Rattle.bq_seat.specs.declared.machine.SeatMachine.{SeatMachine}
 use Rattle.bq_seat.proofs.StepsSoFarLemmas.{handed_stand, same_steps, steps_stand}
 use Rattle.bq_line.specs.Attending.{IsOnLine, IsWrittenSo}
 use Rattle.bq_line.specs.Carried.{with_part}
+use Rattle.bq_line.proofs.SeatLemmas.{unbroken}
+use Rattle.bq_line.proofs.WritingLemmas.{take_begins}
 
 -- fewer steps
 steps_fewer : (size : ℕ) (line : LineHeard) (all taken more : List Step) → all ≡ taken ++ more → IsStepsSoFar size line all
@@ -41,11 +43,6 @@ written_begins (Some faults.Write) handed bytes w =
     subst (λ (xs : List Answer). IsBeginning bytes (answers_text xs)) (sym w.answers_are)
     (texts_cut bytes w.cut w.first w.last w.written_is w.is_beginning)
 
-unbroken : (fault : Option LineFault) (handed : List Answer) (bytes : List ℕ) → fault ≡ None → IsWrittenSo fault handed bytes
-    → bytes ≡ answers_text handed
-unbroken None handed bytes none w = w
-unbroken (Some fault) handed bytes none w = absurd cc
-
 -- ---- an open line
 
 -- the connection while an action is carried out that writes nothing
@@ -63,14 +60,10 @@ quiet size machine line action submitted more taken waiting o steps_are written_
     let handed : p.written ≡ p.mail = sym written_is ∙ handed_stand machine q o.stands ∙ mail_is in
     let begins : IsBeginning o.written (answers_text p.mail) =
     subst (λ (xs : List Answer). IsBeginning o.written (answers_text xs)) handed (written_begins p.fault p.written o.written o.writes) in
-    record {
-      of_steps = subst (λ (x : LineSeen). IsStepsSoFar size (heard x) submitted) (sym o.seen_is)
-          (steps_fewer size (heard (seen_line o.written p)) q.steps submitted more
-          (steps_are ∙ ap (λ (xs : List Step). xs ++ more) o.submitted_is) all);
-      written = subst (λ (x : LineSeen). IsBeginning x.written (answers_text (taken ++ waiting))) (sym o.seen_is)
-          (subst (λ (xs : List Answer). IsBeginning o.written (answers_text (xs ++ waiting))) (sym o.taken_is)
-          (texts_more o.written (p.mail ++ p.late_mail) waiting (texts_more o.written p.mail p.late_mail begins)));
-    }
+    rw (o.seen_is, ← o.submitted_is, o.taken_is) (record {
+      of_steps = steps_fewer size (heard (seen_line o.written p)) q.steps p.steps more steps_are all;
+      written = texts_more o.written (p.mail ++ p.late_mail) waiting (texts_more o.written p.mail p.late_mail begins);
+    })
 
 -- the connection while an answer is written
 writing : (size : ℕ) (machine : SeatMachine) (line : LineSeen) (answer : Answer) (sent : ℕ) (submitted : List Step)
@@ -83,24 +76,15 @@ writing size machine line answer sent submitted taken waiting o =
     subst (λ (n : ℕ). IsStepsSoFar n (heard (seen_line o.written p)) p.steps) o.limit_is (steps_stand machine q o.written o.stands) in
     let handed : p.written ++ answer ∷ [] ≡ p.mail = handed_stand machine q o.stands in
     let cut : List ℕ = take sent (answer_text answer) in
-    let before : line.written ≡ answers_text p.written =
-    ap (λ (x : LineSeen). x.written) o.seen_is ∙ unbroken p.fault p.written o.written o.found.1 o.writes in
-    let begins : IsBeginning (line.written ++ cut) (answers_text p.mail) =
-    subst (λ (xs : List Answer). IsBeginning (line.written ++ cut) (answers_text xs)) handed
-    (texts_cut (line.written ++ cut) cut p.written answer (ap (λ (xs : List ℕ). xs ++ cut) before)
-    (cut_begins sent (answer_text answer))) in
-    record {
-      of_steps = subst (λ (x : LineSeen). IsStepsSoFar size (heard x) submitted) (sym o.seen_is)
-          (steps_fewer size (heard (seen_line o.written p)) p.steps submitted [] (o.submitted_is ∙ same_steps submitted) all);
-      written = subst (λ (xs : List Answer). IsBeginning (line.written ++ cut) (answers_text (xs ++ waiting))) (sym o.taken_is)
-          (texts_more (line.written ++ cut) (p.mail ++ p.late_mail) waiting
-          (texts_more (line.written ++ cut) p.mail p.late_mail begins));
-    }
-  where
-    cut_begins : (n : ℕ) (text : List ℕ) → IsBeginning (take n text) text
-    cut_begins zero text = (text, refl)
-    cut_begins (suc n) [] = ([], refl)
-    cut_begins (suc n) (x ∷ text) = let more = cut_begins n text in (more.0, ap (λ (xs : List ℕ). x ∷ xs) more.1)
+    let before : o.written ≡ answers_text p.written = unbroken p.fault p.written o.written o.found.1 o.writes in
+    let begins : IsBeginning (o.written ++ cut) (answers_text p.mail) =
+    subst (λ (xs : List Answer). IsBeginning (o.written ++ cut) (answers_text xs)) handed
+    (texts_cut (o.written ++ cut) cut p.written answer (ap (λ (xs : List ℕ). xs ++ cut) before) (take_begins sent (answer_text answer))) in
+    rw (o.seen_is, ← o.submitted_is, o.taken_is) (record {
+      of_steps = steps_fewer size (heard (seen_line o.written p)) p.steps p.steps [] (same_steps p.steps) all;
+      written = texts_more (o.written ++ cut) (p.mail ++ p.late_mail) waiting
+          (texts_more (o.written ++ cut) p.mail p.late_mail begins);
+    })
 
 -- Whatever action comes next: the connection's steps, and what was written to it, of the answers
 -- that were taken for it and those that wait.

@@ -1,10 +1,12 @@
 -- Parts of a connection in memory that are done.
 use Rattle.std.proofs.Common.{◌≡◌, ◌<◌, ◌≤◌, ℕ, ◌+◌, ◌-◌, zero, suc, Bool, true, false, ◌||◌, ◌==◌, IfSome, min, List}
-use Rattle.std.proofs.Common.{[], ◌∷◌, ◌++◌, refl, sym, ap, arith, append_assoc, length, take, drop, take-add, get_or, slice_get, nat_le}
+use Rattle.std.proofs.Common.{[], ◌∷◌, ◌++◌, refl, sym, ap, ◌∙◌, arith, append_assoc, length, take, drop, take-add}
+use Rattle.std.proofs.Common.{get_or, slice_get, nat_le}
 use Rattle.std.proofs.lemmas.Bool.Decides.{nat_tests}
 use Rattle.std.proofs.lemmas.Option.{slice_get_read}
 use Rattle.std.proofs.lemmas.Grind.{common_steps}
 use Rattle.std.proofs.lemmas.List.{take_all}
+use Rattle.std.proofs.Math.Seq.{drop-cons}
 use Rattle.bq_line.specs.LineParts.{part_bytes, bytes_up_to, is_over, open_place}
 use Rattle.bq_line.specs.declared.line.mem_line.Part.{Part}
 use Rattle.bq_line.specs.declared.line.mem_line.Part.TheVariants as parts
@@ -20,16 +22,21 @@ pub at_first : (more : List Part) → bytes_up_to more zero zero ≡ []
 at_first [] = refl
 at_first (part ∷ more) = grind (arith, common_steps)
 
+-- A part is skipped of which all bytes were read.
+passed_whole : (all : List Part) (place offset : ℕ) (part : Part) → place < length all → part ≡ get_or all place part
+    → take offset (part_bytes part) ≡ part_bytes part → bytes_up_to all (suc place) zero ≡ bytes_up_to all place offset
+passed_whole [] place offset part lt is whole = absurd (omega arith)
+passed_whole (first ∷ more) zero offset part lt is whole =
+    let here : part ≡ first = is in
+    let all_read : take offset (part_bytes first) ≡ part_bytes first = rw (← here) whole in
+    rw (at_first more, all_read) (grind (arith, common_steps))
+passed_whole (first ∷ more) (suc place) offset part lt is whole =
+    ap (λ bytes. part_bytes first ++ bytes) (passed_whole more place offset part (omega arith) is whole)
+
 -- A part that is done is skipped.
 pub passed : (all : List Part) (place offset written : ℕ) (part : Part) → place < length all → part ≡ get_or all place part
     → is_over offset written part ≡ true → bytes_up_to all (suc place) zero ≡ bytes_up_to all place offset
-passed [] place offset written part lt is over = absurd (omega arith)
-passed (first ∷ more) zero offset written part lt is over =
-    let here : part ≡ first = is in
-    let whole : take offset (part_bytes first) ≡ part_bytes first = whole_part first offset written (rw (← here) over) in
-    rw (at_first more, whole) (grind (arith, common_steps))
-passed (first ∷ more) (suc place) offset written part lt is over =
-    ap (λ bytes. part_bytes first ++ bytes) (passed more place offset written part (omega arith) is over)
+passed all place offset written part lt is over = passed_whole all place offset part lt is (whole_part part offset written over)
 
 -- more bytes of a part are read
 read_more : (all : List Part) (place offset n : ℕ) (part : Part) → place < length all → part ≡ get_or all place part
@@ -53,11 +60,7 @@ read_given all place offset next from n part bytes given same lt is bytes_are gi
 pub passed_fault : (all : List Part) (place offset : ℕ) (part : Part) → place < length all → part ≡ get_or all place part
     → part ≡ parts.Fault
     → bytes_up_to all (suc place) zero ≡ bytes_up_to all place offset
-passed_fault [] place offset part lt is fault = absurd (omega arith)
-passed_fault (first ∷ more) zero offset part lt is fault =
-    let here : first ≡ parts.Fault = cc in rw (at_first more, here) (grind (arith, common_steps))
-passed_fault (first ∷ more) (suc place) offset part lt is fault =
-    ap (λ bytes. part_bytes first ++ bytes) (passed_fault more place offset part (omega arith) is fault)
+passed_fault all place offset part lt is fault = passed_whole all place offset part lt is (rw fault (grind (arith, common_steps)))
 
 -- A read that returns bytes does not end the connection's input.
 pub still_open : (ended : Bool) (n : ℕ) → 0 < n → ended ≡ (ended || n == 0)
@@ -82,9 +85,7 @@ open_past all place offset written past = let none : drop place all ≡ [] = gri
 
 drop_at : (all : List Part) (place : ℕ) (part : Part) → place < length all → part ≡ get_or all place part
     → drop place all ≡ part ∷ drop (suc place) all
-drop_at [] place part lt is = absurd (omega arith)
-drop_at (first ∷ more) zero part lt is = ap (λ p. p ∷ more) (sym is)
-drop_at (first ∷ more) (suc place) part lt is = drop_at more place part (omega arith) is
+drop_at all place part lt is = drop-cons all place part lt ∙ ap (λ p. p ∷ drop (suc place) all) (sym is)
 
 -- a part that isn't done comes next
 pub open_here : (all : List Part) (place offset written : ℕ) (part : Part) → place < length all → part ≡ get_or all place part

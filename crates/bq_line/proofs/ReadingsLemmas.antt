@@ -1,7 +1,8 @@
 -- One more reading of a script.
-use Rattle.std.proofs.Common.{◌≡◌, ◌<◌, ◌≤◌, ℕ, ◌+◌, inl, inr, zero, suc, add-one, List, [], ◌∷◌, ◌++◌}
-use Rattle.std.proofs.Common.{Option, Some, None, refl, ap, arith, append_assoc, length, length-drop, take, drop, take-add, replicate}
+use Rattle.std.proofs.Common.{◌≡◌, ◌<◌, ◌≤◌, ℕ, ◌+◌, inl, inr, suc, List, [], ◌∷◌, ◌++◌}
+use Rattle.std.proofs.Common.{Option, Some, None, refl, ap, arith, append_assoc, length, length-drop, take, drop, take-add}
 use Rattle.std.proofs.lemmas.Grind.{common_steps}
+use Rattle.std.proofs.lemmas.List.{replicate-append-replicate}
 use Rattle.std.proofs.lemmas.Option.{get_or_from_slice_get, slice_get_within}
 use Rattle.std.proofs.Math.Seq.{drop-cons, drop-drop}
 use Rattle.std.specs.Prelude.{slice_get}
@@ -11,13 +12,6 @@ one_more : (script : List (Option ℕ)) (place : ℕ) (r : Option ℕ) → slice
 one_more script place r is =
     let lt : place < length script = slice_get_within script place r is in
     rw (drop-cons script place None lt, get_or_from_slice_get script place r None is) refl
-
-repeated_suc : {A : Type 0} (n : ℕ) (x : A) → replicate (suc n) x ≡ replicate n x ++ x ∷ []
-repeated_suc zero x = refl
-repeated_suc (suc n) x = ap (λ xs. x ∷ xs) (repeated_suc n x)
-
-repeated : {A : Type 0} (n : ℕ) (x : A) → replicate (n + 1) x ≡ replicate n x ++ x ∷ []
-repeated n x = rw (add-one n) (repeated_suc n x)
 
 pub read_next : (first old new : ScriptPlace) (readings : List (Option ℕ)) (r : Option ℕ) → IsRead first readings old
     → old.place < length old.script → slice_get old.script old.place ≡ Some r → new.script ≡ old.script → new.place ≡ old.place + 1
@@ -50,6 +44,6 @@ read_again first old readings r read le is = record {
   place_is = read.place_is;
   readings_are =
       let last : r ≡ last_reading first.script = rw (← read.script_is) is in
-      rw (repeated read.again (last_reading first.script), read.readings_are, last) (grind (arith, append_assoc));
+      rw (← replicate-append-replicate read.again 1 (last_reading first.script), read.readings_are, last) (grind (arith, append_assoc));
   at_end = inr le;
 }

@@ -1,14 +1,12 @@
 -- A watched stream stays watched.
-use Rattle.std.proofs.Common.{◌≡◌, ◌||◌, ℕ, Bool, true, false, true≢false, not, Option, None, Some, Result, refl, sym, ap, ◌∙◌, subst}
+use Rattle.std.proofs.Common.{◌≡◌, ◌||◌, ℕ, Bool, true, not, Option, None, Some, Result, refl, sym, ap, ◌∙◌, subst}
+use Rattle.std.proofs.Math.Bool.{or-false}
+use Rattle.std.proofs.lemmas.Bool.{not-false, or_left, or_parts}
 use Rattle.bq_line.specs.LineCalls.{found_nothing}
 use Rattle.bq_line.specs.Ready.{ReportsAfterRead, ReportsAfterWrite, StaysWatched, both, found_all}
 use Rattle.bq_line.specs.Streams.{KeepsWaits}
 use Rattle.bq_line.specs.declared.line.Readiness.{Readiness}
 use Rattle.bq_line.specs.declared.line.stream_error.StreamError.{StreamError}
-
-is_true : (b : Bool) → not b ≡ false → b ≡ true
-is_true true e = refl
-is_true false e = absurd (true≢false e)
 
 -- It was left alone.
 pub stays_same : {S : Type 0} (is_nonblocking reports_bytes : Bool → S → Bool) (reports_room : S → Bool) (ready : Option Readiness)
@@ -29,7 +27,7 @@ read_stays is_nonblocking reports_bytes reports_room known after old new came ro
       (λ is. closing ∙ is),
       (λ sure. (
         (λ none. subst (λ c. reports_bytes c new ≡ true) (sym closing)
-            (reports.0 known.is_closing (is_true (found_all known.is_closing came room) (sym reads ∙ none)))),
+            (reports.0 known.is_closing (not-false (found_all known.is_closing came room) (sym reads ∙ none)))),
         (λ none. reports.1 (sure.1 (sym writes_are ∙ none))),
       )),
     )
@@ -47,36 +45,24 @@ write_stays is_nonblocking reports_bytes reports_room known after old new took w
       (λ is. closing ∙ is),
       (λ sure. (
         (λ none. subst (λ c. reports_bytes c new ≡ true) (sym closing) (reports.0 known.is_closing (sure.0 (sym reads_are ∙ none)))),
-        (λ none. reports.1 (is_true (found_nothing took) (sym writes ∙ none))),
+        (λ none. reports.1 (not-false (found_nothing took) (sym writes ∙ none))),
       )),
     )
-
-or_false : (a b : Bool) → (a || b) ≡ false → (a ≡ false) × (b ≡ false)
-or_false true b e = absurd (true≢false e)
-or_false false b e = (refl, e)
-
-or_left : (a b : Bool) → a ≡ true → (a || b) ≡ true
-or_left true b e = refl
-or_left false b e = absurd (true≢false (sym e))
-
-or_none : (a b : Bool) → b ≡ false → (a || b) ≡ a
-or_none true b e = refl
-or_none false b e = e
 
 -- The system reported something.
 pub noted_stays : {S : Type 0} (is_nonblocking reports_bytes : Bool → S → Bool) (reports_room : S → Bool) (was : Option Readiness)
     (known more after : Readiness) (stream : S) → was ≡ Some known → after ≡ both known more
     → StaysWatched is_nonblocking reports_bytes reports_room was stream (Some after) stream
 noted_stays is_nonblocking reports_bytes reports_room was known more after stream is noted =
-    subst (λ w. StaysWatched is_nonblocking reports_bytes reports_room w stream (Some after) stream) (sym is)
-    (subst (λ a. StaysWatched is_nonblocking reports_bytes reports_room (Some known) stream (Some a) stream) (sym noted) (
+    rw (is, noted) (
       (λ nonblocking. refl),
       (λ closing. or_left known.is_closing more.is_closing closing),
       (λ sure. (
         (λ none.
-            let ends = or_false (known.reads || more.reads) more.is_closing none in
-            let reads = or_false known.reads more.reads ends.0 in
-            subst (λ c. reports_bytes c stream ≡ true) (sym (or_none known.is_closing more.is_closing ends.1)) (sure.0 reads.0)),
-        (λ none. sure.1 (or_false known.writes more.writes none).0),
+            let ends = or_parts (known.reads || more.reads) more.is_closing none in
+            let reads = or_parts known.reads more.reads ends.0 in
+            let same = ap (λ b. known.is_closing || b) ends.1 ∙ or-false known.is_closing in
+            subst (λ c. reports_bytes c stream ≡ true) (sym same) (sure.0 reads.0)),
+        (λ none. sure.1 (or_parts known.writes more.writes none).0),
       )),
-    ))
+    )

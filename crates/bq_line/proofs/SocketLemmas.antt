@@ -1,5 +1,5 @@
 -- What a call of the system means for a stream, with what its error means.
-use Rattle.std.proofs.Common.{◌≡◌, ℕ, List, [], ◌∷◌, ◌++◌, Option, Result, Ok, Err, append_assoc, append-nil, ap, subst, sym, ◌∙◌}
+use Rattle.std.proofs.Common.{◌≡◌, ℕ, List, [], ◌∷◌, ◌++◌, Option, Result, Ok, Err, append_assoc, append-nil, ap, sym, ◌∙◌}
 use Rattle.std.specs.Io.{ReadsAtMost, WritesAtMost}
 use Rattle.std.specs.Io.KnownBytes.{ReadConsumes, WriteAppends}
 use Rattle.std.specs.Io.Slices.{io_slice_bytes, io_slices_bytes}
@@ -11,13 +11,13 @@ use Rattle.bq_line.specs.declared.line.stream_error.StreamError.{StreamError}
 
 pub read_in_brief : (left later : Option (List ℕ)) (buf : List ℕ) (came : Result ℕ Error) (result : Result ℕ StreamError)
     → result ≡ in_brief came → ReadsAtMost came buf → ReadConsumes left later came buf → ReadsFrom left later result buf
-read_in_brief left later buf (Ok n) result is bound took = subst (λ r. ReadsFrom left later r buf) (sym is) (bound, took)
-read_in_brief left later buf (Err e) result is bound took = subst (λ r. ReadsFrom left later r buf) (sym is) (tt, took)
+read_in_brief left later buf (Ok n) result is bound took = rw is (bound, took)
+read_in_brief left later buf (Err e) result is bound took = rw is (tt, took)
 
 pub write_in_brief : (held later : Option (List ℕ)) (buf : List ℕ) (took : Result ℕ Error) (result : Result ℕ StreamError)
     → result ≡ in_brief took → WritesAtMost took buf → WriteAppends held later took buf → WritesTo held later result buf
-write_in_brief held later buf (Ok n) result is bound wrote = subst (λ r. WritesTo held later r buf) (sym is) (bound, wrote)
-write_in_brief held later buf (Err e) result is bound wrote = subst (λ r. WritesTo held later r buf) (sym is) (tt, wrote)
+write_in_brief held later buf (Ok n) result is bound wrote = rw is (bound, wrote)
+write_in_brief held later buf (Err e) result is bound wrote = rw is (tt, wrote)
 
 -- The same for a write of three texts.
 pub slices_in_brief : (held later : Option (List ℕ)) (a b c : IoSlice) (first second third : List ℕ) (took : Result ℕ Error)

@@ -1,16 +1,25 @@
 -- What calls of a stream mean for a connection over it.
 use Rattle.std.proofs.Common.{◌≡◌, ◌<◌, ◌==◌, ◌||◌, ℕ, Bool, true, false, List, [], ◌∷◌, ◌++◌, Option, Some, None}
 use Rattle.std.proofs.Common.{IfSome, Result, Ok, Err, length, take, refl, sym, ap, ◌∙◌, append-nil, arith, subst, if◌then◌else◌}
-use Rattle.std.proofs.KnownBytes.{Appends-kept, Appends-trans, Consumes-kept, Consumes-trans, Consumes-whole}
+use Rattle.std.proofs.KnownBytes.{Appends-kept, Appends-trans, Consumes-kept, Consumes-trans, Consumes-whole, prepend_known-nil}
 use Rattle.std.proofs.lemmas.Bool.Decides.{nat_tests}
 use Rattle.std.proofs.lemmas.List.{append_cancel_left}
 use Rattle.std.specs.Io.KnownBytes.{Appends, Consumes, IsAtEnd, Keeps, ReadConsumes, WriteAppends, prepend_known}
+use Rattle.bq_job.specs.declared.line_end.LineFault.{LineFault}
 use Rattle.bq_job.specs.declared.line_end.LineFault.TheVariants as faults
 use Rattle.bq_job.specs.promise.LineSteps.{LineSeen}
-use Rattle.bq_line.specs.LineCalls.{after_fill, after_read, after_write, with_line_fault}
-use Rattle.bq_line.specs.Streams.{FailsIf, FailsToWriteIf, HasCause, LiesOver, StreamSeen}
+use Rattle.bq_line.specs.LineCalls.{after_read, after_write, is_nothing_yet, with_line_fault}
+use Rattle.bq_line.specs.Streams.{FailsIf, FailsToWriteIf, HasCause, LiesOver, StreamSeen, not_both}
+use Rattle.bq_line.specs.declared.line.stream.Duplex.{Ghosts as Duplex}
 use Rattle.bq_line.specs.declared.line.stream_error.StreamError.{StreamError}
 use Rattle.bq_line.specs.declared.line.stream_error.StreamError.TheVariants as errors
+
+-- the state of a stream, and with these bytes before those that it has left
+abbrev pub stream_of : {S : Type 0} → Duplex S → S → StreamSeen
+stream_of d s = record { left = d.remaining s; held = d.contents s; may_fail = d.may_fail s }
+
+abbrev pub stream_behind : {S : Type 0} → Duplex S → List ℕ → S → StreamSeen
+stream_behind d came s = record { left = prepend_known came (d.remaining s); held = d.contents s; may_fail = d.may_fail s }
 
 nothing_before : (bytes more : List ℕ) → [] ≡ bytes ++ more → bytes ≡ []
 nothing_before [] more none = refl
@@ -64,29 +73,24 @@ nothing_moved first old new line later left held same cause read written ended o
       fault = λ sure. cause (over.may_fail ∙ sure) ∙ over.fault sure;
     }
 
--- A stream that may fail is none that may not.
-neither : {A : Type 0} (may_fail : Bool) → may_fail ≡ true → may_fail ≡ false → A
-neither true may not = absurd cc
-neither false may not = absurd cc
-
--- A read that failed.
-failed_on : (first old new : StreamSeen) (line : LineSeen) (e : StreamError)
+-- A call that failed: an error that is no fault changes nothing.
+failed_on : (fault : LineFault) (first old new : StreamSeen) (line : LineSeen) (e : StreamError)
     → Keeps old.left new.left → Keeps old.held new.held → new.may_fail ≡ old.may_fail → HasCause old.may_fail e → LiesOver first line old
-    → LiesOver first (after_fill (Err e) line) new
-failed_on first old new line errors.NotYet kept apart same cause over =
+    → LiesOver first (if is_nothing_yet e then line else with_line_fault fault line) new
+failed_on fault first old new line errors.NotYet kept apart same cause over =
     nothing_moved first old new line line kept apart same (λ sure. refl) refl refl refl over
-failed_on first old new line errors.Interrupted kept apart same cause over =
+failed_on fault first old new line errors.Interrupted kept apart same cause over =
     nothing_moved first old new line line kept apart same (λ sure. refl) refl refl refl over
-failed_on first old new line errors.Fault kept apart same cause over =
-    nothing_moved first old new line (with_line_fault faults.Read line) kept apart same (λ sure. neither old.may_fail cause sure) refl
-    refl refl
-    over
+failed_on fault first old new line errors.Fault kept apart same cause over =
+    nothing_moved first old new line (with_line_fault fault line) kept apart same (λ sure. not_both old.may_fail cause sure) refl
+    refl refl over
 
 read_on : (first old new : StreamSeen) (line : LineSeen) (result : Result ℕ StreamError) (buf : List ℕ) → 0 < length buf
     → ReadConsumes old.left new.left result buf → Keeps old.held new.held → new.may_fail ≡ old.may_fail → FailsIf old.may_fail result
     → LiesOver first line old → LiesOver first (after_read result buf line) new
 read_on first old new line (Ok n) buf room gave apart same cause over = read_bytes first old new line n buf room gave apart same over
-read_on first old new line (Err e) buf room gave apart same cause over = failed_on first old new line e gave apart same cause over
+read_on first old new line (Err e) buf room gave apart same cause over =
+    failed_on faults.Read first old new line e gave apart same cause over
 
 -- A connection that read these bytes, some of them from its buffer, is over the stream with what is
 -- left.
@@ -117,31 +121,14 @@ read_noted first old gave new line later result buf room length_is some took apa
     noted_so first gave new (after_read result buf line) later noted stays
     (read_on first old gave line result buf (subst (λ n. 0 < n) (sym length_is) some) took apart same cause over)
 
--- The connection recorded that a read of its stream failed.
-pub failed_noted : (first old gave new : StreamSeen) (line later : LineSeen) (e : StreamError) → Keeps old.left gave.left
-    → Keeps old.held gave.held → gave.may_fail ≡ old.may_fail → HasCause old.may_fail e
-    → later ≡ after_fill (Err e) line → new ≡ gave → LiesOver first line old → LiesOver first later new
-failed_noted first old gave new line later e kept apart same cause noted stays over =
-    noted_so first gave new (after_fill (Err e) line) later noted stays (failed_on first old gave line e kept apart same cause over)
-
--- A write that failed.
-refused_on : (first old new : StreamSeen) (line : LineSeen) (e : StreamError)
-    → Keeps old.left new.left → Keeps old.held new.held → new.may_fail ≡ old.may_fail → HasCause old.may_fail e → LiesOver first line old
-    → LiesOver first (after_write (Err e) [] line) new
-refused_on first old new line errors.NotYet kept apart same cause over =
-    nothing_moved first old new line line kept apart same (λ sure. refl) refl refl refl over
-refused_on first old new line errors.Interrupted kept apart same cause over =
-    nothing_moved first old new line line kept apart same (λ sure. refl) refl refl refl over
-refused_on first old new line errors.Fault kept apart same cause over =
-    nothing_moved first old new line (with_line_fault faults.Write line) kept apart same (λ sure. neither old.may_fail cause sure) refl refl
-    refl over
-
--- The connection recorded that a write to its stream failed.
-pub refused_noted : (first old gave new : StreamSeen) (line later : LineSeen) (e : StreamError) → Keeps old.left gave.left
-    → Keeps old.held gave.held → gave.may_fail ≡ old.may_fail → HasCause old.may_fail e
-    → later ≡ after_write (Err e) [] line → new ≡ gave → LiesOver first line old → LiesOver first later new
-refused_noted first old gave new line later e kept apart same cause noted stays over =
-    noted_so first gave new (after_write (Err e) [] line) later noted stays (refused_on first old gave line e kept apart same cause over)
+-- The connection recorded that a call of its stream failed.
+pub failed_noted : (fault : LineFault) (first old gave new : StreamSeen) (line later : LineSeen) (e : StreamError)
+    → Keeps old.left gave.left → Keeps old.held gave.held → gave.may_fail ≡ old.may_fail → HasCause old.may_fail e
+    → later ≡ (if is_nothing_yet e then line else with_line_fault fault line) → new ≡ gave → LiesOver first line old
+    → LiesOver first later new
+failed_noted fault first old gave new line later e kept apart same cause noted stays over =
+    noted_so first gave new (if is_nothing_yet e then line else with_line_fault fault line) later noted stays
+    (failed_on fault first old gave line e kept apart same cause over)
 
 none_held : (old new : Option (List ℕ)) (buf : List ℕ) (n : ℕ) → n ≡ 0 → Appends old new (take n buf) → Keeps old new
 none_held None new buf n none held = tt
@@ -160,18 +147,14 @@ pub over_buffered : (first : StreamSeen) (line : LineSeen) (left held : Option (
     → LiesOver first line (record { left = prepend_known came left; held = held; may_fail = may_fail })
 over_buffered first line left held may_fail came none over =
     subst (λ l. LiesOver first line (record { left = l; held = held; may_fail = may_fail }))
-    (sym (ap (λ (c : List ℕ). prepend_known c left) none ∙ prepend_none left)) over
-  where
-    prepend_none : (left : Option (List ℕ)) → prepend_known [] left ≡ left
-    prepend_none None = refl
-    prepend_none (Some bytes) = refl
+    (sym (ap (λ (c : List ℕ). prepend_known c left) none ∙ prepend_known-nil left)) over
 
 -- The connection recorded a write of some bytes, the first of which are `begun`.
 pub wrote_noted : (first old new : StreamSeen) (line later : LineSeen) (result : Result ℕ StreamError) (begun buf : List ℕ)
     → Keeps old.left new.left → WriteAppends old.held new.held result buf → 0 < length begun → new.may_fail ≡ old.may_fail
     → FailsToWriteIf old.may_fail result begun → later ≡ after_write result buf line → LiesOver first line old → LiesOver first later new
 wrote_noted first old new line later (Err e) begun buf kept held some same cause noted over =
-    refused_noted first old new new line later e kept held same cause noted refl over
+    failed_noted faults.Write first old new new line later e kept held same cause noted refl over
 wrote_noted first old new line later (Ok n) begun buf kept held some same cause noted over =
     subst (λ l. LiesOver first l new) (sym noted) (took (n == 0) refl)
   where
@@ -180,7 +163,7 @@ wrote_noted first old new line later (Ok n) begun buf kept held some same cause 
     took true e =
         let none : n ≡ 0 = grind (arith, nat_tests) in
         nothing_moved first old new line (with_line_fault faults.Write line) kept
-        (none_held old.held new.held buf n none held) same (λ sure. neither old.may_fail (cause none some) sure) refl refl refl over
+        (none_held old.held new.held buf n none held) same (λ sure. not_both old.may_fail (cause none some) sure) refl refl refl over
     took false e = record {
       read = Consumes-kept first.left old.left new.left line.read over.read kept;
       written = Appends-trans first.held old.held new.held line.written (take n buf) over.written held;

@@ -1,6 +1,6 @@
 -- No connection of a door whose streams may not fail meets a fault.
-use Rattle.std.proofs.Common.{◌≡◌, ◌⊎◌, ℕ, zero, suc, false, List, [], ◌∷◌, ◌++◌, None, inl, inr, subst, sym, arith}
-use Rattle.std.specs.List.{All}
+use Rattle.std.proofs.Common.{◌≡◌, ◌⊎◌, ℕ, false, List, [], ◌∷◌, ◌++◌, None, inl, inr, subst}
+use Rattle.std.proofs.lemmas.List.Elements.{All-push}
 use Rattle.bq_job.specs.declared.line_end.LineEnd.{LineEnd}
 use Rattle.bq_job.specs.promise.History.{LineOver}
 use Rattle.bq_job.specs.promise.LineSteps.{LineSeen}
@@ -9,13 +9,6 @@ use Rattle.bq_line.specs.Streams.{IsSureLine, StaysOver, StreamSeen}
 use Rattle.bq_line.specs.Tending.{AreSure, IsSureAt}
 use Rattle.bq_line.specs.declared.attendant.LinePlace.{LinePlace}
 use Rattle.bq_line.specs.declared.attendant.LinePlace.TheVariants as places
-
--- The property also holds for one more element.
-all_more : {X : Type 0} (P : X → Type 0) (xs : List X) (x : X) → All P xs → P x → All P (xs ++ x ∷ [])
-all_more P [] x h p zero d below = p
-all_more P [] x h p (suc k) d below = absurd (omega arith)
-all_more P (y ∷ xs) x h p zero d below = h 0 d (omega arith)
-all_more P (y ∷ xs) x h p (suc k) d below = all_more P xs x (λ j e there. h (suc j) e (omega (arith, there))) p k d (omega (arith, below))
 
 -- The open connection was used further.
 pub sure_further : {L : Type 0} (lies_over : StreamSeen → L → Type 0) (place : LinePlace L) (line later : L) (action next : Action)
@@ -29,14 +22,12 @@ sure_further lies_over place line later action next sent now lines is stays sure
 pub sure_opened : {L : Type 0} (lies_over : StreamSeen → L → Type 0) (place : LinePlace L) (line : L) (action : Action)
     (lines later : List LineOver) → later ≡ lines → IsSureLine lies_over line → AreSure lies_over place lines
     → AreSure lies_over (places.On line action 0) later
-sure_opened lies_over place line action lines later is opened sure =
-    record { ended = subst (All (λ (over : LineOver). over.seen.fault ≡ None)) (sym is) sure.ended; at_place = opened }
+sure_opened lies_over place line action lines later is opened sure = record { ended = rw is sure.ended; at_place = opened }
 
 -- No connection was opened.
 pub sure_without : {L : Type 0} (lies_over : StreamSeen → L → Type 0) (place next : LinePlace L) (lines later : List LineOver)
     → later ≡ lines → IsSureAt lies_over next → AreSure lies_over place lines → AreSure lies_over next later
-sure_without lies_over place next lines later is at sure =
-    record { ended = subst (All (λ (over : LineOver). over.seen.fault ≡ None)) (sym is) sure.ended; at_place = at }
+sure_without lies_over place next lines later is at sure = record { ended = rw is sure.ended; at_place = at }
 
 -- A connection was shut.
 pub sure_shut : {L : Type 0} (seen : L → LineSeen) (lies_over : StreamSeen → L → Type 0) (place : LinePlace L) (line : L) (action : Action)
@@ -47,15 +38,14 @@ pub sure_shut : {L : Type 0} (seen : L → LineSeen) (lies_over : StreamSeen →
 sure_shut seen lies_over place line action sent end lines later no_fault is left sure =
     let open_line : IsSureLine lies_over line = subst (IsSureAt lies_over) is sure.at_place in
     let last : LineOver = record { seen = seen line; over = end } in
+    let P : LineOver → Type 0 = λ over. over.seen.fault ≡ None in
     record {
-      ended = subst (All (λ (over : LineOver). over.seen.fault ≡ None)) (sym left)
-          (all_more (λ (over : LineOver). over.seen.fault ≡ None) lines last sure.ended
-          (no_fault open_line.0 line open_line.1 open_line.2));
+      ended = rw left (All-push P lines last sure.ended (no_fault open_line.0 line open_line.1 open_line.2));
       at_place = tt;
     }
 
 -- No more connections come.
 pub sure_left : {L : Type 0} (lies_over : StreamSeen → L → Type 0) (place next : LinePlace L) (lines : List LineOver)
     → (next ≡ places.Leaving) ⊎ (next ≡ places.Done) → AreSure lies_over place lines → AreSure lies_over next lines
-sure_left lies_over place next lines (inl is) sure = record { ended = sure.ended; at_place = subst (IsSureAt lies_over) (sym is) tt }
-sure_left lies_over place next lines (inr is) sure = record { ended = sure.ended; at_place = subst (IsSureAt lies_over) (sym is) tt }
+sure_left lies_over place next lines (inl is) sure = rw is (record { ended = sure.ended; at_place = tt })
+sure_left lies_over place next lines (inr is) sure = rw is (record { ended = sure.ended; at_place = tt })

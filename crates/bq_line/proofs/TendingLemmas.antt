@@ -1,12 +1,11 @@
 -- A seat and its door continue with each thing that the seat does.
-use Rattle.std.proofs.Common.{ℕ, ◌≡◌, ◌+◌, ◌≤◌, Bool, true, false, List, [], ◌∷◌, ◌++◌, length}
+use Rattle.std.proofs.Common.{ℕ, ◌≡◌, ◌≤◌, Bool, true, false, List, [], ◌∷◌, ◌++◌, length}
 use Rattle.std.proofs.Common.{refl, sym, ap, ◌∙◌, arith, subst, append-nil, append_assoc, length-append, inl, inr}
 use Rattle.bq_job.specs.declared.answer.Answer.{Answer}
 use Rattle.bq_job.specs.declared.line_end.LineEnd.{LineEnd}
 use Rattle.bq_job.specs.declared.step.Step.{Step}
 use Rattle.bq_job.specs.promise.History.{LineOver}
 use Rattle.bq_job.specs.promise.LineSteps.{LineSeen}
-use Rattle.bq_job.specs.beside.SeatDid.{AreLinesServed}
 use Rattle.bq_seat.specs.Past.{Awaited}
 use Rattle.bq_seat.specs.SeatMoves.{IsMove}
 use Rattle.bq_seat.specs.SeatStands.{awaited}
@@ -14,14 +13,15 @@ use Rattle.bq_seat.specs.declared.machine.Action.{Action}
 use Rattle.bq_seat.specs.declared.machine.Action.TheVariants as actions
 use Rattle.bq_seat.specs.declared.machine.Event.TheVariants as events
 use Rattle.bq_seat.specs.declared.machine.SeatMachine.{SeatMachine}
-use Rattle.bq_line.specs.Attending.{IsOnLine}
+use Rattle.bq_line.specs.Attending.{IsAt, IsOnLine}
 use Rattle.bq_line.specs.Carried.{CarriedPart, CarriesOn, HasGone}
 use Rattle.bq_line.specs.declared.attendant.Progress.{Progress}
 use Rattle.bq_line.specs.declared.attendant.Progress.TheVariants as results
 use Rattle.bq_line.specs.LineCalls.{new_line}
 use Rattle.bq_line.specs.Links.{Calls}
 use Rattle.bq_line.specs.Submitting.{IsSubmittedOn}
-use Rattle.bq_line.specs.Tending.{DoorSeen, GoesOn, IsCounted, IsNewDoor, IsNewSeat, IsTended, Tends, attendant, ended_lines, over_by}
+use Rattle.bq_line.specs.Tending.{DoorSeen, GoesOn, IsCounted, IsNewDoor, IsNewSeat, IsPlaced, IsTended, Tends}
+use Rattle.bq_line.specs.Tending.{attendant, ended_lines, over_by, over_now}
 use Rattle.bq_line.specs.declared.attendant.Attendant.{Attendant}
 use Rattle.bq_line.specs.declared.attendant.LinePlace.{LinePlace}
 use Rattle.bq_line.specs.declared.attendant.LinePlace.TheVariants as places
@@ -33,9 +33,7 @@ use Rattle.bq_line.proofs.SeatLemmas.{carried_on, line_served, opened_on}
 -- nothing more was submitted and taken
 none_more : {L : Type 0} (seen : L → LineSeen) (size : ℕ) (a : Attendant L) (door : DoorSeen) (before : List Step) (got : List Answer)
     → IsTended seen size a door before got → IsTended seen size a door (before ++ []) (got ++ [])
-none_more seen size a door before got h =
-    subst (λ (xs : List Step). IsTended seen size a door xs (got ++ [])) (sym (append-nil before))
-    (subst (λ (ys : List Answer). IsTended seen size a door before ys) (sym (append-nil got)) h)
+none_more seen size a door before got h = rw (append-nil before, append-nil got) h
 
 -- The same with the seat's connections counted: it took nothing.
 none_taken : {L : Type 0} (seen : L → LineSeen) (size : ℕ) (old new : Attendant L) (door next : DoorSeen) (before : List Step)
@@ -43,6 +41,27 @@ none_taken : {L : Type 0} (seen : L → LineSeen) (size : ℕ) (old new : Attend
     → IsTended seen size new next (before ++ []) (got ++ []) × IsCounted old door [] new next
 none_taken seen size old new door next before got grows h =
     (none_more seen size new next before got h, record { grows = grows; unclosed = λ p. refl })
+
+-- The seat moved to another place, with what was submitted and taken for its open connection so far.
+moves_to : {L : Type 0} (seen : L → LineSeen) (size : ℕ) (old : Attendant L) (new : SeatMachine) (place : LinePlace L)
+    (door next : DoorSeen) (before : List Step) (got : List Answer) → (t : IsTended seen size old door before got)
+    → next.lines_over ≡ door.lines_over → over_now old.place ≤ over_now place → IsAt seen size new place t.attends.now t.attends.getting → IsPlaced place next
+    → IsTended seen size (attendant new place) next (before ++ []) (got ++ []) × IsCounted old door [] (attendant new place) next
+moves_to seen size old new place door next before got t over grows at placed =
+    let a = t.attends in
+    none_taken seen size old (attendant new place) door next before got (let e = ap length over in omega arith) (record {
+      attends = record {
+        before = a.before;
+        now = a.now;
+        got = a.got;
+        getting = a.getting;
+        of_lines = rw over a.of_lines;
+        at_place = at;
+        submitted_is = a.submitted_is;
+        taken_is = a.taken_is;
+      };
+      placed = placed;
+    })
 
 pub tends_still : {L : Type 0} (seen : L → LineSeen) (a : Attendant L) (door : DoorSeen) → Tends seen a door [] [] a door
 tends_still seen a door size before got h = none_taken seen size a a door door before got (omega arith) h
@@ -63,44 +82,18 @@ pub tends_opened : {L : Type 0} (seen : L → LineSeen) (old new : SeatMachine) 
     → seen line ≡ new_line
     → Tends seen (attendant old places.Between) door [] [] (attendant new (places.On line action 0)) next
 tends_opened seen old new line action door next move over out more fresh size before got t =
-    let a = t.attends in
-    let at = a.at_place in
-    none_taken seen size (attendant old places.Between) (attendant new (places.On line action 0)) door next before got
-    (let e = ap length over in omega arith) (record {
-      attends = record {
-        before = a.before;
-        now = [];
-        got = a.got;
-        getting = [];
-        of_lines = subst (λ (lines : List LineOver). AreLinesServed size lines a.before a.got) (sym over) a.of_lines;
-        at_place = (seen line, none_begun action (seen line), opened_on size old new action (seen line) at.2 at.3 move fresh);
-        submitted_is = a.submitted_is ∙ ap (λ (xs : List Step). a.before ++ xs) at.0;
-        taken_is = a.taken_is ∙ ap (λ (xs : List Answer). a.got ++ xs) at.1;
-      };
-      placed = (out, more);
-    })
+    let at = t.attends.at_place in
+    moves_to seen size (attendant old places.Between) new (places.On line action 0) door next before got t over (omega arith)
+    (seen line, none_begun action (seen line), rw (at.0, at.1) (opened_on size old new action (seen line) at.2 at.3 move fresh)) (out, more)
 
 -- No more connections come.
 pub tends_at_end : {L : Type 0} (seen : L → LineSeen) (machine : SeatMachine) (door next : DoorSeen)
     → next.lines_over ≡ door.lines_over → next.is_out ≡ false → next.is_at_end ≡ true
     → Tends seen (attendant machine places.Between) door [] [] (attendant machine places.Leaving) next
 tends_at_end seen machine door next over inside ended size before got t =
-    let a = t.attends in
-    let at = a.at_place in
-    none_taken seen size (attendant machine places.Between) (attendant machine places.Leaving) door next before got
-    (let e = ap length over in omega arith) (record {
-      attends = record {
-        before = a.before;
-        now = a.now;
-        got = a.got;
-        getting = a.getting;
-        of_lines = subst (λ (lines : List LineOver). AreLinesServed size lines a.before a.got) (sym over) a.of_lines;
-        at_place = (at.0, at.1);
-        submitted_is = a.submitted_is;
-        taken_is = a.taken_is;
-      };
-      placed = (inside, ended);
-    })
+    let at = t.attends.at_place in
+    moves_to seen size (attendant machine places.Between) machine places.Leaving door next before got t over (omega arith) (at.0, at.1)
+    (inside, ended)
 
 -- A connection that has ended was shut.
 pub tends_shut : {L : Type 0} (seen : L → LineSeen) (machine : SeatMachine) (line : L) (end : LineEnd) (sent : ℕ) (door next : DoorSeen)
@@ -110,8 +103,7 @@ pub tends_shut : {L : Type 0} (seen : L → LineSeen) (machine : SeatMachine) (l
 tends_shut seen machine line end sent door next left inside still size before got t =
     let a = t.attends in
     let over : LineOver = record { seen = seen line; over = end } in
-    let on : IsOnLine size machine (seen line) (actions.LineOver end) a.now a.getting =
-    subst (λ (x : LineSeen). IsOnLine size machine x (actions.LineOver end) a.now a.getting) (sym a.at_place.1) a.at_place.2 in
+    let on : IsOnLine size machine (seen line) (actions.LineOver end) a.now a.getting = rw a.at_place.1 a.at_place.2 in
     let waits : awaited machine ≡ Awaited.ALine = let e = on.awaits in cc in
     none_taken seen size (attendant machine (places.On line (actions.LineOver end) sent)) (attendant machine places.Between) door next
     before got (let e = ap length left ∙ length-append door.lines_over (over ∷ []) in omega arith) (record {
@@ -120,8 +112,8 @@ tends_shut seen machine line end sent door next left inside still size before go
         now = [];
         got = a.got ++ a.getting;
         getting = [];
-        of_lines = subst (λ (lines : List LineOver). AreLinesServed size lines (a.before ++ a.now) (a.got ++ a.getting)) (sym left)
-            (lines_more size door.lines_over over a.before a.now a.got a.getting a.of_lines
+        of_lines =
+            rw left (lines_more size door.lines_over over a.before a.now a.got a.getting a.of_lines
             (line_served size machine (seen line) end a.now a.getting on));
         at_place = (refl, refl, waits, on.limit_is);
         submitted_is = a.submitted_is ∙ sym (append-nil (a.before ++ a.now));
@@ -201,7 +193,7 @@ tended_new {L} seen size a door seat new =
         now = [];
         got = [];
         getting = [];
-        of_lines = subst (λ (lines : List LineOver). AreLinesServed size lines [] []) (sym new.none_over) (refl, refl);
+        of_lines = rw new.none_over (refl, refl);
         at_place = (refl, refl, seat.awaits, seat.limit);
         submitted_is = refl;
         taken_is = refl;
@@ -209,39 +201,34 @@ tended_new {L} seen size a door seat new =
       placed = (new.inside, new.more);
     })
 
+-- a place with an action that is known by an equation
+pub on_action : {L : Type 0} {place : LinePlace L} {line : L} {action same : Action} {sent : ℕ} → place ≡ places.On line action sent
+    → action ≡ same → place ≡ places.On line same sent
+on_action {line = line} {sent = sent} at is = at ∙ ap (λ a. places.On line a sent) is
+
 -- the place where a seat starts, by an equation
-pub from_place : {K L : Type 0} (went : K → List Step → List Answer → K → Type 0) (first last : K) (seen : L → LineSeen)
-    (machine new : SeatMachine) (place same later : LinePlace L) (door next : DoorSeen)
+pub from_place : {K L : Type 0} (went : K → List Step → List Answer → K → Type 0) (first last : K) {seen : L → LineSeen}
+    {machine new : SeatMachine} {place same later : LinePlace L} {door next : DoorSeen}
     → place ≡ same → GoesOn went first last seen (attendant machine same) door (attendant new later) next
     → GoesOn went first last seen (attendant machine place) door (attendant new later) next
-from_place {L} went first last seen machine new place same later door next e h =
-    subst (λ (q : LinePlace L). GoesOn went first last seen (attendant machine q) door (attendant new later) next) (sym e) h
+from_place went first last is h = rw is h
 
 -- The same by an equation, if the link is not used.
-pub tends_from : {L : Type 0} (seen : L → LineSeen) (machine : SeatMachine) (place same : LinePlace L) (door next : DoorSeen)
-    (later : Attendant L)
+pub tends_from : {L : Type 0} {seen : L → LineSeen} {machine : SeatMachine} {place same : LinePlace L} {door next : DoorSeen}
+    {later : Attendant L}
     → place ≡ same → Tends seen (attendant machine same) door [] [] later next → Tends seen (attendant machine place) door [] [] later next
-tends_from {L} seen machine place same door next later e h =
-    subst (λ (q : LinePlace L). Tends seen (attendant machine q) door [] [] later next) (sym e) h
+tends_from is h = rw is h
 
--- The open connection was given a hint, and its record is unchanged.
-pub tends_told : {L : Type 0} (seen : L → LineSeen) (machine : SeatMachine) (line later : L) (action : Action) (sent : ℕ) (door : DoorSeen)
+still_open : {L : Type 0} (seen : L → LineSeen) (machine : SeatMachine) (line later : L) (action : Action) (sent : ℕ) (door : DoorSeen)
     → seen later ≡ seen line → Tends seen (attendant machine (places.On line action sent)) door [] []
     (attendant machine (places.On later action sent)) door
-tends_told seen machine line later action sent door same size before got t =
-    let a = t.attends in
-    let at = a.at_place in
-    none_taken seen size (attendant machine (places.On line action sent)) (attendant machine (places.On later action sent)) door door
-    before got (omega arith) (record {
-      attends = record {
-        before = a.before;
-        now = a.now;
-        got = a.got;
-        getting = a.getting;
-        of_lines = a.of_lines;
-        at_place = (at.0, same ∙ at.1, at.2);
-        submitted_is = a.submitted_is;
-        taken_is = a.taken_is;
-      };
-      placed = t.placed;
-    })
+still_open seen machine line later action sent door same size before got t =
+    let at = t.attends.at_place in
+    moves_to seen size (attendant machine (places.On line action sent)) machine (places.On later action sent) door door before got t refl
+    (omega arith) (at.0, same ∙ at.1, at.2) t.placed
+
+-- The open connection was given a hint, and its record is unchanged.
+pub tends_told : {L : Type 0} (seen : L → LineSeen) (a : Attendant L) (line later : L) (action : Action) (sent : ℕ)
+    → a.place ≡ places.On line action sent → seen later ≡ seen line
+    → (door : DoorSeen) → Tends seen a door [] [] (attendant a.machine (places.On later action sent)) door
+tends_told seen a line later action sent is same door = tends_from is (still_open seen a.machine line later action sent door same)

@@ -1,7 +1,7 @@
-ghost use Rattle.std.specs.Prelude.{◌≡◌, ◌<◌, [], Err, None, OnErr, false, length, take, true, ◌++◌};
+ghost use Rattle.std.specs.Prelude.{◌≡◌, ◌<◌, [], None, OnErr, false, if◌then◌else◌, length, take, true, ◌++◌};
 ghost use Rattle.std.specs.Io.{ReadsAtMost};
 ghost use Rattle.std.specs.Io.KnownBytes.{Keeps};
-ghost use Rattle.bq_line.specs.LineCalls.{after_fill, after_flush, after_read, after_write};
+ghost use Rattle.bq_line.specs.LineCalls.{after_flush, after_read, after_write, is_nothing_yet, with_line_fault};
 ghost use Rattle.bq_line.specs.Streams.{FailsToWriteIf, MovesNothing, ReadsFrom, StaysOver, WritesTo};
 
 use crate::line::stream::{Duplex, ReadBuffer, fill, read_by, read_through};
@@ -49,29 +49,18 @@ impl<S: Duplex> IoLine<S> {
         match came {
             Ok(0) => self.ended = true,
             Ok(count) => self.read.note(&buf[..*count]),
-            Err(e) => self.note_error(*e),
+            Err(e) => self.note_error(*e, LineFault::Read),
         }
     }
 
-    // Records that a read failed, unless there were merely no bytes yet.
-    fn note_error(&mut self, e: StreamError)
-        ensures seen { ⟦<IoLine<S> as Line>⟧.seen self.new
-            ≡ after_fill (Err e) (⟦<IoLine<S> as Line>⟧.seen self.old) }
+    // Records that a call failed, unless there were merely no bytes yet, or no room yet.
+    fn note_error(&mut self, e: StreamError, fault: LineFault)
+        ensures seen { ⟦<IoLine<S> as Line>⟧.seen self.new ≡ (if is_nothing_yet e then ⟦<IoLine<S> as Line>⟧.seen self.old
+            else with_line_fault fault (⟦<IoLine<S> as Line>⟧.seen self.old)) }
         ensures stream { self.new.stream ≡ self.old.stream }
     {
         if !e.is_nothing_yet() {
-            note_fault(&mut self.fault, LineFault::Read);
-        }
-    }
-
-    // Records that a write failed, unless there was merely no room yet.
-    fn note_unwritten(&mut self, e: StreamError)
-        ensures seen { ⟦<IoLine<S> as Line>⟧.seen self.new
-            ≡ after_write (Err e) [] (⟦<IoLine<S> as Line>⟧.seen self.old) }
-        ensures stream { self.new.stream ≡ self.old.stream }
-    {
-        if !e.is_nothing_yet() {
-            note_fault(&mut self.fault, LineFault::Write);
+            note_fault(&mut self.fault, fault);
         }
     }
 
@@ -163,7 +152,7 @@ impl<S: Duplex> Line for IoLine<S> {
         match &result {
             Ok(0) => note_fault(&mut self.fault, LineFault::Write),
             Ok(count) => self.written.note(&buf[..*count]),
-            Err(e) => self.note_unwritten(*e),
+            Err(e) => self.note_error(*e, LineFault::Write),
         }
         result
     }
@@ -188,7 +177,7 @@ impl<S: Duplex> Line for IoLine<S> {
         match &result {
             Ok(0) => note_fault(&mut self.fault, LineFault::Write),
             Ok(count) => self.written.note_together(*count, first, second, third),
-            Err(e) => self.note_unwritten(*e),
+            Err(e) => self.note_error(*e, LineFault::Write),
         }
         result
     }
@@ -322,7 +311,7 @@ impl<S: Duplex> Line for BufferedLine<S> {
     fn fill(&mut self, waits: bool) -> Result<(), StreamError> {
         let result = fill(&mut self.came, &mut self.line.stream, waits);
         if let Err(e) = &result {
-            self.line.note_error(*e);
+            self.line.note_error(*e, LineFault::Read);
         }
         result
     }

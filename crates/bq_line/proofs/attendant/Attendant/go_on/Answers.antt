@@ -1,31 +1,18 @@
-use Rattle.std.proofs.Common.{◌≡◌, [], refl, sym, subst, inl, inr}
-use Rattle.bq_seat.specs.declared.machine.Action.TheVariants as actions
-use Rattle.bq_line.specs.declared.attendant.LinePlace.TheVariants as places
-use Rattle.bq_line.specs.declared.attendant.LinePlace.{LinePlace}
-use Rattle.bq_line.specs.Tending.{AreSure, MayEndAt, door_seen}
-use Rattle.bq_line.specs.declared.attendant.Progress.TheVariants as results
+use Rattle.std.proofs.Common.{[], refl, inl, inr}
+use Rattle.bq_line.specs.Tending.{door_seen}
 use Rattle.bq_line.proofs.CarriedLemmas.{ends_on, ends_submission, rests, rests_submission}
-use Rattle.bq_line.proofs.TendingLemmas.{from_place, tends_acted, tends_still, tends_submitted}
+use Rattle.bq_line.proofs.TendingLemmas.{from_place, on_action, tends_acted, tends_still, tends_submitted}
 use Rattle.bq_line.proofs.SureLemmas.{sure_further, sure_left}
 use Rattle.bq_line.proofs.attendant.Attendant.go_on.Goals as goal
 
 pub returns-in-Between-clause-went : goal.returns-in-Between-clause-went
 returns-in-Between-clause-went g c =
-    let at = door_seen g.D.Door.is_out g.D.Door.is_at_end g.D.Door.lines_over in
-    from_place g.K.Link.went c.args.link.now c.args.link.now g.L.Line.seen c.args.self.now.machine c.open_in_place.new.machine
-    c.args.self.now.place places.Between c.open_in_place.new.place (at c.args.door.now) (at c.open_in_place.new.door)
-    c.in-Between.is ([], [], inr (refl, refl, refl), c.open_in_place.ensures.went)
+    from_place g.K.Link.went _ _ c.in-Between.is ([], [], inr (refl, refl, refl), c.open_in_place.ensures.went)
 
 pub returns-in-LineOver-clause-went : goal.returns-in-LineOver-clause-went
 returns-in-LineOver-clause-went g c =
-    let at = door_seen g.D.Door.is_out g.D.Door.is_at_end g.D.Door.lines_over in
-    let m = c.args.self.now.machine in
-    let over : c.args.self.now.place ≡ places.On c.in-On.line (actions.LineOver c.in-LineOver.end) c.in-On.sent =
-    let first = c.in-On.is in let second = c.in-LineOver.is in cc in
-    from_place g.K.Link.went c.args.link.now c.args.link.now g.L.Line.seen m m c.args.self.now.place
-    (places.On c.in-On.line (actions.LineOver c.in-LineOver.end) c.in-On.sent) c.shut_line.new.place (at c.args.door.now)
-    (at c.shut_line.new.door)
-    over ([], [], inr (refl, refl, refl), c.shut_line.ensures.went m)
+    from_place g.K.Link.went _ _ (on_action c.in-On.is c.in-LineOver.is)
+    ([], [], inr (refl, refl, refl), c.shut_line.ensures.went c.args.self.now.machine)
 
 pub returns-in-Submit-clause-went : goal.returns-in-Submit-clause-went
 returns-in-Submit-clause-went g c =
@@ -33,10 +20,7 @@ returns-in-Submit-clause-went g c =
     let m = c.args.self.now.machine in
     let new = c.submit_and_take.new in
     let h = c.submit_and_take.ensures.submitted c.in-Submit.field-0 c.in-Submit.is in
-    let is : c.args.self.now.place ≡ places.On c.in-On.line (actions.Submit c.in-Submit.field-0) c.in-On.sent =
-    let first = c.in-On.is in let second = c.in-Submit.is in cc in
-    from_place g.K.Link.went c.args.link.now new.link g.L.Line.seen m new.machine c.args.self.now.place
-    (places.On c.in-On.line (actions.Submit c.in-Submit.field-0) c.in-On.sent) (places.On c.in-On.line new.action new.sent) at at is (
+    from_place g.K.Link.went _ _ (on_action c.in-On.is c.in-Submit.is) (
       h.0,
       h.1,
       inl h.2,
@@ -47,17 +31,15 @@ returns-in-Submit-clause-went g c =
 pub returns-in_default-clause-went : goal.returns-in_default-clause-went
 returns-in_default-clause-went g c =
     let at = door_seen g.D.Door.is_out g.D.Door.is_at_end g.D.Door.lines_over c.args.door.now in
-    let new = c.carry_out.new in
     let h = c.carry_out.ensures.carried in
-    let t = tends_acted g.K.Link.went _ _ _ g.L.Line.seen _ _ c.in-On.line new.line _ _ c.in-On.sent new.sent h.0 h.1 h.2 h.3 in
-    from_place g.K.Link.went c.args.link.now new.link g.L.Line.seen c.args.self.now.machine new.machine c.args.self.now.place
-    (places.On c.in-On.line c.in-On.action c.in-On.sent)
-    (places.On new.line new.action new.sent) at at c.in-On.is (h.0, h.1, t.0, t.1 at)
+    let t = tends_acted g.K.Link.went _ _ _ g.L.Line.seen _ _ c.in-On.line c.carry_out.new.line _ _ c.in-On.sent c.carry_out.new.sent
+    h.0 h.1 h.2 h.3 in
+    from_place g.K.Link.went _ _ c.in-On.is (h.0, h.1, t.0, t.1 at)
 
 pub returns-in-Done-clause-went : goal.returns-in-Done-clause-went
 returns-in-Done-clause-went g c =
     let at = door_seen g.D.Door.is_out g.D.Door.is_at_end g.D.Door.lines_over in
-    ([], [], inr (refl, refl, refl), tends_still g.L.Line.seen _ (at c.args.door.now))
+    ([], [], inr (refl {a = c.args.link.now}, refl, refl), tends_still g.L.Line.seen c.args.self.now (at c.args.door.now))
 
 pub returns-in-Leaving-clause-went : goal.returns-in-Leaving-clause-went
 returns-in-Leaving-clause-went g c =
@@ -76,8 +58,7 @@ returns-in_default-clause-still g c = λ moved.
 pub returns-in-Submit-clause-progress : goal.returns-in-Submit-clause-progress
 returns-in-Submit-clause-progress g c =
     let h = c.submit_and_take.ensures.submitted c.in-Submit.field-0 c.in-Submit.is in
-    ends_submission _ _ c.in-On.line c.in-Submit.field-0 c.in-On.sent _ _ _ h.0 h.1
-    (let first = c.in-On.is in let second = c.in-Submit.is in cc) h.3
+    ends_submission _ _ c.in-On.line c.in-Submit.field-0 c.in-On.sent _ _ _ h.0 h.1 (on_action c.in-On.is c.in-Submit.is) h.3
 
 pub returns-in-Submit-clause-still : goal.returns-in-Submit-clause-still
 returns-in-Submit-clause-still g c = λ moved.
@@ -85,16 +66,13 @@ returns-in-Submit-clause-still g c = λ moved.
     rests_submission g.K.Link.went _ _ _ _ _ _ _ h.0 h.1 h.2 h.3 moved
 
 pub returns-in-LineOver-clause-progress : goal.returns-in-LineOver-clause-progress
-returns-in-LineOver-clause-progress g c =
-    let over : c.args.self.now.place ≡ places.On c.in-On.line (actions.LineOver c.in-LineOver.end) c.in-On.sent =
-    let first = c.in-On.is in let second = c.in-LineOver.is in cc in
-    subst (MayEndAt results.Moved) (sym over) refl
+returns-in-LineOver-clause-progress g c = rw (on_action c.in-On.is c.in-LineOver.is) refl
 
 pub returns-in-Between-clause-progress : goal.returns-in-Between-clause-progress
-returns-in-Between-clause-progress g c = subst (MayEndAt results.Moved) (sym c.in-Between.is) refl
+returns-in-Between-clause-progress g c = rw c.in-Between.is refl
 
 pub returns-in-Done-clause-progress : goal.returns-in-Done-clause-progress
-returns-in-Done-clause-progress g c = subst (MayEndAt results.NothingToDo) (sym c.in-Done.is) refl
+returns-in-Done-clause-progress g c = rw c.in-Done.is refl
 
 pub returns-in-Leaving-clause-still : goal.returns-in-Leaving-clause-still
 returns-in-Leaving-clause-still g c = λ moved. inl (c.leave.ensures.still moved)
@@ -104,15 +82,11 @@ returns-in-Done-clause-still g c = λ moved. inr (refl, refl, refl)
 
 pub returns-in-Between-clause-sure : goal.returns-in-Between-clause-sure
 returns-in-Between-clause-sure g c = λ never sure.
-    c.open_in_place.ensures.sure never
-    (subst (λ (p : LinePlace g.row.L.Denot). AreSure g.L.Line.lies_over p (g.D.Door.lines_over c.args.door.now)) c.in-Between.is sure)
+    c.open_in_place.ensures.sure never (rw c.in-Between.is at sure)
 
 pub returns-in-LineOver-clause-sure : goal.returns-in-LineOver-clause-sure
 returns-in-LineOver-clause-sure g c = λ never sure.
-    let over : c.args.self.now.place ≡ places.On c.in-On.line (actions.LineOver c.in-LineOver.end) c.in-On.sent =
-    let first = c.in-On.is in let second = c.in-LineOver.is in cc in
-    c.shut_line.ensures.sure never
-    (subst (λ (p : LinePlace g.row.L.Denot). AreSure g.L.Line.lies_over p (g.D.Door.lines_over c.args.door.now)) over sure)
+    c.shut_line.ensures.sure never (rw (on_action c.in-On.is c.in-LineOver.is) at sure)
 
 pub returns-in_default-clause-sure : goal.returns-in_default-clause-sure
 returns-in_default-clause-sure g c = λ never sure.

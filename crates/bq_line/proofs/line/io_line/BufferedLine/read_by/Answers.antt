@@ -1,17 +1,10 @@
 use Rattle.std.proofs.Common.{ap}
-use Rattle.std.specs.Io.KnownBytes.{prepend_known}
-use Rattle.bq_line.specs.Streams.{StreamSeen}
-use Rattle.bq_line.proofs.StreamLemmas.{read_noted}
+use Rattle.bq_line.proofs.StreamLemmas.{read_noted, stream_behind}
 use Rattle.bq_line.proofs.line.io_line.BufferedLine.read_by.Goals as goal
 
 pub returns-clause-stays : goal.returns-clause-stays
 returns-clause-stays g c first over =
     let read = c.read_through-result in
-    let of : g.row.S.Denot → StreamSeen =
-    λ s. record {
-      left = prepend_known read.new.buffer (g.S.Duplex.remaining s);
-      held = g.S.Duplex.contents s;
-      may_fail = g.S.Duplex.may_fail s;
-    } in
+    let of = stream_behind g.S.Duplex read.new.buffer in
     read_noted first _ (of read.new.stream) _ _ _ read.result read.new.buf _ read.auto.buf c.requires read.ensures.bytes.1
     read.ensures.apart read.ensures.same read.ensures.fault c.note_read.ensures.seen (ap of c.note_read.ensures.stream) over
