@@ -24,11 +24,6 @@ pub sure_opened : {L : Type 0} (lies_over : StreamSeen → L → Type 0) (place 
     → AreSure lies_over (places.On line action 0) later
 sure_opened lies_over place line action lines later is opened sure = record { ended = rw is sure.ended; at_place = opened }
 
--- No connection was opened.
-pub sure_without : {L : Type 0} (lies_over : StreamSeen → L → Type 0) (place next : LinePlace L) (lines later : List LineOver)
-    → later ≡ lines → IsSureAt lies_over next → AreSure lies_over place lines → AreSure lies_over next later
-sure_without lies_over place next lines later is at sure = record { ended = rw is sure.ended; at_place = at }
-
 -- A connection was shut.
 pub sure_shut : {L : Type 0} (seen : L → LineSeen) (lies_over : StreamSeen → L → Type 0) (place : LinePlace L) (line : L) (action : Action)
     (sent : ℕ) (end : LineEnd) (lines later : List LineOver)

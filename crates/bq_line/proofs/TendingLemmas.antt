@@ -86,15 +86,6 @@ tends_opened seen old new line action door next move over out more fresh size be
     moves_to seen size (attendant old places.Between) new (places.On line action 0) door next before got t over (omega arith)
     (seen line, none_begun action (seen line), rw (at.0, at.1) (opened_on size old new action (seen line) at.2 at.3 move fresh)) (out, more)
 
--- No more connections come.
-pub tends_at_end : {L : Type 0} (seen : L → LineSeen) (machine : SeatMachine) (door next : DoorSeen)
-    → next.lines_over ≡ door.lines_over → next.is_out ≡ false → next.is_at_end ≡ true
-    → Tends seen (attendant machine places.Between) door [] [] (attendant machine places.Leaving) next
-tends_at_end seen machine door next over inside ended size before got t =
-    let at = t.attends.at_place in
-    moves_to seen size (attendant machine places.Between) machine places.Leaving door next before got t over (omega arith) (at.0, at.1)
-    (inside, ended)
-
 -- A connection that has ended was shut.
 pub tends_shut : {L : Type 0} (seen : L → LineSeen) (machine : SeatMachine) (line : L) (end : LineEnd) (sent : ℕ) (door next : DoorSeen)
     → next.lines_over ≡ door.lines_over ++ record { seen = seen line; over = end } ∷ [] → next.is_out ≡ false

@@ -321,8 +321,8 @@ impl<L: Line + Drop> Attendant<L> {
     }
 }
 
-// Opens the next connection in its place. A separate function, because its caller would otherwise
-// reserve and initialize room for a connection on every path.
+// Opens the next connection in its place, or learns that no more come. A separate function, because
+// its caller would otherwise reserve and initialize room for a connection on every path.
 #[inline(never)]
 fn open_in_place<L: Line + Drop, D: Door<Line = L>>(
     alloc: Global,
@@ -337,7 +337,14 @@ fn open_in_place<L: Line + Drop, D: Door<Line = L>>(
     ensures sure { StaysSure L.lies_over D.lines_over D.may_fail LinePlace.Between door.old place.new door.new }
     ensures same { (first : D) → D.same first door.old → D.same first door.new }
 {
-    *place = open_line(alloc, machine, door);
+    match door.open() {
+        Ok(Some(line)) => {
+            let action = machine.on(alloc, Event::Opened);
+            put_place(place, LinePlace::On(line, action, 0));
+        }
+        Ok(None) => put_place(place, LinePlace::Leaving),
+        Err(_) => put_place(place, LinePlace::Leaving),
+    }
 }
 
 // Replaces the place of a seat. It is a call, so that what drops the last one is proved once.
@@ -345,26 +352,6 @@ fn put_place<L: Line + Drop>(place: &mut LinePlace<L>, next: LinePlace<L>)
     ensures { place.new ≡ next }
 {
     drop(mem::replace(place, next));
-}
-
-// Opens the next connection, or learns that no more come.
-fn open_line<L: Line + Drop, D: Door<Line = L>>(
-    alloc: Global,
-    machine: &mut SeatMachine,
-    door: &mut D,
-) -> LinePlace<L>
-    requires more { MayOpen (D.is_out door.old) (D.is_at_end door.old) }
-    ensures opened { result ≡ LinePlace.Between → ⊥ }
-    ensures went { let at = door_seen D.is_out D.is_at_end D.lines_over in
-        Tends L.seen (attendant machine.old LinePlace.Between) (at door.old) [] [] (attendant machine.new result) (at door.new) }
-    ensures sure { StaysSure L.lies_over D.lines_over D.may_fail LinePlace.Between door.old result door.new }
-    ensures same { (first : D) → D.same first door.old → D.same first door.new }
-{
-    match door.open() {
-        Ok(Some(line)) => LinePlace::On(line, machine.on(alloc, Event::Opened), 0),
-        Ok(None) => LinePlace::Leaving,
-        Err(_) => LinePlace::Leaving,
-    }
 }
 
 // Shuts the connection, and frees its place. A separate function, because its caller would
@@ -400,7 +387,10 @@ fn leave<L: Line + Drop, K: Link>(place: &mut LinePlace<L>, link: &mut K) -> Pro
     ensures went { (machine : SeatMachine) (door : DoorSeen)
         → GoesOn K.went link.old link.new L.seen (attendant machine place.old) door (attendant machine place.new) door }
 {
-    if link.submit(&mut Step::Gone) {
+    let mut step = Step::Gone;
+    let is_submitted = link.submit(&mut step);
+    drop(step);
+    if is_submitted {
         put_place(place, LinePlace::Done);
         Progress::Moved
     } else {
