@@ -1,5 +1,5 @@
 ghost use Rattle.std.specs.Prelude.{◌≡◌, ◌≤◌, ◌+◌, ◌++◌, ◌∷◌, ◌-◌, [], drop, length, map, vec_len, if◌then◌else◌};
-ghost use Rattle.std.specs.Prelude.{◌↔◌, IfErr, IfOk, IsNone, false, true};
+ghost use Rattle.std.specs.Prelude.{◌↔◌, IfErr, IfOk, IsNone, Ok, false, true};
 ghost use Rattle.std.specs.List.{All};
 ghost use Rattle.std.specs.Option.{option_to_list};
 ghost use Rattle.std.specs.Vec.{vec_capacity};
@@ -79,6 +79,27 @@ impl MemDoor {
     {
         self.coming.len()
     }
+
+    // Opens the next connection. If none is left, the door has ended.
+    fn open_next(&mut self) -> Option<MemLine>
+        requires more { MayOpen self.old.is_out self.old.is_at_end }
+        ensures opened { IsOpened {E = DoorFault} ⟦<MemLine as Line>⟧.seen self.new.is_out self.new.is_at_end (Ok result) }
+        ensures over { self.new.over ≡ self.old.over }
+        ensures put_in { self.new.put_in ≡ self.old.put_in }
+        ensures next { self.old.coming.items ≡ option_to_list result ++ self.new.coming.items }
+        ensures last { IsNone result ↔ (self.old.coming.items ≡ []) }
+    {
+        match self.coming.pop_front() {
+            Some(line) => {
+                self.is_out = true;
+                Some(line)
+            }
+            None => {
+                self.is_at_end = true;
+                None
+            }
+        }
+    }
 }
 
 impl Door for MemDoor {
@@ -115,16 +136,7 @@ impl Door for MemDoor {
         ensures last { IfOk result (λ line. IsNone line ↔ (self.old.coming.items ≡ [])) }
         ensures no_fault { IfErr result (λ e. ⊥) }
     {
-        match self.coming.pop_front() {
-            Some(line) => {
-                self.is_out = true;
-                Ok(Some(line))
-            }
-            None => {
-                self.is_at_end = true;
-                Ok(None)
-            }
-        }
+        Ok(self.open_next())
     }
 
     // Its connections are never waited for, so nothing is watched.
@@ -140,15 +152,9 @@ impl Door for MemDoor {
         ensures over { self.new.over ≡ self.old.over }
         ensures put_in { self.new.put_in ≡ self.old.put_in }
     {
-        match self.coming.pop_front() {
-            Some(line) => {
-                self.is_out = true;
-                Ok(Opening::Line(line))
-            }
-            None => {
-                self.is_at_end = true;
-                Ok(Opening::NoMore)
-            }
+        match self.open_next() {
+            Some(line) => Ok(Opening::Line(line)),
+            None => Ok(Opening::NoMore),
         }
     }
 
