@@ -124,14 +124,9 @@ impl Line for MemLine {
     ghost use Rattle.std.specs.Prelude.{[], Some};
     ghost use Rattle.bq_line.specs.Streams.{not_both};
     ghost use Rattle.bq_line.specs.LineParts.{all_bytes};
-    ghost use Rattle.bq_line.specs.MemDoors.{KeepsPartsAndRoom};
+    ghost use Rattle.bq_line.specs.MemDoors.{ReadsNextPart, seen_of};
 
-    ghost seen = { λ line. record {
-      read = bytes_up_to line.parts.items line.place line.offset;
-      written = line.written.items;
-      ended = line.ended;
-      fault = line.fault;
-    } };
+    ghost seen = { λ line. seen_of line };
 
     // Its stream consists of the bytes of its parts, and nothing had been written to it. A part may be
     // a fault.
@@ -146,15 +141,7 @@ impl Line for MemLine {
         ensures seen { ⟦<MemLine as Line>⟧.seen self.new
             ≡ after_read result buf.new (⟦<MemLine as Line>⟧.seen self.old) }
         ensures stays { StaysOver ⟦<MemLine as Line>⟧.lies_over self.old self.new }
-        // The first part that isn't done answers, and no other is skipped.
-        ensures answered { IsAnsweredBy
-            (slice_get self.old.parts.items (open_place self.old.parts.items self.old.place self.old.offset (vec_len self.old.written)))
-            result }
-        ensures place { self.new.place
-            ≡ place_after (slice_get self.old.parts.items
-            (open_place self.old.parts.items self.old.place self.old.offset (vec_len self.old.written)))
-            (open_place self.old.parts.items self.old.place self.old.offset (vec_len self.old.written)) }
-        ensures kept { KeepsPartsAndRoom self.old self.new }
+        ensures next { ReadsNextPart self.old result self.new }
     {
         self.pass_parts();
         self.read_part(buf)
@@ -167,15 +154,7 @@ impl Line for MemLine {
         ensures seen { ⟦<MemLine as Line>⟧.seen self.new
             ≡ after_read result buf.new (⟦<MemLine as Line>⟧.seen self.old) }
         ensures stays { StaysOver ⟦<MemLine as Line>⟧.lies_over self.old self.new }
-        // The first part that isn't done answers, and no other is skipped.
-        ensures answered { IsAnsweredBy
-            (slice_get self.old.parts.items (open_place self.old.parts.items self.old.place self.old.offset (vec_len self.old.written)))
-            result }
-        ensures place { self.new.place
-            ≡ place_after (slice_get self.old.parts.items
-            (open_place self.old.parts.items self.old.place self.old.offset (vec_len self.old.written)))
-            (open_place self.old.parts.items self.old.place self.old.offset (vec_len self.old.written)) }
-        ensures kept { KeepsPartsAndRoom self.old self.new }
+        ensures next { ReadsNextPart self.old result self.new }
     {
         self.read(buf)
     }
