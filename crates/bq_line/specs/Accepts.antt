@@ -4,9 +4,6 @@ use Rattle.std.specs.List.{list_any}
 use Rattle.std.specs.Ordering.{int_eq}
 use Rattle.std.specs.declared.io.Error.{Error}
 use Rattle.std.specs.IoError.{raw_os_error}
-use Rattle.bq_line.specs.declared.door.accept.Accepted.{Accepted}
-use Rattle.bq_line.specs.declared.door.accept.Accepted.TheVariants as accepts
-use Rattle.bq_line.specs.declared.line.connection.Connection.{Connection}
 
 -- the Linux error numbers that mean that the listener itself is broken: EBADF, EFAULT, EINVAL and
 -- ENOTSOCK
@@ -21,12 +18,6 @@ is_listener_fault (Some number) = list_any (λ fault. int_eq fault number) liste
 -- temporary: it comes from the peer or the network, or from a lack of memory or descriptors.
 abbrev pub ends_listener : Error → Bool
 ends_listener e = is_listener_fault (raw_os_error e)
-
--- If a connection was accepted, this holds of it.
-abbrev pub IfCame : {S : Type 0} → Accepted S → (Connection S → Type 0) → Type 0
-IfCame (accepts.Came connection) P = P connection
-IfCame accepts.NoneYet P = Unit {0}
-IfCame accepts.Short P = Unit {0}
 
 -- How many accepts in a row have failed after one more, whose result this is.
 abbrev pub failures_after : {S E : Type 0} → Result (Option S) E → ℕ → ℕ

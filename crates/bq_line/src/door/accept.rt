@@ -1,10 +1,10 @@
 //! Accepts the next connection of a listener.
-ghost use Rattle.std.specs.Prelude.{◌≡◌, ◌⊎◌, IfErr, IfOk, OnErr, true};
-ghost use Rattle.bq_line.specs.Accepts.{IfCame, ends_listener, is_listener_fault, most_failures};
+ghost use Rattle.std.specs.Prelude.{◌≡◌, ◌⊎◌, Err, IfErr, IfOk, true};
+ghost use Rattle.bq_line.specs.Accepts.{ends_listener, is_listener_fault, most_failures};
 ghost use Rattle.bq_line.specs.Ready.{IsWatched};
 
 use super::failures::Failures;
-use super::refusals::{Met, Refusals};
+use super::refusals::Refusals;
 use super::{Listen, TurnedAway};
 use crate::line::{Connection, NotWatched, Watcher};
 use std::io::{Eprint, ErrorKind};
@@ -22,8 +22,11 @@ const LISTENER_FAULTS: [i32; 4] = [9, 14, 22, 88];
 /// How many peers that have disconnected already one call that does not wait skips.
 const PEERS: u32 = 64;
 
-/// What an error of accept means.
-enum NotAccepted {
+/// Why no connection was accepted.
+#[derive(Clone, Copy, PartialEq, Eq)]
+pub(super) enum NotAccepted {
+    /// The listener does not wait, and no client has connected yet.
+    NoneYet,
     /// The peer had closed its connection, or a signal arrived. The next connection can be accepted
     /// at once.
     OfPeer,
@@ -51,40 +54,29 @@ pub(super) fn accept<R: Clock + Eprint, T: Listen>(
     ensures fault { IfErr result (λ failures. (T.may_fail listener.now ≡ true) ⊎ (failures ≡ most_failures)) }
     ensures stream { IfOk result (λ c. T.Stream.may_fail c.stream ≡ T.streams_may_fail listener.now) }
 {
-    let mut met = Met::none(refusals);
+    let mut is_met = false;
     let mut failures = Failures::none();
     for _ in 0..u64::MAX {
         match failures.accept(listener) {
             Ok(Some(stream)) => {
-                met.end();
+                note_accepted(refusals, &mut is_met);
                 return Ok(Connection::new(stream));
             }
             Ok(None) => {}
             Err(e) => match meaning_of(&e) {
                 NotAccepted::OfPeer => {}
-                NotAccepted::Passing => {
-                    met.note(rt, &e);
+                NotAccepted::NoneYet | NotAccepted::Passing => {
+                    note_refusal(rt, refusals, &mut is_met, &e);
                     thread::sleep(rt, Duration::from_millis(REST));
                 }
                 NotAccepted::OfListener => {
-                    met.note(rt, &e);
+                    note_refusal(rt, refusals, &mut is_met, &e);
                     return Err(failures);
                 }
             },
         }
     }
     Err(failures)
-}
-
-/// The result of an accept that does not wait.
-#[derive(Drop)]
-pub(super) enum Accepted<S> {
-    /// A connection whose calls do not wait.
-    Came(Connection<S>),
-    /// No client has connected yet.
-    NoneYet,
-    /// No connection can be accepted for a while.
-    Short,
 }
 
 /// Accepts the next connection of a listener that was set not to wait, and has it watched. `is_met`
@@ -96,53 +88,94 @@ pub(super) fn accept_now<R: Eprint, T: Listen, W: Watcher>(
     refusals: Option<&Refusals>,
     is_met: &mut bool,
     watcher: &W,
-) -> io::Result<Accepted<T::Stream>>
-    ensures fault { OnErr result (T.may_fail listener.now ≡ true) }
-    ensures stream { IfOk result (λ a. IfCame a (λ c. T.Stream.may_fail c.stream ≡ T.streams_may_fail listener.now)) }
-    ensures watched { IfOk result (λ a. IfCame a (λ c. IsWatched T.Stream.is_nonblocking T.Stream.reports_bytes T.Stream.reports_room
-        c.ready c.stream)) }
+) -> Result<Connection<T::Stream>, NotAccepted>
+    ensures fault { result ≡ Err NotAccepted.OfListener → T.may_fail listener.now ≡ true }
+    ensures stream { IfOk result (λ c. T.Stream.may_fail c.stream ≡ T.streams_may_fail listener.now) }
+    ensures watched { IfOk result (λ c. IsWatched T.Stream.is_nonblocking T.Stream.reports_bytes T.Stream.reports_room
+        c.ready c.stream) }
     // A connection that the system refuses to watch is not opened.
-    ensures registered { IfOk result (λ a. IfCame a (λ c. W.watches watcher.now (T.Stream.descriptor c.stream) ≡ true)) }
+    ensures registered { IfOk result (λ c. W.watches watcher.now (T.Stream.descriptor c.stream) ≡ true) }
 {
-    let mut met = Met::before(refusals, *is_met);
     for _ in 0..PEERS {
-        match listener.accept() {
-            Ok((stream, _peer)) => match Connection::watched(stream, watcher) {
-                Ok(connection) => {
-                    met.end();
-                    *is_met = false;
-                    return Ok(Accepted::Came(connection));
-                }
-                Err(NotWatched::HasGone) => {}
-                // It is closed: it would never be read.
-                Err(NotWatched::Refused(e)) => {
-                    met.note(rt, &e);
-                    *is_met = true;
-                    return Ok(Accepted::Short);
-                }
-            },
-            Err(e) => {
-                if e.kind() == ErrorKind::WouldBlock {
-                    return Ok(Accepted::NoneYet);
-                }
-                match meaning_of(&e) {
-                    NotAccepted::OfPeer => {}
-                    NotAccepted::Passing => {
-                        met.note(rt, &e);
-                        *is_met = true;
-                        return Ok(Accepted::Short);
-                    }
-                    NotAccepted::OfListener => {
-                        met.note(rt, &e);
-                        return Err(e);
-                    }
-                }
-            }
+        match try_accept(rt, listener, refusals, is_met, watcher) {
+            Err(NotAccepted::OfPeer) => {}
+            came => return came,
         }
     }
-    met.note(rt, &io::Error::from(ErrorKind::ConnectionAborted));
+    let gone = io::Error::from(ErrorKind::ConnectionAborted);
+    note_refusal(rt, refusals, is_met, &gone);
+    Err(NotAccepted::Passing)
+}
+
+// Makes one accept.
+fn try_accept<R: Eprint, T: Listen, W: Watcher>(
+    rt: &R,
+    listener: &T,
+    refusals: Option<&Refusals>,
+    is_met: &mut bool,
+    watcher: &W,
+) -> Result<Connection<T::Stream>, NotAccepted>
+    ensures fault { result ≡ Err NotAccepted.OfListener → T.may_fail listener.now ≡ true }
+    ensures stream { IfOk result (λ c. T.Stream.may_fail c.stream ≡ T.streams_may_fail listener.now) }
+    ensures watched { IfOk result (λ c. IsWatched T.Stream.is_nonblocking T.Stream.reports_bytes T.Stream.reports_room
+        c.ready c.stream) }
+    ensures registered { IfOk result (λ c. W.watches watcher.now (T.Stream.descriptor c.stream) ≡ true) }
+{
+    match listener.accept() {
+        Ok((stream, _peer)) => match Connection::watched(stream, watcher) {
+            Ok(connection) => {
+                note_accepted(refusals, is_met);
+                Ok(connection)
+            }
+            Err(NotWatched::HasGone) => Err(NotAccepted::OfPeer),
+            // It is closed: it would never be read.
+            Err(NotWatched::Refused(e)) => {
+                note_refusal(rt, refusals, is_met, &e);
+                Err(NotAccepted::Passing)
+            }
+        },
+        Err(e) => Err(refused_for(rt, refusals, is_met, &e)),
+    }
+}
+
+// Returns what an error of accept means. It is reported unless it concerns a single client, or means
+// that none has connected.
+fn refused_for<R: Eprint>(
+    rt: &R,
+    refusals: Option<&Refusals>,
+    is_met: &mut bool,
+    e: &io::Error,
+) -> NotAccepted
+    ensures { result ≡ NotAccepted.OfListener → ends_listener e.now ≡ true }
+{
+    let meaning = meaning_of(e);
+    if matches!(meaning, NotAccepted::Passing | NotAccepted::OfListener) {
+        note_refusal(rt, refusals, is_met, e);
+    }
+    meaning
+}
+
+// Records that a connection could not be accepted. This is reported only the first time since the
+// door accepted a connection; `is_met` says whether it happened already.
+fn note_refusal<R: Eprint>(rt: &R, refusals: Option<&Refusals>, is_met: &mut bool, e: &io::Error) {
+    if *is_met {
+        return;
+    }
     *is_met = true;
-    Ok(Accepted::Short)
+    if let Some(refusals) = refusals {
+        refusals.meet(rt, e);
+    }
+}
+
+// Records that a connection was accepted.
+fn note_accepted(refusals: Option<&Refusals>, is_met: &mut bool) {
+    if !*is_met {
+        return;
+    }
+    *is_met = false;
+    if let Some(refusals) = refusals {
+        refusals.pass();
+    }
 }
 
 /// Accepts the next connection of a listener that was set not to wait, and closes it. Clients that
@@ -151,23 +184,24 @@ pub(super) fn close_next<T: Listen>(listener: &T) -> TurnedAway {
     for _ in 0..PEERS {
         match listener.accept() {
             Ok(_closed) => return TurnedAway::Closed,
-            Err(e) => {
-                if e.kind() == ErrorKind::WouldBlock {
-                    return TurnedAway::NoneThere;
-                }
-                if !is_of_peer(e.kind()) {
-                    return TurnedAway::Later;
-                }
-            }
+            Err(e) => match meaning_of(&e) {
+                NotAccepted::OfPeer => {}
+                NotAccepted::NoneYet => return TurnedAway::NoneThere,
+                NotAccepted::Passing | NotAccepted::OfListener => return TurnedAway::Later,
+            },
         }
     }
     TurnedAway::Later
 }
 
+// Returns what an error of accept means.
 fn meaning_of(e: &io::Error) -> NotAccepted
     ensures { result ≡ NotAccepted.OfListener → ends_listener e.now ≡ true }
 {
-    if is_of_peer(e.kind()) {
+    let kind = e.kind();
+    if kind == ErrorKind::WouldBlock {
+        NotAccepted::NoneYet
+    } else if is_of_peer(kind) {
         NotAccepted::OfPeer
     } else if is_listener_fault(e.raw_os_error()) {
         NotAccepted::OfListener

@@ -5,7 +5,7 @@ ghost use Rattle.bq_line.specs.InAll.{in_all};
 ghost use Rattle.bq_line.specs.Ready.{IsWatched};
 ghost use Rattle.bq_line.specs.Streams.{IsSureLine};
 
-use super::accept::{Accepted, accept, accept_now, close_next};
+use super::accept::{NotAccepted, accept, accept_now, close_next};
 use super::failures::Failures;
 use super::free_doors::FreeDoors;
 use super::line_record::LineRecord;
@@ -329,14 +329,14 @@ impl<'l, R: Clock + Eprint, S: Socket + Drop + Send, T: Listen<Stream = S>> Door
             &mut self.met_shortage,
             watcher,
         ) {
-            Ok(Accepted::Came(stream)) => {
+            Ok(stream) => {
                 self.tell_taken();
                 let buffer = self.lend();
                 Ok(Opening::Line(BufferedLine::new(stream, buffer)))
             }
-            Ok(Accepted::NoneYet) => Ok(Opening::NotYet),
-            Ok(Accepted::Short) => Ok(Opening::Later),
-            Err(_) => {
+            Err(NotAccepted::NoneYet) => Ok(Opening::NotYet),
+            Err(NotAccepted::OfPeer | NotAccepted::Passing) => Ok(Opening::Later),
+            Err(NotAccepted::OfListener) => {
                 self.is_at_end = true;
                 self.met_fault = true;
                 self.tell_fault();

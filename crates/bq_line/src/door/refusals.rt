@@ -27,58 +27,16 @@ impl Refusals {
         }
     }
 
-    // Records that a door met its first fault since it accepted a connection.
-    fn meet<R: Eprint>(&self, rt: &R, e: &io::Error) {
+    /// Records that a door met its first fault since it accepted a connection.
+    pub(super) fn meet<R: Eprint>(&self, rt: &R, e: &io::Error) {
         if self.met.fetch_add(1, Ordering::Relaxed) == 0 {
             // If standard error is closed, the line is lost.
             let _told = eprintln!(rt; "{}: {e}", self.text);
         }
     }
 
-    // Records that a door that met a fault accepted a connection again.
-    fn pass(&self) {
+    /// Records that a door that met a fault accepted a connection again.
+    pub(super) fn pass(&self) {
         self.met.fetch_sub(1, Ordering::Relaxed);
-    }
-}
-
-/// Whether one door met a fault since it last accepted a connection. The record that its doors
-/// share, if any, reports it.
-#[derive(Drop)]
-pub(super) struct Met<'r> {
-    refusals: Option<&'r Refusals>,
-    is_met: bool,
-}
-
-impl<'r> Met<'r> {
-    pub(super) fn none(refusals: Option<&'r Refusals>) -> Met<'r> {
-        Met {
-            refusals,
-            is_met: false,
-        }
-    }
-
-    /// A door that may have met a fault already, as `is_met` says.
-    pub(super) fn before(refusals: Option<&'r Refusals>, is_met: bool) -> Met<'r> {
-        Met { refusals, is_met }
-    }
-
-    /// Records that a connection could not be accepted.
-    pub(super) fn note<R: Eprint>(&mut self, rt: &R, e: &io::Error) {
-        if self.is_met {
-            return;
-        }
-        self.is_met = true;
-        if let Some(refusals) = self.refusals {
-            refusals.meet(rt, e);
-        }
-    }
-
-    /// Records that a connection was accepted.
-    pub(super) fn end(self) {
-        if self.is_met {
-            if let Some(refusals) = self.refusals {
-                refusals.pass();
-            }
-        }
     }
 }
