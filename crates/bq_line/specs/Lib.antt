@@ -10,6 +10,7 @@ pub mod LineCalls
 pub mod LineNumbers
 pub mod LineParts
 pub mod Links
+pub mod ListenDoors
 pub mod MemDoors
 pub mod ReadingNumbers
 pub mod Ready

@@ -88,14 +88,11 @@ impl<'l, R: Clock + Eprint, S: Socket + Drop + Send, T: Listen<Stream = S>> List
 }
 
 impl<'l, R: Clock + Eprint, T> ListenDoor<'l, R, T> {
+    ghost use Rattle.bq_line.specs.ListenDoors.{KeepsDoor};
+
     /// Returns the same door, which also reports connections that can't be accepted.
     pub fn telling(mut self, refusals: &'l Refusals) -> ListenDoor<'l, R, T>
-        ensures inside { result.is_out ≡ self.entry.is_out }
-        ensures at_end { result.is_at_end ≡ self.entry.is_at_end }
-        ensures over { result.over ≡ self.entry.over }
-        ensures at { result.listener ≡ self.entry.listener }
-        ensures allowed { result.left ≡ self.entry.left }
-        ensures fault { result.met_fault ≡ self.entry.met_fault }
+        ensures kept { KeepsDoor self.entry result }
         ensures told { result.refusals ≡ Some refusals.entry }
     {
         self.refusals = Some(refusals);
@@ -104,12 +101,7 @@ impl<'l, R: Clock + Eprint, T> ListenDoor<'l, R, T> {
 
     /// Returns the same door as one of a group that reports when all of its doors are taken.
     pub fn among(mut self, free: &'l FreeDoors) -> ListenDoor<'l, R, T>
-        ensures inside { result.is_out ≡ self.entry.is_out }
-        ensures at_end { result.is_at_end ≡ self.entry.is_at_end }
-        ensures over { result.over ≡ self.entry.over }
-        ensures at { result.listener ≡ self.entry.listener }
-        ensures allowed { result.left ≡ self.entry.left }
-        ensures fault { result.met_fault ≡ self.entry.met_fault }
+        ensures kept { KeepsDoor self.entry result }
         ensures refusals { result.refusals ≡ self.entry.refusals }
         ensures told { result.free ≡ Some free.entry }
     {
@@ -119,12 +111,7 @@ impl<'l, R: Clock + Eprint, T> ListenDoor<'l, R, T> {
 
     /// Returns the same door as one of a group that is counted.
     pub fn counted(mut self, among: &'l OpenDoors) -> ListenDoor<'l, R, T>
-        ensures inside { result.is_out ≡ self.entry.is_out }
-        ensures at_end { result.is_at_end ≡ self.entry.is_at_end }
-        ensures over { result.over ≡ self.entry.over }
-        ensures at { result.listener ≡ self.entry.listener }
-        ensures allowed { result.left ≡ self.entry.left }
-        ensures fault { result.met_fault ≡ self.entry.met_fault }
+        ensures kept { KeepsDoor self.entry result }
         ensures refusals { result.refusals ≡ self.entry.refusals }
         ensures free { result.free ≡ self.entry.free }
         ensures counted { result.counted ≡ Some among.entry }
@@ -196,16 +183,15 @@ impl<'l, R: Clock + Eprint, T> ListenDoor<'l, R, T> {
 }
 
 impl<'l, R, T: Listen> ListenDoor<'l, R, T> {
+    ghost use Rattle.bq_line.specs.ListenDoors.{KeepsDoor};
+
     // Sets the listener not to wait. Returns false if that fails.
     fn stop_waiting(&mut self) -> bool
         ensures set { result ≡ self.new.never_waits }
         // Only a successful switch changes the recorded state.
         ensures made { self.new.never_waits ≡ true → self.old.never_waits ≡ false →
             T.is_nonblocking self.old.listener.now ≡ true }
-        ensures rest { (self.new.left ≡ self.old.left) × (self.new.is_out ≡ self.old.is_out)
-            × (self.new.is_at_end ≡ self.old.is_at_end) × (self.new.over ≡ self.old.over) }
-        ensures listener { self.new.listener ≡ self.old.listener }
-        ensures fault { self.new.met_fault ≡ self.old.met_fault }
+        ensures kept { KeepsDoor self.old self.new }
     {
         if !self.never_waits {
             if let Err(_) = self.listener.set_nonblocking(true) {
