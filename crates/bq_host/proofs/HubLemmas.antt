@@ -35,19 +35,6 @@ module _ {C K : Type 0} (machine : K → Machine) (compared : K → ℕ) where
     due_is = ready.due;
   }
 
-  -- It stays so if other answers are not in the mail.
-  pub order_moved : (first last : Hub C K) (held : Option GivenAnswer) (answers : List GivenAnswer) (sorted : Bool)
-      → last ≡ with_pending held answers sorted first → (sorted ≡ true → (state_of machine compared last).pending ≡ [])
-      → IsInOrder (state_of machine compared first) → IsInOrder (state_of machine compared last)
-  order_moved first last held answers sorted moved none o =
-      subst (λ (h : Hub C K). IsInOrder (state_of machine compared h)) (sym moved)
-      (record {
-        many = o.many;
-        room = o.room;
-        none_pending = λ e. sym (ap (λ (h : Hub C K). (state_of machine compared h).pending) moved) ∙ none e;
-        due_is = o.due_is;
-      })
-
   pub order_woken : (next last : Hub C K) → last ≡ record next { woken = last.woken } → IsInOrder (state_of machine compared next)
       → IsInOrder (state_of machine compared last)
   order_woken next last same o =

@@ -7,7 +7,6 @@ pub mod ListLemmas
 pub mod MailLemmas
 pub mod MarkLemmas
 pub mod SendLemmas
-pub mod TimedLemmas
 pub mod TimedWentLemmas
 pub mod WakeLemmas
 pub mod WentLemmas

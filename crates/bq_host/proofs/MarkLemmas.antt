@@ -1,13 +1,13 @@
 -- Marks of seats that enter and leave a list.
 use Rattle.std.proofs.Common.{ℕ, ◌≡◌, ◌≢◌, ◌⊎◌, inl, inr, ◌+◌, ◌≤◌, ◌<◌, ◌==◌, Bool, true, false, cond, List, [], ◌∷◌, ◌++◌, length}
-use Rattle.std.proofs.Common.{replicate, slice_set, slice_index_or, refl, sym, ap, ◌∙◌, arith}
+use Rattle.std.proofs.Common.{replicate, slice_set, slice_index_or, refl, sym, ap, ◌∙◌, subst, arith}
 use Rattle.std.specs.List.{count_by}
 use Rattle.std.proofs.lemmas.Grind.{common_steps}
 use Rattle.std.proofs.lemmas.List.{get_or-replicate, get_or-set_other, get_or-set_same, get_or_past, length-replicate, length-set}
 use Rattle.std.proofs.lemmas.List.Folds.{sum_by-replicate}
 use Rattle.std.proofs.lemmas.List.Sums.{count_by-le-length, sum_by-set, sum_by-append, sum_by_push, sum_by-cons}
 use Rattle.std.proofs.lemmas.Bool.{cases_lt}
-use Rattle.std.proofs.lemmas.Bool.Decides.{eqb_tells}
+use Rattle.std.proofs.lemmas.Bool.Decides.{eqb_tells, nat_tests}
 use Rattle.bq_host.specs.Marks.{HasMarks, times}
 
 abbrev pub one_if : Bool → ℕ
@@ -30,10 +30,7 @@ times_more t xs s ys =
     omega (arith, whole, rest, head)
 
 pub same_one : (s : ℕ) → one_if (s == s) ≡ 1
-same_one s = by (eqb_tells s s) where
-  by : ((s == s) ≡ true) × (s ≡ s) ⊎ ((s == s) ≡ false) × (s ≢ s) → one_if (s == s) ≡ 1
-  by (inl (test, _)) = ap one_if test
-  by (inr (_, differs)) = absurd (differs refl)
+same_one s = grind (arith, nat_tests)
 
 pub longer : (xs : List ℕ) (s : ℕ) (ys : List ℕ) → length (xs ++ s ∷ ys) ≡ length (xs ++ ys) + 1
 longer xs s ys = grind (arith, common_steps)
@@ -44,91 +41,49 @@ module _ {M : Type 0} (p : M → Bool) (away : M) where
   abbrev pub has_mark : List M → ℕ → ℕ
   has_mark marks t = one_if (p (slice_index_or marks t away))
 
-  marked_here : (marks : List M) (s t : ℕ) (y : M) (b : Bool) → s ≡ t → s < length marks → p y ≡ b
-      → has_mark (slice_set marks s y) t ≡ one_if b
-  marked_here marks s t y b same below is =
-      ap (λ z. has_mark (slice_set marks s y) z) (sym same)
-      ∙ ap (λ z. one_if (p z)) (get_or-set_same marks s y away below) ∙ ap one_if is
-
-  marked_other : (marks : List M) (s t : ℕ) (y : M) → s ≢ t → has_mark (slice_set marks s y) t ≡ has_mark marks t
-  marked_other marks s t y differs = ap (λ z. one_if (p z)) (get_or-set_other marks s t y away (λ e. differs (sym e)))
-
-  count_set : (marks : List M) (s : ℕ) (y : M) → s < length marks
-      → count_by p (slice_set marks s y) + has_mark marks s ≡ count_by p marks + one_if (p y)
-  count_set marks s y below = sum_by-set (λ x. one_if (p x)) marks s y away below
+  -- The mark of one seat was changed. The list, now `zs`, has the seat as often more or less, and every other as often as before.
+  changed : (xs zs : List ℕ) (marks : List M) (s : ℕ) (y : M) → HasMarks p away xs marks → s < length marks
+      → times s zs + has_mark marks s ≡ times s xs + one_if (p y) → ((t : ℕ) → one_if (s == t) ≡ 0 → times t zs ≡ times t xs)
+      → length zs + has_mark marks s ≡ length xs + one_if (p y) → HasMarks p away zs (slice_set marks s y)
+  changed xs zs marks s y has below here others long = record {
+    each = λ t. at t (eqb_tells s t);
+    many = omega (arith, has.many, sum_by-set (λ x. one_if (p x)) marks s y away below, long);
+  }
+    where
+      at : (t : ℕ) → ((s == t) ≡ true) × (s ≡ t) ⊎ ((s == t) ≡ false) × (s ≢ t) → times t zs ≡ has_mark (slice_set marks s y) t
+      at t (inl (_, same)) =
+          let new : has_mark (slice_set marks s y) s ≡ one_if (p y) = ap (λ z. one_if (p z)) (get_or-set_same marks s y away below) in
+          subst (λ n. times n zs ≡ has_mark (slice_set marks s y) n) same (omega (arith, here, has.each s, new))
+      at t (inr (test, differs)) =
+          others t (ap one_if test) ∙ has.each t
+          ∙ sym (ap (λ z. one_if (p z)) (get_or-set_other marks s t y away (λ e. differs (sym e))))
 
   -- A seat without such a mark that gets one is appended.
   pub entered : (xs : List ℕ) (marks : List M) (s : ℕ) (y : M) → HasMarks p away xs marks → s < length marks
       → p (slice_index_or marks s away) ≡ false → p y ≡ true → HasMarks p away (xs ++ s ∷ []) (slice_set marks s y)
-  entered xs marks s y has below was is = record { each = each; many = many } where
-    at : (t : ℕ) → ((s == t) ≡ true) × (s ≡ t) ⊎ ((s == t) ≡ false) × (s ≢ t)
-        → times t (xs ++ s ∷ []) ≡ has_mark (slice_set marks s y) t
-    at t (inl (test, same)) =
-        let none : times t xs ≡ 0 = has.each t ∙ ap (has_mark marks) (sym same) ∙ ap one_if was in
-        let one : one_if (s == t) ≡ 1 = ap one_if test in
-        let there : has_mark (slice_set marks s y) t ≡ 1 = marked_here marks s t y true same below is in
-        omega (arith, times_push t xs s, none, one, there)
-    at t (inr (test, differs)) =
-        let none : one_if (s == t) ≡ 0 = ap one_if test in
-        omega (arith, times_push t xs s, has.each t, none, marked_other marks s t y differs)
-
-    each : (t : ℕ) → times t (xs ++ s ∷ []) ≡ has_mark (slice_set marks s y) t
-    each t = at t (eqb_tells s t)
-
-    many : length (xs ++ s ∷ []) ≡ count_by p (slice_set marks s y)
-    many =
-        let old : has_mark marks s ≡ 0 = ap one_if was in
-        let new : one_if (p y) ≡ 1 = ap one_if is in
-        let more : length (xs ++ s ∷ []) ≡ length xs + 1 = grind (arith, common_steps) in
-        omega (arith, has.many, count_set marks s y below, old, new, more)
+  entered xs marks s y has below was is =
+      let old : has_mark marks s ≡ 0 = ap one_if was in
+      let new : one_if (p y) ≡ 1 = ap one_if is in
+      let more : length (xs ++ s ∷ []) ≡ length xs + 1 = grind (arith, common_steps) in
+      changed xs (xs ++ s ∷ []) marks s y has below (omega (arith, times_push s xs s, same_one s, old, new))
+      (λ t none. omega (arith, times_push t xs s, none)) (omega (arith, more, old, new))
 
   -- A list whose marks are not touched stays.
   pub stayed : (xs : List ℕ) (marks : List M) (s : ℕ) (y : M) → HasMarks p away xs marks → s < length marks
       → p (slice_index_or marks s away) ≡ p y → HasMarks p away xs (slice_set marks s y)
-  stayed xs marks s y has below same_mark = record { each = each; many = many } where
-    at : (t : ℕ) → ((s == t) ≡ true) × (s ≡ t) ⊎ ((s == t) ≡ false) × (s ≢ t) → times t xs ≡ has_mark (slice_set marks s y) t
-    at t (inl (test, same)) =
-        has.each t ∙ ap (has_mark marks) (sym same) ∙ ap one_if same_mark ∙ sym (marked_here marks s t y (p y) same below refl)
-    at t (inr (test, differs)) = has.each t ∙ sym (marked_other marks s t y differs)
-
-    each : (t : ℕ) → times t xs ≡ has_mark (slice_set marks s y) t
-    each t = at t (eqb_tells s t)
-
-    many : length xs ≡ count_by p (slice_set marks s y)
-    many =
-        let old : has_mark marks s ≡ one_if (p y) = ap one_if same_mark in
-        omega (arith, has.many, count_set marks s y below, old)
+  stayed xs marks s y has below same =
+      let old : has_mark marks s ≡ one_if (p y) = ap one_if same in
+      changed xs xs marks s y has below (omega (arith, old)) (λ t none. refl) (omega (arith, old))
 
   -- A seat that loses its mark leaves.
   pub left : (xs ys : List ℕ) (marks : List M) (s : ℕ) (y : M) → HasMarks p away (xs ++ s ∷ ys) marks → s < length marks
       → p y ≡ false → HasMarks p away (xs ++ ys) (slice_set marks s y)
-  left xs ys marks s y has below is = record { each = each; many = many } where
-    at : (t : ℕ) → ((s == t) ≡ true) × (s ≡ t) ⊎ ((s == t) ≡ false) × (s ≢ t) → times t (xs ++ ys) ≡ has_mark (slice_set marks s y) t
-    at t (inl (test, same)) =
-        let one : one_if (s == t) ≡ 1 = ap one_if test in
-        let there : has_mark (slice_set marks s y) t ≡ 0 = marked_here marks s t y false same below is in
-        omega (arith, times_more t xs s ys, has.each t, one, there, at_most_one (p (slice_index_or marks t away)))
-    at t (inr (test, differs)) =
-        let none : one_if (s == t) ≡ 0 = ap one_if test in
-        omega (arith, times_more t xs s ys, has.each t, none, marked_other marks s t y differs)
-
-    each : (t : ℕ) → times t (xs ++ ys) ≡ has_mark (slice_set marks s y) t
-    each t = at t (eqb_tells s t)
-
-    many : length (xs ++ ys) ≡ count_by p (slice_set marks s y)
-    many =
-        let new : one_if (p y) ≡ 0 = ap one_if is in
-        omega (
-          arith,
-          has.many,
-          count_set marks s y below,
-          new,
-          longer xs s ys,
-          times_more s xs s ys,
-          has.each s,
-          same_one s,
-          at_most_one (p (slice_index_or marks s away)),
-        )
+  left xs ys marks s y has below is =
+      let most = at_most_one (p (slice_index_or marks s away)) in
+      let old : has_mark marks s ≡ 1 = omega (arith, times_more s xs s ys, same_one s, has.each s, most) in
+      let new : one_if (p y) ≡ 0 = ap one_if is in
+      changed (xs ++ s ∷ ys) (xs ++ ys) marks s y has below (omega (arith, times_more s xs s ys, same_one s, old, new))
+      (λ t none. omega (arith, times_more t xs s ys, none)) (omega (arith, longer xs s ys, old, new))
 
   -- There is room for a list of marked seats.
   pub fits : (xs : List ℕ) (marks : List M) → HasMarks p away xs marks → length xs ≤ length marks

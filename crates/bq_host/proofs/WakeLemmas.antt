@@ -1,9 +1,9 @@
 -- Seats that are to be woken since they have mail.
-use Rattle.std.proofs.Common.{ℕ, ◌≡◌, ◌≢◌, ◌⊎◌, inl, inr, ◌+◌, ◌≤◌, ◌<◌, ◌==◌, ◌&&◌, nat_lt, Bool, true, false, List, [], ◌∷◌, ◌++◌}
+use Rattle.std.proofs.Common.{ℕ, ◌≡◌, ◌≢◌, ◌⊎◌, inl, inr, ◌≤◌, ◌<◌, ◌==◌, ◌&&◌, nat_lt, Bool, true, false, List, [], ◌∷◌, ◌++◌}
 use Rattle.std.proofs.Common.{length, slice_set, if◌then◌else◌, refl, sym, ap, ◌∙◌, subst, arith, append_assoc}
 use Rattle.std.specs.Prelude.{slice_index_or}
 use Rattle.std.proofs.lemmas.Bool.{cases_lt, lt-ltb}
-use Rattle.std.proofs.lemmas.Bool.Decides.{eqb_tells}
+use Rattle.std.proofs.lemmas.Bool.Decides.{eqb_tells, nat_tests}
 use Rattle.std.proofs.lemmas.List.{get_or-set_other, get_or-set_same, get_or_default, get_or_past}
 use Rattle.bq_job.specs.declared.answer.Answer.{Answer}
 use Rattle.bq_job.specs.promise.Runs.{answers_to}
@@ -51,11 +51,7 @@ added_waits true seat w there = omega (arith, times_push seat w.waiting seat, sa
 added_waits false seat w there = there refl
 
 waits_already : (below : Bool) (n : ℕ) → below ≡ true → (below && (n == 0)) ≡ false → 0 < n
-waits_already true n is gone = by (eqb_tells n 0) where
-  by : ((n == 0) ≡ true) × (n ≡ 0) ⊎ ((n == 0) ≡ false) × (n ≢ 0) → 0 < n
-  by (inl (test, _)) = absurd (let e : true ≡ false = sym test ∙ gone in cc)
-  by (inr (_, differs)) = omega (arith, differs)
-waits_already false n is gone = absurd cc
+waits_already below n is gone = grind (arith, nat_tests)
 
 -- A seat of the list's numbers is on it once it was added.
 pub waits_now : (seat : ℕ) (w : WakeList) → seat < w.seats → 0 < times seat (to_wake seat w).waiting

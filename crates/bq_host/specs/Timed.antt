@@ -1,5 +1,5 @@
 -- The effect of each operation on a core with its clock.
-use Rattle.std.specs.Prelude.{ℕ, ◌≡◌, ◌⊎◌, ◌<◌, ◌+◌, ◌∷◌, List, [], Option, true, false}
+use Rattle.std.specs.Prelude.{ℕ, ◌≡◌, ◌⊎◌, ◌<◌, ◌+◌, ◌∷◌, [], Option, true, false}
 use Rattle.bq_job.specs.beside.NextDue.{next_due}
 use Rattle.bq_job.specs.declared.settings.Settings.{Settings}
 use Rattle.bq_job.specs.declared.step.Step.{Step}

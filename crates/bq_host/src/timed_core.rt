@@ -1,12 +1,10 @@
 //! A core with its clock, and the moment that the clock's readings amount to.
-ghost use Rattle.std.specs.Prelude.{ℕ, ◌≡◌, ◌<◌, ◌↔◌, ◌+◌, [], false, not, true, IfOk, IsErrOf, IsTrue};
+ghost use Rattle.std.specs.Prelude.{◌≡◌, ◌<◌, ◌↔◌, ◌+◌, [], false, not, true, IfOk, IsErrOf, IsTrue};
 ghost use Rattle.bq_job.specs.beside.NextDue.{is_before, next_due};
 ghost use Rattle.bq_job.specs.machine.Machine.{new_machine};
 ghost use Rattle.bq_core_api.specs.Limits.{are_in_range};
-ghost use Rattle.bq_core_api.specs.Cost.{IsLookWithin};
-ghost use Rattle.bq_host.specs.Compared.{LooksOnce};
 ghost use Rattle.bq_host.specs.Told.{HasLogged, concern_of, told_after};
-ghost use Rattle.bq_host.specs.Timed.{HasHeard, HearsDue, IsNewTimed, IsReady, LooksAndSteps, OnlyHears, PassesOver, TakesStep};
+ghost use Rattle.bq_host.specs.Timed.{HasHeard, HasLooked, HearsDue, IsNewTimed, IsReady, LooksAndSteps, OnlyHears, PassesOver, TakesStep};
 
 use crate::fault::RunFault;
 use crate::notices::{Notices, concern_of};
@@ -227,18 +225,8 @@ impl<C: Clock + Drop, K: QueueCore + Drop> TimedCore<C, K> {
         if is_fresh && self.time.moment < due {
             return false;
         }
-        self.hear();
-        if due > self.time.moment {
-            return false;
-        }
-        true
-    }
-
-    // Reads the clock once.
-    fn hear(&mut self)
-        ensures { OnlyHears C.given self.old self.new }
-    {
         let _reading = self.time.hear();
+        due <= self.time.moment
     }
 
     // Returns the next moment at which something is due. The core is asked at most once after each
@@ -247,12 +235,7 @@ impl<C: Clock + Drop, K: QueueCore + Drop> TimedCore<C, K> {
         requires ready { IsReady K.machine self.old }
         ensures ready { IsReady K.machine self.new }
         ensures due { result ≡ next_due (K.machine self.old.core) }
-        ensures known { (self.new.due ≡ result) × (self.new.is_due_known ≡ true) }
-        ensures same { K.machine self.new.core ≡ K.machine self.old.core }
-        ensures once { (count : ℕ) → LooksOnce self.old.is_due_known (K.machine self.old.core) count (K.comparisons self.old.core)
-            → IsLookWithin (K.machine self.old.core) count (K.comparisons self.new.core) }
-        ensures rest { self.new
-            ≡ record self.old { core = self.new.core; due = self.new.due; is_due_known = true } }
+        ensures looked { HasLooked K.machine K.comparisons self.old self.new }
     {
         if !self.is_due_known {
             self.due = self.core.next_due();

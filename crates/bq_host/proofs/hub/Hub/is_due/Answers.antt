@@ -15,7 +15,7 @@ returns-clause-went g c =
       order_ready machine compared old (record old { timed = new }) d.ready (ap (λ (m : Machine). m.settings) d.same) refl
           (none_pending_over machine compared g.C.Clock.given old new d.over c.requires.order) c.requires.order,
       (
-        timed_over machine compared g.C.Clock.given 0 old.timed new old.held old.mails.items old.is_sorted old.is_sorted d.over,
+        timed_over machine compared g.C.Clock.given 0 old.held old.mails.items old.timed new old.is_sorted old.is_sorted d.over,
         wakes_none old.mails.items old.woken,
       ),
     )

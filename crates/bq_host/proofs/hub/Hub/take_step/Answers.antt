@@ -14,8 +14,8 @@ returns-clause-went g c =
           (record old { timed = t.new.self; is_sorted = false }) t.ensures.ready t.ensures.taken.settings refl
           (λ sorted. absurd (false≢true sorted)) c.requires.order,
       (
-        timed_step g.K.QueueCore.machine g.K.QueueCore.comparisons g.C.Clock.given c.args.seat c.args.what.now old.timed t.new.self
-            old.held old.mails.items old.is_sorted false t.ensures.taken c.requires.empty,
+        timed_step g.K.QueueCore.machine g.K.QueueCore.comparisons g.C.Clock.given c.args.seat old.held old.mails.items c.args.what.now
+            old.timed t.new.self old.is_sorted false t.ensures.taken c.requires.empty,
         wakes_none old.mails.items old.woken,
       ),
     )

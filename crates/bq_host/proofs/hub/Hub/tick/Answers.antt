@@ -13,7 +13,7 @@ returns-clause-went g c =
       order_ready machine compared old (record old { timed = t.new.self; is_sorted = not t.result }) t.ensures.ready t.ensures.settings refl
           (none_pending_passed machine compared g.C.Clock.given old t.new.self t.result t.ensures.over c.requires.empty) c.requires.order,
       (
-        timed_passed machine compared g.C.Clock.given 0 old.timed t.new.self old.held old.mails.items old.is_sorted (not t.result) t.result
+        timed_passed machine compared g.C.Clock.given 0 old.held old.mails.items old.timed t.new.self old.is_sorted (not t.result) t.result
             t.ensures.over t.ensures.ticked c.requires.empty,
         wakes_none old.mails.items old.woken,
       ),
