@@ -1,5 +1,5 @@
 -- A control line that is read between the turns of the seats.
-use Rattle.std.proofs.Common.{◌≡◌, ℕ, zero, suc, ◌+◌, Bool, true, false, List, [], ◌∷◌, ◌++◌}
+use Rattle.std.proofs.Common.{◌≡◌, ℕ, ◌+◌, Bool, true, false, List, [], ◌∷◌, ◌++◌}
 use Rattle.std.proofs.Common.{Option, IfSome, refl, sym, ap, ◌∙◌, subst, arith, append-nil, append_assoc, replicate}
 use Rattle.std.proofs.lemmas.List.{replicate-append-replicate}
 use Rattle.std.specs.Io.KnownBytes.{Consumes, IsAtEnd}
@@ -7,10 +7,10 @@ use Rattle.std.specs.Option.{option_to_list}
 use Rattle.bq_job.specs.declared.step.Step.{Step}
 use Rattle.bq_job.specs.declared.step.Step.TheVariants.{Drain, Gone}
 use Rattle.bq_job.specs.promise.ControlDid.{IsControlDone, are_same, drain_word, drains, drains_from, one_if}
-use Rattle.bq_line.specs.ControlRead.{HasRead, IsOver, IsReadToEnd}
-use Rattle.bq_line.specs.ControlSeen.{ControlSeen, after_heard}
+use Rattle.bq_line.specs.ControlRead.{IsOver, IsReadToEnd}
+use Rattle.bq_line.specs.ControlSeen.{after_heard}
 use Rattle.bq_line.specs.declared.control_line.Heard.TheVariants as hears
-use Rattle.bq_line.proofs.ControlLemmas.{ends_read, fails_read, read_none, read_on, read_same}
+use Rattle.bq_line.proofs.ControlLemmas.{ends_read, fails_read}
 use Rattle.bq_event_loop.specs.Meanings.{Control}
 use Rattle.bq_event_loop.specs.ControlTold.{HasTold, IsAtStage, IsRead, IsReading, TellsOn, owed_by}
 use Rattle.bq_event_loop.specs.declared.control_turns.ControlTurns.{ControlTurns}
@@ -37,27 +37,7 @@ module _ {I : Type 0} {i : Control I} where
         (k.on first may (before ++ more) (h.on first may before t));
   }
 
-none_added : (n : ℕ) → n ≡ 0 + n
-none_added n = omega arith
-
 module _ {I : Type 0} (i : Control I) where
-  -- Nothing was read yet.
-  pub tells_first : (input : I) → i.seen input ≡ record { text = []; ended = false; failed = false }
-      → HasTold i (i.remaining input) (i.may_fail input) (turns_of input [] false stages.Reads) []
-  tells_first input new = record {
-    same = refl;
-    count = 0;
-    at_stage = (
-      refl,
-      record {
-        read = subst (λ (s : ControlSeen). Consumes (i.remaining input) (i.remaining input) s.text) (sym new)
-            (read_none (i.remaining input));
-        well = ap (λ (s : ControlSeen). s.failed) new;
-        counted = λ rest failed. ap (λ (s : ControlSeen). drains (s.text ++ rest) failed) new ∙ none_added (drains rest failed);
-      },
-    );
-  }
-
   one_more : (before : List Step) (count : ℕ) → before ≡ replicate count Drain → before ++ Drain ∷ [] ≡ replicate (count + 1) Drain
   one_more before count is = ap (λ (xs : List Step). xs ++ Drain ∷ []) is ∙ replicate-append-replicate count 1 Drain
 
@@ -86,78 +66,10 @@ module _ {I : Type 0} (i : Control I) where
   }
   tells_drain input line stages.Over = record { on = λ first may before h. absurd (let none = h.at_stage.0 in cc) }
 
-  -- The end was submitted.
-  pub tells_gone : (input : I) (line : List ℕ)
-      → TellsOn i (turns_of input line false stages.Ended) (Gone ∷ []) (turns_of input line false stages.Over)
-  tells_gone input line = record {
-    on = λ first may before h. record {
-      same = h.same;
-      count = h.count;
-      at_stage = (
-        refl,
-        ap (λ (xs : List Step). xs ++ Gone ∷ []) h.at_stage.0,
-        subst (λ (n : ℕ). IsRead first (i.remaining input) may (i.seen input) n) (omega arith) h.at_stage.1,
-      );
-    };
-  }
-
   -- The same, by what was owed.
   pub tells_drain_if : (input : I) (line : List ℕ) (owes : Bool) (stage : Stage) → owes ≡ true
       → TellsOn i (turns_of input line owes stage) (option_to_list (owed_by owes stage)) (turns_of input line false stage)
-  tells_drain_if input line owes stage is =
-      subst (λ (b : Bool). TellsOn i (turns_of input line b stage) (option_to_list (owed_by b stage)) (turns_of input line false stage))
-      (sym is) (tells_drain input line stage)
-
-  -- More of the text was read, and the line goes on, or it ended and the next one begins.
-  tells_more : (old new : I) (kept later more : List ℕ) (owes : Bool) → (i.seen new).text ≡ (i.seen old).text ++ more
-      → (i.seen new).failed ≡ (i.seen old).failed → i.may_fail new ≡ i.may_fail old → Consumes (i.remaining old) (i.remaining new) more
-      → ((rest : List ℕ) (failed : Bool) → drains_from kept (more ++ rest) failed ≡ one_if owes + drains_from later rest failed)
-      → TellsOn i (turns_of old kept false stages.Reads) [] (turns_of new later owes stages.Reads)
-  tells_more old new kept later more owes text_is failed_is may_is read noted = record {
-    on = λ first may before h. let r = h.at_stage.1 in tells_same first may (turns_of new later owes stages.Reads) before (record {
-      same = may_is ∙ h.same;
-      count = h.count;
-      at_stage = (
-        h.at_stage.0,
-        record {
-          read = subst (λ (text : List ℕ). Consumes first (i.remaining new) text) (sym text_is)
-              (read_on first (i.remaining old) (i.remaining new) (i.seen old).text more r.read read);
-          well = failed_is ∙ r.well;
-          counted = λ rest failed.
-              ap (λ (text : List ℕ). drains (text ++ rest) failed) text_is
-              ∙ ap (λ (text : List ℕ). drains text failed) (append_assoc (i.seen old).text more rest)
-              ∙ r.counted (more ++ rest) failed ∙ ap (λ n. (h.count + 0) + n) (noted rest failed)
-              ∙ plus h.count (one_if owes) (drains_from later rest failed);
-        },
-      );
-    });
-  }
-    where
-      plus : (a b c : ℕ) → (a + 0) + (b + c) ≡ (a + b) + c
-      plus a b c = omega arith
-
-  -- A byte of a line was read.
-  pub tells_byte : (old new : I) (kept later : List ℕ) (byte : ℕ) → i.seen new ≡ after_heard (hears.Byte byte) (i.seen old)
-      → i.may_fail new ≡ i.may_fail old → Consumes (i.remaining old) (i.remaining new) (byte ∷ []) → HasRead kept (byte ∷ []) false later
-      → TellsOn i (turns_of old kept false stages.Reads) [] (turns_of new later false stages.Reads)
-  tells_byte old new kept later byte is may_is read noted =
-      tells_more old new kept later (byte ∷ []) false (ap (λ s. s.text) is) (ap (λ s. s.failed) is) may_is read
-      (λ rest failed. noted rest failed ∙ none_added (drains_from later rest failed))
-
-  -- The byte that ends a line was read.
-  pub tells_line : (old new : I) (kept later : List ℕ) (byte : ℕ) → i.seen new ≡ after_heard (hears.Byte byte) (i.seen old)
-      → i.may_fail new ≡ i.may_fail old → Consumes (i.remaining old) (i.remaining new) (byte ∷ []) → HasRead kept (byte ∷ []) true later
-      → TellsOn i (turns_of old kept false stages.Reads) [] (turns_of new [] (are_same later drain_word) stages.Reads)
-  tells_line old new kept later byte is may_is read noted =
-      tells_more old new kept [] (byte ∷ []) (are_same later drain_word) (ap (λ s. s.text) is) (ap (λ s. s.failed) is) may_is read noted
-
-  -- There was no byte yet.
-  pub tells_still : (old new : I) (kept : List ℕ) → i.seen new ≡ i.seen old → i.may_fail new ≡ i.may_fail old
-      → Consumes (i.remaining old) (i.remaining new) []
-      → TellsOn i (turns_of old kept false stages.Reads) [] (turns_of new kept false stages.Reads)
-  tells_still old new kept is may_is read =
-      tells_more old new kept kept [] false (ap (λ s. s.text) is ∙ sym (append-nil (i.seen old).text)) (ap (λ s. s.failed) is) may_is read
-      (λ rest failed. none_added (drains_from kept rest failed))
+  tells_drain_if input line owes stage is = rw is (tells_drain input line stage)
 
   -- The input has ended or failed: this is what its text asks for.
   tells_over : (old new : I) (kept : List ℕ) (owes failed : Bool) → IsOver (i.seen new) → (i.seen new).text ≡ (i.seen old).text
@@ -221,19 +133,14 @@ module _ {I : Type 0} (i : Control I) where
       → Consumes (i.remaining old) (i.remaining new) [] → IfSome (i.remaining old) (λ bytes. IsAtEnd (i.remaining new))
       → TellsOn i (turns_of old kept owes stage) [] (turns_of new kept word stages.Ended)
   tells_end_if old new kept owes stage word none reads word_is is may_is read ended =
-      subst (λ (b : Bool). TellsOn i (turns_of old kept b stage) [] (turns_of new kept word stages.Ended)) (sym none)
-      (subst (λ (s : Stage). TellsOn i (turns_of old kept false s) [] (turns_of new kept word stages.Ended)) (sym reads)
-      (subst (λ (b : Bool). TellsOn i (turns_of old kept false stages.Reads) [] (turns_of new kept b stages.Ended)) (sym word_is)
-      (tells_end old new kept is may_is read ended)))
+      rw (none, reads, word_is) (tells_end old new kept is may_is read ended)
 
   pub tells_fault_if : (old new : I) (kept : List ℕ) (owes : Bool) (stage : Stage) → owes ≡ false → stage ≡ stages.Reads
       → i.seen new ≡ after_heard hears.Fault (i.seen old) → i.may_fail new ≡ i.may_fail old
       → Consumes (i.remaining old) (i.remaining new) [] → i.may_fail old ≡ true
       → TellsOn i (turns_of old kept owes stage) [] (turns_of new kept owes stages.Ended)
   tells_fault_if old new kept owes stage none reads is may_is read may_be =
-      subst (λ (b : Bool). TellsOn i (turns_of old kept b stage) [] (turns_of new kept b stages.Ended)) (sym none)
-      (subst (λ (s : Stage). TellsOn i (turns_of old kept false s) [] (turns_of new kept false stages.Ended)) (sym reads)
-      (tells_fault old new kept is may_is read may_be))
+      rw (none, reads) (tells_fault old new kept is may_is read may_be)
 
 -- A control line that was read to its end and whose steps were all submitted.
 pub record IsToldSo {I : Type 0} (i : Control I) (first : Option (List ℕ)) (may : Bool) (c : ControlTurns I) (told : List Step)

@@ -1,12 +1,12 @@
 -- Seats that the turns of a loop let act before they sleep.
 use Rattle.std.proofs.Common.{ℕ, zero, suc, ◌≡◌, ◌≢◌, ◌⊎◌, inl, inr, ◌+◌, ◌≤◌, ◌<◌, ◌==◌, ◌&&◌, ◌||◌, not, nat_lt, Bool, true, false}
 use Rattle.std.proofs.Common.{List, [], ◌∷◌, ◌++◌, length, slice_set, slice_index_or, if◌then◌else◌, Option, Some, None, refl, sym, ap}
-use Rattle.std.proofs.Common.{◌∙◌, subst, arith, append-nil}
+use Rattle.std.proofs.Common.{◌∙◌, subst, arith}
 use Rattle.std.specs.Option.{option_to_list}
 use Rattle.std.specs.Prelude.{slice_get}
-use Rattle.std.proofs.lemmas.Bool.{cases_Bool, eq-eqb, eqb-true, lt-ltb}
-use Rattle.std.proofs.lemmas.Bool.Decides.{eqb_tells}
-use Rattle.std.proofs.lemmas.List.{get_or-set_other, get_or-set_same, get_or_default, length-set}
+use Rattle.std.proofs.lemmas.Bool.{eq-eqb, eqb-true, lt-ltb}
+use Rattle.std.proofs.lemmas.Bool.Decides.{eqb_tells, nat_tests}
+use Rattle.std.proofs.lemmas.List.{get_or-set_other, get_or-set_same, length-set}
 use Rattle.std.proofs.lemmas.List.Sums.{sum_by-cons}
 use Rattle.bq_job.specs.declared.answer.Answer.{Answer}
 use Rattle.bq_line.specs.declared.attendant.Attendant.{Attendant}
@@ -17,16 +17,13 @@ use Rattle.std.specs.List.{All}
 use Rattle.bq_line.specs.declared.attendant.LinePlace.TheVariants as places
 use Rattle.bq_seat.specs.declared.machine.Action.{Action}
 use Rattle.bq_seat.specs.declared.machine.Action.TheVariants as actions
-use Rattle.bq_seat.specs.declared.machine.SeatMachine.{SeatMachine}
 use Rattle.bq_host.proofs.MarkLemmas.{one_if, same_one, times_push}
-use Rattle.bq_event_loop.specs.Known.{AreApart, AreIdle, AreKnown, AreKnownTo, AreSameLists, AreStill, ChangesOnly, ChangesOnlyIn, IsKnown}
-use Rattle.bq_event_loop.specs.Known.{IsListedIn, IsNextOf, IsTaken, KeepsAll, KnowsAll, is_listed, is_looking, is_on, is_visited}
+use Rattle.bq_event_loop.specs.Known.{AreApart, AreIdle, AreKnown, AreKnownTo, AreSameLists, ChangesOnly, ChangesOnlyIn, IsKnown}
+use Rattle.bq_event_loop.specs.Known.{IsListedIn, IsNextOf, IsTaken, KnowsAll, is_listed, is_looking, is_on, is_visited}
 use Rattle.bq_event_loop.specs.Meanings.{Line}
 use Rattle.bq_event_loop.specs.Listings.{Listing, all_free, enqueued, falling, freed, is_nowhere}
 use Rattle.bq_host.specs.Marks.{times}
 use Rattle.bq_event_loop.specs.Still.{IsStill, IsStillAt, IsStillOn}
-use Rattle.bq_event_loop.specs.Visits.{turn_of}
-use Rattle.bq_event_loop.specs.declared.order.visits.Visit.{Visit}
 use Rattle.bq_event_loop.specs.declared.turns.Turn.{Turn}
 use Rattle.bq_event_loop.specs.declared.turns.Turn.TheVariants as turns
 use Rattle.bq_host.specs.WakeLists.{WakeList, Wakes, none_waits}
@@ -65,37 +62,24 @@ or_right true b is = refl
 or_right false b is = is
 
 on_some : (xs : List ℕ) (i : ℕ) → is_on xs i ≡ true → 0 < times i xs
-on_some xs i is = by (eqb_tells (times i xs) 0) where
-  by : ((times i xs == 0) ≡ true) × (times i xs ≡ 0) ⊎ ((times i xs == 0) ≡ false) × (times i xs ≢ 0) → 0 < times i xs
-  by (inl (test, _)) = let e : false ≡ true = sym (ap not test) ∙ is in absurd cc
-  by (inr (_, differs)) = omega (arith, differs)
+on_some xs i is = some (times i xs) is where
+  some : (n : ℕ) → not (n == 0) ≡ true → 0 < n
+  some n is = grind (arith, nat_tests)
 
 some_on : (xs : List ℕ) (i : ℕ) → 0 < times i xs → is_on xs i ≡ true
-some_on xs i there = by (eqb_tells (times i xs) 0) where
-  by : ((times i xs == 0) ≡ true) × (times i xs ≡ 0) ⊎ ((times i xs == 0) ≡ false) × (times i xs ≢ 0) → is_on xs i ≡ true
-  by (inl (_, none)) = absurd (omega (arith, none, there))
-  by (inr (test, _)) = ap not test
+some_on xs i there = on (times i xs) there where
+  on : (n : ℕ) → 0 < n → not (n == 0) ≡ true
+  on n there = grind (arith, nat_tests)
 
 left_only : (b : Bool) → (b || false) ≡ true → b ≡ true
 left_only true e = refl
 left_only false e = absurd cc
 
--- Where a seat is if it is on a list with one seat more.
-on_cons : (i : ℕ) (xs : List ℕ) (t : ℕ) → is_on (i ∷ xs) t ≡ true → (is_on xs t || (i == t)) ≡ true
-on_cons i xs t is = by (eqb_tells i t) where
-  by : ((i == t) ≡ true) × (i ≡ t) ⊎ ((i == t) ≡ false) × (i ≢ t) → (is_on xs t || (i == t)) ≡ true
-  by (inl (test, _)) = or_right (is_on xs t) (i == t) test
-  by (inr (test, _)) =
-      let none : one_if (i == t) ≡ 0 = ap one_if test in
-      or_left (is_on xs t) (i == t) (some_on xs t (omega (arith, sum_by-cons (λ x. one_if (x == t)) i xs, on_some (i ∷ xs) t is, none)))
-
-on_cons_back : (i : ℕ) (xs : List ℕ) (t : ℕ) → (is_on xs t || (i == t)) ≡ true → is_on (i ∷ xs) t ≡ true
-on_cons_back i xs t is = by (either (is_on xs t) (i == t) is) where
-  by : (is_on xs t ≡ true) ⊎ ((i == t) ≡ true) → is_on (i ∷ xs) t ≡ true
-  by (inl on) = some_on (i ∷ xs) t (omega (arith, sum_by-cons (λ x. one_if (x == t)) i xs, on_some xs t on))
-  by (inr same) =
-      let one : one_if (i == t) ≡ 1 = ap one_if same in
-      some_on (i ∷ xs) t (omega (arith, sum_by-cons (λ x. one_if (x == t)) i xs, one))
+-- A list with one seat more.
+on_cons : (i : ℕ) (xs : List ℕ) (t : ℕ) → is_on (i ∷ xs) t ≡ (is_on xs t || (i == t))
+on_cons i xs t = same (times t xs) (times t (i ∷ xs)) (i == t) (sum_by-cons (λ x. one_if (x == t)) i xs) where
+  same : (n m : ℕ) (e : Bool) → m ≡ one_if e + n → not (m == 0) ≡ (not (n == 0) || e)
+  same n m e more = grind (arith, nat_tests)
 
 -- a list with one more seat at its end, or without
 abbrev put : Bool → ℕ → List ℕ → List ℕ
@@ -129,44 +113,20 @@ put_there true i xs there = some_on (xs ++ i ∷ []) i (omega (arith, times_push
 put_there false i xs there = some_on xs i (there refl)
 
 nowhere_none : (i : ℕ) (l : Listing) → is_nowhere i l ≡ true → times i l.queue + times i l.free ≡ 0
-nowhere_none i l is = by (nat_lt i l.seats) (eqb_tells (times i l.queue + times i l.free) 0) is where
-  by : (below : Bool) → ((times i l.queue + times i l.free == 0) ≡ true) × (times i l.queue + times i l.free ≡ 0)
-      ⊎ ((times i l.queue + times i l.free == 0) ≡ false) × (times i l.queue + times i l.free ≢ 0)
-      → (below && (times i l.queue + times i l.free == 0)) ≡ true → times i l.queue + times i l.free ≡ 0
-  by below (inl (_, none)) e = none
-  by true (inr (test, _)) e = let f : false ≡ true = sym test ∙ e in absurd cc
-  by false (inr (test, _)) e = absurd cc
+nowhere_none i l is = none (nat_lt i l.seats) (times i l.queue + times i l.free) is where
+  none : (below : Bool) (n : ℕ) → (below && (n == 0)) ≡ true → n ≡ 0
+  none below n is = grind (arith, nat_tests)
 
 somewhere : (i : ℕ) (l : Listing) → i < l.seats → is_nowhere i l ≡ false → 0 < times i l.queue + times i l.free
-somewhere i l below is = by (nat_lt i l.seats) (lt-ltb i l.seats below) (eqb_tells (times i l.queue + times i l.free) 0) is where
-  by : (there : Bool) → there ≡ true → ((times i l.queue + times i l.free == 0) ≡ true) × (times i l.queue + times i l.free ≡ 0)
-      ⊎ ((times i l.queue + times i l.free == 0) ≡ false) × (times i l.queue + times i l.free ≢ 0)
-      → (there && (times i l.queue + times i l.free == 0)) ≡ false → 0 < times i l.queue + times i l.free
-  by true e (inl (test, _)) f = let g : true ≡ false = sym test ∙ f in absurd cc
-  by true e (inr (_, differs)) f = omega (arith, differs)
-  by false e h f = absurd cc
+somewhere i l below is = some (nat_lt i l.seats) (times i l.queue + times i l.free) (lt-ltb i l.seats below) is where
+  some : (there : Bool) (n : ℕ) → there ≡ true → (there && (n == 0)) ≡ false → 0 < n
+  some there n below is = grind (arith, nat_tests)
 
 free_none : (i : ℕ) (l : Listing) → (is_on l.free i ≡ true → ⊥) → times i l.free ≡ 0
 free_none i l none = by (eqb_tells (times i l.free) 0) where
   by : ((times i l.free == 0) ≡ true) × (times i l.free ≡ 0) ⊎ ((times i l.free == 0) ≡ false) × (times i l.free ≢ 0) → times i l.free ≡ 0
   by (inl (_, is)) = is
   by (inr (_, differs)) = absurd (none (some_on l.free i (omega (arith, differs))))
-
--- A seat that does not check for a client is on the queue once it was enqueued.
-pub enqueued_lists : (i : ℕ) (l : Listing) → i < l.seats → (is_on l.free i ≡ true → ⊥) → is_on (enqueued i l).queue i ≡ true
-enqueued_lists i l below none =
-    subst (λ (z : Listing). is_on z.queue i ≡ true) (sym (enqueued_is (is_nowhere i l) i l))
-    (put_there (is_nowhere i l) i l.queue (λ e. omega (arith, somewhere i l below e, free_none i l none)))
-
-pub enqueued_keeps : (i : ℕ) (l : Listing) (t : ℕ) → is_on l.queue t ≡ true → is_on (enqueued i l).queue t ≡ true
-enqueued_keeps i l t on =
-    subst (λ (z : Listing). is_on z.queue t ≡ true) (sym (enqueued_is (is_nowhere i l) i l)) (put_keeps (is_nowhere i l) i l.queue t on)
-
-pub enqueued_free : (i : ℕ) (l : Listing) → (enqueued i l).free ≡ l.free
-enqueued_free i l = ap (λ (z : Listing). z.free) (enqueued_is (is_nowhere i l) i l)
-
-pub enqueued_seats : (i : ℕ) (l : Listing) → (enqueued i l).seats ≡ l.seats
-enqueued_seats i l = ap (λ (z : Listing). z.seats) (enqueued_is (is_nowhere i l) i l)
 
 on_none : (xs : List ℕ) (t : ℕ) → times t xs ≡ 0 → is_on xs t ≡ true → ⊥
 on_none xs t none on = omega (arith, none, on_some xs t on)
@@ -217,9 +177,9 @@ module _ {L : Type 0} (line : Line L) (seats : List (Attendant L)) (mails : List
       known_as line l.seats later.seats (is_listed l None) (is_looking l) (is_listed later (Some i)) (is_looking later) seats
       mails same_seats
       (λ t looks on. k.apart t (subst (λ f. is_on f t ≡ true) free looks)
-      (or_left (is_on l.queue t) false (subst (λ q. is_on q t ≡ true) (sym first) (on_cons_back i later.queue t on))))
+      (or_left (is_on l.queue t) false (subst (λ q. is_on q t ≡ true) (sym first) (on_cons i later.queue t ∙ on))))
       (λ t looks. inl (subst (λ f. is_on f t ≡ true) free looks))
-      (λ t below on. inl (on_cons i later.queue t (subst (λ q. is_on q t ≡ true) first (left_only (is_on l.queue t) on))))
+      (λ t below on. inl (sym (on_cons i later.queue t) ∙ subst (λ q. is_on q t ≡ true) first (left_only (is_on l.queue t) on)))
       (λ t below looks. inr (subst (λ f. is_on f t ≡ true) (sym free) looks))
       k
 
@@ -310,10 +270,10 @@ module _ {L : Type 0} (line : Line L) (seats : List (Attendant L)) (mails : List
       k
 
   -- The visited seat goes to the queue.
-  pub known_enqueued : (l : Listing) (i : ℕ)
-      → AreKnownTo line l (Some i) seats mails → AreKnownTo line (enqueued i l) None seats mails
-  known_enqueued l i k =
-      subst (λ (z : Listing). AreKnownTo line z None seats mails) (sym (enqueued_is lost i l))
+  pub known_enqueued : (l later : Listing) (i : ℕ) → later ≡ enqueued i l
+      → AreKnownTo line l (Some i) seats mails → AreKnownTo line later None seats mails
+  known_enqueued l later i is_later k =
+      subst (λ (z : Listing). AreKnownTo line z None seats mails) (sym (is_later ∙ enqueued_is lost i l))
       (known_as line l.seats l.seats (is_listed l (Some i)) (is_looking l)
       (is_listed (record l { queue = put lost i l.queue }) None) (is_looking l) seats mails refl
       (λ t looks on. k.apart t looks (before t (put_only lost i l.queue t (left_only _ on))))
@@ -338,10 +298,11 @@ module _ {L : Type 0} (line : Line L) (seats : List (Attendant L)) (mails : List
           (put_there lost i l.queue (λ e. omega (arith, somewhere i l (omega (arith, below, k.all, is)) e, none)))
 
   -- The visited seat found no client, and is between two connections.
-  pub known_freed : (l : Listing) (i : ℕ) → ((a : Attendant L) → (slice_index_or seats i a).place ≡ places.Between)
-      → AreKnownTo line l (Some i) seats mails → AreKnownTo line (freed i l) None seats mails
-  known_freed l i between k =
-      subst (λ (z : Listing). AreKnownTo line z None seats mails) (sym (freed_is lost i l))
+  pub known_freed : (l later : Listing) (i : ℕ) → later ≡ freed i l
+      → ((a : Attendant L) → (slice_index_or seats i a).place ≡ places.Between)
+      → AreKnownTo line l (Some i) seats mails → AreKnownTo line later None seats mails
+  known_freed l later i is_later between k =
+      subst (λ (z : Listing). AreKnownTo line z None seats mails) (sym (is_later ∙ freed_is lost i l))
       (known_as line l.seats l.seats (is_listed l (Some i)) (is_looking l) (is_listed l None)
       (is_looking (record l { free = put lost i l.free })) seats mails refl
       (λ t looks on. apart t (left_only _ on) (put_only lost i l.free t looks))
@@ -490,13 +451,6 @@ idle_free may_come l visited may idle = none_on l.free (idle.checks may)
 pub listed_self : (l : Listing) (i : ℕ) → is_listed l (Some i) i ≡ true
 listed_self l i = or_right (is_on l.queue i) (i == i) (eq-eqb i i refl)
 
-module _ {L : Type 0} (line : Line L) where
-  -- The visited seat was changed.
-  pub known_acted : (l : Listing) (i : ℕ) (seats later : List (Attendant L)) (mails : List (List Answer)) → ChangesOnly i seats later
-      → AreKnownTo line l (Some i) seats mails → AreKnownTo line l (Some i) later mails
-  known_acted l i seats later mails only k =
-      known_changed line l.seats (is_listed l (Some i)) (is_looking l) [] i seats later mails (listed_self l i) only k
-
 -- Seats that all check for a client are known.
 pub all_known : (seats : ℕ) (l : Listing) → l ≡ all_free seats → KnowsAll seats l.seats (is_listed l None) (is_looking l)
 all_known seats l is = subst (λ z. KnowsAll seats z.seats (is_listed z None) (is_looking z)) (sym is) (record {
@@ -524,35 +478,24 @@ module _ {L : Type 0} (line : Line L) (many : ℕ) (listed looks : ℕ → Bool)
   still_or_woken : (a : Attendant L) (mail later : List Answer) (waits : ℕ) → (mail ≡ [] → (later ≡ []) ⊎ (0 < waits))
       → IsStill line a mail → (0 < waits) ⊎ IsStill line a later
   still_or_woken a mail later waits got still = at a.place still where
-    none : mail ≡ [] → (0 < waits) ⊎ (later ≡ [])
-    none e = elim (got e) [
-      | inl empty ↦ inr empty
-      | inr woken ↦ inl woken
-    ]
-
     on : (action : Action) (it : L) → IsStillOn action a.machine (line.may_give it) (line.may_take it) mail
         → (0 < waits) ⊎ IsStillOn action a.machine (line.may_give it) (line.may_take it) later
-    on actions.Read it s = elim s.1 [
-      | inl empty ↦ elim (none empty) [
-        | inl woken ↦ inl woken
-        | inr e ↦ inr (s.0, inl e)
-      ]
-      | inr reads ↦ inr (s.0, inr reads)
+    on actions.Read it (gives, inl empty) = elim (got empty) [
+      | inl none ↦ inr (gives, inl none)
+      | inr woken ↦ inl woken
     ]
-    on actions.PollMail it s = elim (none s.0) [
-      | inl woken ↦ inl woken
-      | inr e ↦ inr (e, s.1)
+    on actions.Read it (gives, inr reads) = inr (gives, inr reads)
+    on actions.PollMail it (empty, gives) = elim (got empty) [
+      | inl none ↦ inr (none, gives)
+      | inr woken ↦ inl woken
     ]
     on (actions.Write answer) it s = inr s
-    on (actions.Submit step) it s = absurd s
-    on (actions.LineOver end) it s = absurd s
-    on actions.Stray it s = absurd s
+    on _ it s = absurd s
 
     at : (place : LinePlace L) → IsStillAt line a.machine place mail → (0 < waits) ⊎ IsStillAt line a.machine place later
     at (places.On it action sent) s = on action it s
     at places.Done s = inr s
-    at places.Between s = absurd s
-    at places.Leaving s = absurd s
+    at _ s = absurd s
 
   pub known_woken : (mails later : List (List Answer)) (old new : WakeList) → length seats ≤ old.seats → Wakes mails later old new
       → AreKnown line many listed looks old.waiting seats mails → AreKnown line many listed looks new.waiting seats later
@@ -573,47 +516,6 @@ module _ {L : Type 0} (line : Line L) (many : ℕ) (listed looks : ℕ → Bool)
           inr (inr (still_or_woken (slice_index_or seats t a) (slice_index_or mails t []) (slice_index_or later t []) (times t new.waiting)
           (wakes.mail t (omega (arith, below, within))) still))
 
--- The first seat that is to be woken was reported to the turns.
-pub known_told : {L : Type 0} (line : Line L) (many later_many : ℕ) (listed looks later later_looks : ℕ → Bool) (i : ℕ)
-    (woken : List ℕ) (seats : List (Attendant L)) (mails : List (List Answer))
-    → later_many ≡ many → (i < many → (looks i ≡ true → ⊥) → later i ≡ true) → KeepsAll listed later
-    → ((t : ℕ) → later_looks t ≡ looks t) → (AreApart listed looks → AreApart later later_looks)
-    → AreKnown line many listed looks (i ∷ woken) seats mails → AreKnown line later_many later later_looks woken seats mails
-known_told {L} line many later_many listed looks later later_looks i woken seats mails same told keeps checks apart k = record {
-  all = omega (arith, same, k.all);
-  apart = apart k.apart;
-  looking = λ t below is a. k.looking t below (sym (checks t) ∙ is) a;
-  known = λ t below a. at t below a (k.known t below a);
-}
-  where
-    mine : (t : ℕ) → t < length seats → (a : Attendant L) → i ≡ t → (looks t ≡ true) ⊎ (looks t ≡ false)
-        → IsKnown (later t) (later_looks t) (times t woken) (IsStill line (slice_index_or seats t a) (slice_index_or mails t []))
-    mine t below a is (inl looking) = inr (inl (checks t ∙ looking))
-    mine t below a is (inr nor) =
-        inl (subst (λ n. later n ≡ true) is (told (omega (arith, below, k.all, is))
-        (λ e. let f : true ≡ false = sym e ∙ ap looks is ∙ nor in absurd cc)))
-
-    at : (t : ℕ) → t < length seats → (a : Attendant L)
-        → IsKnown (listed t) (looks t) (times t (i ∷ woken)) (IsStill line (slice_index_or seats t a) (slice_index_or mails t []))
-        → IsKnown (later t) (later_looks t) (times t woken) (IsStill line (slice_index_or seats t a) (slice_index_or mails t []))
-    at t below a (inl acts) = inl (keeps t acts)
-    at t below a (inr (inl looking)) = inr (inl (checks t ∙ looking))
-    at t below a (inr (inr (inl waits))) = elim (eqb_tells i t) [
-      | inl is ↦ mine t below a is.1 (cases_Bool (looks t))
-      | inr differs ↦
-          let none : one_if (i == t) ≡ 0 = ap one_if differs.0 in
-          inr (inr (inl (omega (arith, sum_by-cons (λ x. one_if (x == t)) i woken, waits, none))))
-    ]
-    at t below a (inr (inr (inr still))) = inr (inr (inr still))
-
--- No seat checks for a client.
-pub all_checked : (l later : Listing) → later ≡ record l { free = later.free } → l.free ≡ later.free ++ [] → AreSameLists l later
-all_checked l later rest taken = record {
-  seats = ap (λ z. z.seats) rest;
-  queue = ap (λ z. z.queue) rest;
-  free = sym (taken ∙ append-nil later.free);
-}
-
 -- A turn was taken. Each seat that got mail is to be woken.
 module _ {L : Type 0} (line : Line L) (many : ℕ) (listed looks : ℕ → Bool) where
   known_turned : (turn : Turn) (woken : List ℕ) (seats later : List (Attendant L)) (mails : List (List Answer))
@@ -631,10 +533,3 @@ module _ {L : Type 0} (line : Line L) (many : ℕ) (listed looks : ℕ → Bool)
       known_woken line many listed looks later mails after old new (let e = ap (λ w. w.seats) none in omega (arith, within, e)) wakes
       (subst (λ xs. AreKnown line many listed looks xs later mails) (sym (ap (λ w. w.waiting) none))
       (known_turned turn [] seats later mails acts only k))
-
--- The turn of a visit is one of a seat that is let act.
-pub listed_by : (l : Listing) (visited : Option ℕ) (v : Visit) (turn : Turn) → turn ≡ turn_of v → visited ≡ Some v.seat
-    → IsListedIn (is_listed l visited) turn
-listed_by l visited v turn is same =
-    subst (λ t. IsListedIn (is_listed l visited) t) (sym is)
-    (subst (λ o. is_listed l o v.seat ≡ true) (sym same) (listed_self l v.seat))

@@ -4,6 +4,5 @@ mod ListingLemmas
 mod RowLemmas
 mod ServingLemmas
 mod SessionsLemmas
-mod SleepingLemmas
 mod SoFarLemmas
 mod WaitingLemmas

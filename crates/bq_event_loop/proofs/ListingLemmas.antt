@@ -1,13 +1,13 @@
 -- Seats that enter and leave the lists of an event loop.
-use Rattle.std.proofs.Common.{ℕ, zero, suc, ◌≡◌, ◌≢◌, ◌⊎◌, inl, inr, ◌+◌, ◌-◌, ◌≤◌, ◌<◌, ◌==◌, true, false, List, [], ◌∷◌, ◌++◌, length}
-use Rattle.std.proofs.Common.{replicate, slice_set, slice_index_or, refl, sym, ap, ◌∙◌, arith, subst, append_assoc, append-nil}
+use Rattle.std.proofs.Common.{ℕ, zero, suc, ◌≡◌, ◌⊎◌, inl, inr, ◌+◌, ◌-◌, ◌≤◌, ◌<◌, ◌==◌, true, List, [], ◌∷◌, ◌++◌, length}
+use Rattle.std.proofs.Common.{nat_lt, replicate, slice_set, slice_index_or, refl, sym, ap, ◌∙◌, arith, subst, append_assoc, append-nil}
 use Rattle.std.specs.List.{count_by}
 use Rattle.std.proofs.lemmas.Grind.{common_steps}
 use Rattle.std.proofs.lemmas.List.{get_or-replicate, get_or-set_same, get_or_past, length-replicate}
 use Rattle.std.proofs.lemmas.List.Folds.{sum_by-replicate}
 use Rattle.std.proofs.lemmas.List.Sums.{sum_by-cons}
-use Rattle.std.proofs.lemmas.Bool.{cases_lt}
-use Rattle.std.proofs.lemmas.Bool.Decides.{eqb_tells}
+use Rattle.std.proofs.lemmas.Bool.{cases_lt, lt-ltb}
+use Rattle.std.proofs.lemmas.Bool.Decides.{nat_tests}
 use Rattle.bq_host.proofs.MarkLemmas.{has_mark, left, marked, none_marked, one_if, stayed, within}
 use Rattle.bq_event_loop.specs.Listings.{AreMarked, IsDisjoint, falling, is_free, is_queued}
 use Rattle.bq_host.specs.Marks.{HasMarks, times}
@@ -89,28 +89,17 @@ length_falling zero = refl
 length_falling (suc n) = ap suc (length_falling n)
 
 -- each number below n is once in `falling n`
-falls_never : (n t : ℕ) → n ≤ t → times t (falling n) ≡ 0
-falls_never zero t past = refl
-falls_never (suc n) t past = by (falls_never n t (omega (arith, past))) (eqb_tells n t) where
-  by : times t (falling n) ≡ 0 → ((n == t) ≡ true) × (n ≡ t) ⊎ ((n == t) ≡ false) × (n ≢ t) → times t (falling (suc n)) ≡ 0
-  by never (inl (_, same)) = absurd (omega (arith, same, past))
-  by never (inr (test, _)) =
-      let head = sum_by-cons (λ x. one_if (x == t)) n (falling n) in
-      let none : one_if (n == t) ≡ 0 = ap one_if test in
-      omega (arith, head, none, never)
+falls : (n t : ℕ) → times t (falling n) ≡ one_if (nat_lt t n)
+falls zero t = none t where
+  none : (t : ℕ) → 0 ≡ one_if (nat_lt t 0)
+  none t = grind (arith, nat_tests)
+falls (suc n) t = more n t (times t (falling n)) (times t (falling (suc n))) (sum_by-cons (λ x. one_if (x == t)) n (falling n)) (falls n t)
+  where
+    more : (n t rest all : ℕ) → all ≡ one_if (n == t) + rest → rest ≡ one_if (nat_lt t n) → all ≡ one_if (nat_lt t (suc n))
+    more n t rest all head tail = grind (arith, nat_tests)
 
 pub falls_once : (n t : ℕ) → t < n → times t (falling n) ≡ 1
-falls_once zero t below = absurd (omega (arith, below))
-falls_once (suc n) t below = by (falls_once n t) (eqb_tells n t) where
-  by : (t < n → times t (falling n) ≡ 1) → ((n == t) ≡ true) × (n ≡ t) ⊎ ((n == t) ≡ false) × (n ≢ t) → times t (falling (suc n)) ≡ 1
-  by once (inl (test, same)) =
-      let head = sum_by-cons (λ x. one_if (x == t)) n (falling n) in
-      let one : one_if (n == t) ≡ 1 = ap one_if test in
-      omega (arith, head, one, falls_never n t (omega (arith, same)))
-  by once (inr (test, differs)) =
-      let head = sum_by-cons (λ x. one_if (x == t)) n (falling n) in
-      let none : one_if (n == t) ≡ 0 = ap one_if test in
-      omega (arith, head, none, once (omega (arith, below, differs)))
+falls_once n t below = falls n t ∙ ap one_if (lt-ltb t n below)
 
 -- All seats are free at first.
 all_marked : (n : ℕ) → AreMarked [] (falling n) (replicate n lists.Free)
@@ -119,9 +108,12 @@ all_marked n = (none_marked is_queued lists.Nowhere n lists.Free refl refl, reco
   at t (inl below) =
       falls_once n t below ∙ sym (ap (λ z. one_if (is_free z)) (get_or-replicate n t lists.Free lists.Nowhere below))
   at t (inr past) =
-      falls_never n t past
+      falls n t ∙ above past
       ∙ sym (ap (λ z. one_if (is_free z)) (get_or_past (replicate n lists.Free) t lists.Nowhere
       (omega (arith, past, length-replicate n lists.Free))))
+    where
+      above : n ≤ t → one_if (nat_lt t n) ≡ 0
+      above past = grind (arith, nat_tests)
 
   each : (t : ℕ) → times t (falling n) ≡ has_mark is_free lists.Nowhere (replicate n lists.Free) t
   each t = at t (cases_lt t n)

@@ -1,6 +1,6 @@
 -- One seat of a row, or its door, was changed, and the others stayed as they were.
 use Rattle.std.proofs.Common.{◌≡◌, ◌≢◌, ℕ, zero, suc, ◌<◌, List, [], ◌∷◌, ◌++◌, length}
-use Rattle.std.proofs.Common.{refl, sym, ap, ◌∙◌, arith, subst, inl, inr, append-nil, slice_set, slice_index_or}
+use Rattle.std.proofs.Common.{refl, sym, ◌∙◌, arith, subst, inl, inr, append-nil, slice_set, slice_index_or}
 use Rattle.std.specs.Prelude.{◌==◌}
 use Rattle.std.specs.List.{All}
 use Rattle.std.proofs.lemmas.Bool.{cases_Bool, eqb-true, eqb-false}
@@ -8,7 +8,7 @@ use Rattle.std.proofs.lemmas.List.{get_or-set_other, get_or-set_same, get_or_def
 use Rattle.bq_job.specs.declared.answer.Answer.{Answer}
 use Rattle.bq_job.specs.declared.step.Step.{Step}
 use Rattle.bq_job.specs.promise.LineSteps.{LineSeen}
-use Rattle.bq_line.specs.Tending.{AreSame, DoorSeen, IsCounted, IsNewDoor, IsNewSeat, IsPlaced, IsTended, Tends}
+use Rattle.bq_line.specs.Tending.{AreSame, DoorSeen, IsNewDoor, IsNewSeat, IsPlaced, IsTended, Tends}
 use Rattle.bq_line.specs.declared.attendant.Attendant.{Attendant}
 use Rattle.bq_line.proofs.TendingLemmas.{tended_new, tends_still}
 use Rattle.bq_event_loop.specs.Meanings.{Door, Line, at}
@@ -53,10 +53,10 @@ same_set same (x ∷ handed_in) [] i d later on h = absurd h
 same_set same (x ∷ handed_in) (y ∷ doors) zero d later on h = (on x h.0, h.1)
 same_set same (x ∷ handed_in) (y ∷ doors) (suc i) d later on h = (h.0, same_set same handed_in doors i d later on h.1)
 
--- a door that is there
-some_door : {D : Type 0} (doors : List D) (i : ℕ) → i < length doors → D
-some_door [] i h = absurd (omega arith)
-some_door (d ∷ doors) i h = d
+-- an element of a list that has one
+pub some_one : {X : Type 0} (xs : List X) (i : ℕ) → i < length xs → X
+some_one [] i h = absurd (omega arith)
+some_one (x ∷ xs) i h = x
 
 -- A property that holds for the changed seat and its door, and held for the others before, holds
 -- for each seat and its door.
@@ -142,11 +142,11 @@ module _ {L D : Type 0} (l : Line L) (d : Door D L) where
       → AllRested l d first.seats.items first.doors.items (slice_set seats i new) doors)
   keeps_seat seats doors i a new below all is tends =
       let there : i < length doors = omega (arith, all.doored, below) in
-      let x = slice_index_or doors i (some_door doors i there) in
+      let x = slice_index_or doors i (some_one doors i there) in
       subst (λ (ds : List D). AllTended l d (slice_set seats i new) ds
       × ((first : Row L D) → AllRested l d first.seats.items first.doors.items seats doors
-      → AllRested l d first.seats.items first.doors.items (slice_set seats i new) ds)) (set-get_or doors i (some_door doors i there))
-      (keeps_set seats doors i a new x x below all is (get_or_default doors i (some_door doors i there) x there) (tends (at d x))
+      → AllRested l d first.seats.items first.doors.items (slice_set seats i new) ds)) (set-get_or doors i (some_one doors i there))
+      (keeps_set seats doors i a new x x below all is (get_or_default doors i (some_one doors i there) x there) (tends (at d x))
       (λ first h. h))
 
   -- Nothing was done with a row.

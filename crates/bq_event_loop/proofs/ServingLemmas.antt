@@ -1,6 +1,6 @@
 -- Seats are served in turn: one acts, and the others stay as they were.
-use Rattle.std.proofs.Common.{◌≡◌, ◌≢◌, ℕ, ◌+◌, ◌<◌, ◌≤◌, List, [], ◌++◌, Option, length, refl, sym}
-use Rattle.std.proofs.Common.{ap, ◌∙◌, ◌⊎◌, true, false, arith, subst, inl, inr, append_assoc, slice_set, slice_index_or}
+use Rattle.std.proofs.Common.{◌≡◌, ℕ, ◌+◌, ◌<◌, ◌≤◌, List, [], ◌++◌, Option, length, refl, sym}
+use Rattle.std.proofs.Common.{ap, ◌∙◌, arith, subst, inl, inr, append_assoc, slice_set, slice_index_or}
 use Rattle.std.specs.Prelude.{◌==◌}
 use Rattle.std.proofs.lemmas.Bool.{cases_Bool, eqb-true, eqb-false}
 use Rattle.std.proofs.lemmas.List.{get_or_default, length-set}
@@ -16,9 +16,8 @@ use Rattle.bq_host.specs.MailStates.{IsInOrder, MailState, waiting}
 use Rattle.bq_host.specs.Went.{CoreWent, SeatWent}
 use Rattle.bq_host.specs.declared.hub.Hub.{Hub}
 use Rattle.bq_host.proofs.WentLemmas.{core_none, core_on, gave_none, gave_then, steps_append}
-use Rattle.bq_host.proofs.HubLemmas.{went_none, went_then}
+use Rattle.bq_host.proofs.HubLemmas.{called, went_none, went_then}
 use Rattle.bq_line.specs.GivenReadings.{GaveReadings}
-use Rattle.bq_line.specs.Links.{Calls}
 use Rattle.bq_line.specs.Tending.{AreSame, DoorSeen, GoesOn, IsCounted, IsTended, Tends, ended_lines}
 use Rattle.bq_line.specs.declared.attendant.Attendant.{Attendant}
 use Rattle.bq_line.proofs.CountedLemmas.{counted_on}
@@ -30,7 +29,7 @@ use Rattle.bq_event_loop.specs.Serving.{AreReadyFor, AreServed, AreServedFrom, C
 use Rattle.bq_event_loop.specs.declared.control_turns.ControlTurns.{ControlTurns}
 use Rattle.bq_event_loop.specs.declared.row.Row.{Row}
 use Rattle.bq_event_loop.proofs.ControlLemmas.{tells_none, tells_then}
-use Rattle.bq_event_loop.proofs.RowLemmas.{looked_up, rested_none, same_set, set_each}
+use Rattle.bq_event_loop.proofs.RowLemmas.{rested_none, same_set, set_each}
 
 -- A seat for which no answer waited at first has taken at most one `Closed` for each close.
 took_few : (first core : MailState) (readings : List (Option ℕ)) (history : List Entry) (took : ℕ → List Answer) (seat : ℕ)
@@ -47,30 +46,18 @@ took_few first core readings history took seat w below none =
 -- A seat that submitted and took nothing stays as it was.
 tends_none : {L : Type 0} (l : Line L) (a : Attendant L) (door : DoorSeen) (submitted : List Step) (taken : List Answer)
     → submitted ≡ [] → taken ≡ [] → Tends l.seen a door submitted taken a door
-tends_none l a door submitted taken none_submitted none_taken =
-    subst (λ (xs : List Step). Tends l.seen a door xs taken a door) (sym none_submitted)
-    (subst (λ (ys : List Answer). Tends l.seen a door [] ys a door) (sym none_taken) (tends_still l.seen a door))
+tends_none l a door submitted taken none_submitted none_taken = rw (none_submitted, none_taken) (tends_still l.seen a door)
 
--- What a seat did that did nothing is what each seat did.
-seat_any : (i j : ℕ) (first last : MailState) (readings : List (Option ℕ)) → SeatWent i first readings [] [] last
-    → SeatWent j first readings [] [] last
-seat_any i j first last readings w = record {
-  history = w.history;
-  took = w.took;
-  went = w.went;
-  submitted_is = none j (cases_Bool (j == i));
-  taken_is = none_taken j (cases_Bool (j == i));
-  others_still = λ t differs. none t (cases_Bool (t == i));
-  others_took = λ t differs. none_taken t (cases_Bool (t == i));
-}
-  where
-    none : (t : ℕ) → ((t == i) ≡ true) ⊎ ((t == i) ≡ false) → steps_at t w.history ≡ []
-    none t (inl e) = ap (λ n. steps_at n w.history) (eqb-true t i e) ∙ w.submitted_is
-    none t (inr e) = w.others_still t (eqb-false t i e)
-
-    none_taken : (t : ℕ) → ((t == i) ≡ true) ⊎ ((t == i) ≡ false) → w.took t ≡ []
-    none_taken t (inl e) = ap (λ n. w.took n) (eqb-true t i e) ∙ w.taken_is
-    none_taken t (inr e) = w.others_took t (eqb-false t i e)
+-- If one seat did nothing, then none did.
+none_acted : (i : ℕ) (first last : MailState) (readings : List (Option ℕ)) (w : SeatWent i first readings [] [] last) (t : ℕ)
+    → (steps_at t w.history ≡ []) × (w.took t ≡ [])
+none_acted i first last readings w t = elim (cases_Bool (t == i)) [
+  | inl e ↦ (
+    ap (λ n. steps_at n w.history) (eqb-true t i e) ∙ w.submitted_is,
+    ap (λ n. w.took n) (eqb-true t i e) ∙ w.taken_is,
+  )
+  | inr e ↦ (w.others_still t (eqb-false t i e), w.others_took t (eqb-false t i e))
+]
 
 -- A part of the history was added, and each seat did what the part has for it.
 served_on : {L D : Type 0} (l : Line L) (d : Door D L) (size : ℕ) (control told : List Step) (first core next : MailState)
@@ -174,17 +161,13 @@ module _ {C K L D : Type 0} {k : Core K} {c : Clock C} {l : Line L} {d : Door D 
     mailed = b.mailed ∙ a.mailed;
     many = b.many ∙ a.many;
     served = λ size before first readings s.
-        subst (λ (rs : List (Option ℕ)). AreServedFrom s.history l d size (before ++ (control ++ more)) first rs
-        (state k new) later.seats.items later.doors.items) (append_assoc readings a.reads b.reads)
-        (subst (λ (xs : List Step). AreServedFrom s.history l d size xs first ((readings ++ a.reads) ++ b.reads)
-        (state k new) later.seats.items later.doors.items) (append_assoc before control more)
-        (let x = a.served size before first readings s in
+        let x = a.served size before first readings s in
         let y = b.served size (before ++ control) first (readings ++ a.reads) x.served in
-        record {
+        rw (← append_assoc readings a.reads b.reads, ← append_assoc before control more) (record {
           served = y.served;
           more = x.more ++ y.more;
           begins = y.begins ∙ ap (λ (h : List Entry). h ++ y.more) x.begins ∙ append_assoc s.history x.more y.more;
-        }));
+        });
     same_doors = λ handed_in h. b.same_doors handed_in (a.same_doors handed_in h);
   }
 
@@ -210,8 +193,12 @@ module _ {C K L D : Type 0} {k : Core K} {c : Clock C} {l : Line L} {d : Door D 
   -- A tick was taken, or answers moved to another place.
   pub serves_time : {old new : Hub C K} {row : Row L D} (i : ℕ) → WentAt k.machine k.comparisons c.given i old [] [] new
       → ServesOn k c l d old row [] new row
-  serves_time {old} {new} {row} i went = serves_control (length row.seats.items) [] refl
-      ((went.0.0, went.0.1, seat_any i (length row.seats.items) (state k old) (state k new) went.0.0 went.0.2), went.1)
+  serves_time {old} {new} {row} i went =
+      let w = went.0.2 in
+      let none = none_acted i (state k old) (state k new) went.0.0 w in
+      serves_by went.0.0 w.history w.took went.0.1 w.went refl refl
+      (λ t below a x. tends_none l (slice_index_or row.seats.items t a) (at d (slice_index_or row.doors.items t x)) (steps_at t w.history)
+      (w.took t) (none t).0 (none t).1) (none (length row.seats.items)).0 (λ t above. (none t).0) (λ handed_in h. h)
 
   -- A seat acted, with its door, which were looked up.
   pub serves_acted : {old new : Hub C K} {row later : Row L D} (i : ℕ) (a next : Attendant L) (x door : D) → i < length row.seats.items
@@ -223,17 +210,14 @@ module _ {C K L D : Type 0} {k : Core K} {c : Clock C} {l : Line L} {d : Door D 
   serves_acted {old} {new} {row} {later} i a next x door below doored a_is x_is goes on seats_are doors_are =
       serves_by went.0.0 w.history w.took went.0.1 w.went (ap length seats_are ∙ length-set seats i next)
       (ap length doors_are ∙ length-set doors i door)
-      (λ t here y z. subst (λ (us : List (Attendant L)). Tends l.seen (slice_index_or seats t y) (at d (slice_index_or doors t z))
-      (steps_at t w.history) (w.took t) (slice_index_or us t y) (at d (slice_index_or later.doors.items t z))) (sym seats_are)
-      (subst (λ (vs : List D). Tends l.seen (slice_index_or seats t y) (at d (slice_index_or doors t z)) (steps_at t w.history) (w.took t)
-      (slice_index_or (slice_set seats i next) t y) (at d (slice_index_or vs t z))) (sym doors_are)
+      (λ t here y z. rw (seats_are, doors_are)
       (set_each (λ (n : ℕ) (u : Attendant L) (v : D). Tends l.seen (slice_index_or seats n y) (at d (slice_index_or doors n z))
       (steps_at n w.history) (w.took n) u (at d v)) seats doors i next door y z below doored (own y z)
       (λ n differs there. tends_none l (slice_index_or seats n y) (at d (slice_index_or doors n z)) (steps_at n w.history) (w.took n)
-      (w.others_still n differs) (w.others_took n differs)) t here)))
+      (w.others_still n differs) (w.others_took n differs)) t here))
       (w.others_still (length row.seats.items) (λ e. omega (arith, below, e)))
       (λ t above. w.others_still t (λ e. omega (arith, below, above, e)))
-      (λ handed_in h. subst (λ (vs : List D). AreSame d.same handed_in vs) (sym doors_are)
+      (λ handed_in h. rw doors_are
       (same_set d.same handed_in doors i x door (subst (λ (v : D). (first : D) → d.same first v → d.same first door) x_is on) h))
     where
       seats : List (Attendant L)
@@ -242,17 +226,8 @@ module _ {C K L D : Type 0} {k : Core K} {c : Clock C} {l : Line L} {d : Door D 
       doors : List D
       doors = row.doors.items
 
-      went_by : (submitted : List Step) (taken : List Answer) → Calls (WentAt k.machine k.comparisons c.given i) old submitted taken new
-          → WentAt k.machine k.comparisons c.given i old submitted taken new
-      went_by submitted taken (inl w) = w
-      went_by submitted taken (inr same) =
-          subst (λ (h : Hub C K). WentAt k.machine k.comparisons c.given i old submitted taken h) (sym same.0)
-          (subst (λ (s : List Step). WentAt k.machine k.comparisons c.given i old s taken old) (sym same.1)
-          (subst (λ (t : List Answer). WentAt k.machine k.comparisons c.given i old [] t old) (sym same.2)
-          (went_none k.machine k.comparisons c.given i old)))
-
       went : WentAt k.machine k.comparisons c.given i old goes.0 goes.1 new
-      went = went_by goes.0 goes.1 goes.2
+      went = called k.machine k.comparisons c.given i old new goes.0 goes.1 goes.2
 
       w : SeatWent i (state k old) went.0.0 goes.0 goes.1 (state k new)
       w = went.0.2
@@ -260,12 +235,9 @@ module _ {C K L D : Type 0} {k : Core K} {c : Clock C} {l : Line L} {d : Door D 
       own : (y : Attendant L) (z : D) → Tends l.seen (slice_index_or seats i y) (at d (slice_index_or doors i z)) (steps_at i w.history)
           (w.took i) next (at d door)
       own y z =
-          subst (λ (u : Attendant L). Tends l.seen u (at d (slice_index_or doors i z)) (steps_at i w.history) (w.took i) next (at d door))
-          (a_is ∙ get_or_default seats i a y below)
-          (subst (λ (v : D). Tends l.seen a (at d v) (steps_at i w.history) (w.took i) next (at d door))
-          (x_is ∙ get_or_default doors i x z (omega (arith, doored, below)))
-          (subst (λ (xs : List Step). Tends l.seen a (at d x) xs (w.took i) next (at d door)) (sym w.submitted_is)
-          (subst (λ (ys : List Answer). Tends l.seen a (at d x) goes.0 ys next (at d door)) (sym w.taken_is) goes.3)))
+          let seat_is : slice_index_or seats i y ≡ a = sym (a_is ∙ get_or_default seats i a y below) in
+          let door_is : slice_index_or doors i z ≡ x = sym (x_is ∙ get_or_default doors i x z (omega (arith, doored, below))) in
+          rw (seat_is, door_is, w.submitted_is, w.taken_is) goes.3
 
   -- Some seats were woken.
   serves_woken : {old new : Hub C K} {row : Row L D} → new ≡ record old { woken = new.woken } → ServesOn k c l d old row [] new row

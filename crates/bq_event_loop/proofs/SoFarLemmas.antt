@@ -1,49 +1,52 @@
--- A run that has not ended: what was served so far, in the terms of the promise.
-use Rattle.std.proofs.Common.{◌≡◌, ℕ, suc, ◌+◌, ◌<◌, ◌≤◌, Bool, true, List, [], ◌∷◌, ◌++◌, Option, Some, None}
+-- A run, which is over or not: what was served so far, in the terms of the promise.
+use Rattle.std.proofs.Common.{◌≡◌, ℕ, suc, ◌+◌, ◌<◌, ◌≤◌, Bool, true, false, List, [], ◌∷◌, ◌++◌, Option, Some, None}
 use Rattle.std.proofs.Common.{map, length, replicate, refl, sym, ap, ◌∙◌, arith, subst, inl, inr, add-zero, append-nil}
 use Rattle.std.proofs.Common.{append_assoc, slice_index_or, is_some}
-use Rattle.std.proofs.lemmas.List.{replicate-append-replicate}
+use Rattle.std.proofs.lemmas.List.{length-map, replicate-append-replicate}
 use Rattle.std.specs.List.{All}
 use Rattle.std.specs.Io.KnownBytes.{Consumes}
 use Rattle.bq_job.specs.beside.Closings.{closes}
 use Rattle.bq_job.specs.declared.answer.Answer.{Answer}
-use Rattle.bq_job.specs.declared.settings.Settings.{Settings}
 use Rattle.bq_job.specs.declared.step.Step.{Step}
 use Rattle.bq_job.specs.declared.step.Step.TheVariants.{Drain, Gone}
-use Rattle.bq_job.specs.machine.Dispatch.{GivenAnswer}
+use Rattle.bq_job.specs.beside.Ties.{AreTied}
 use Rattle.bq_job.specs.machine.Machine.{Machine, new_machine}
+use Rattle.bq_job.specs.promise.CoreDid.{IsRun}
 use Rattle.bq_job.specs.promise.ControlDid.{drains, drains_from, one_if}
-use Rattle.bq_job.specs.promise.History.{ArePickedFrom, LineOver, moments_heard, steps_at}
+use Rattle.bq_job.specs.promise.Headline.{AreSeatsUpTo, IsHistoryOf}
+use Rattle.bq_job.specs.promise.History.{ArePickedFrom, moments_heard, steps_at}
 use Rattle.bq_job.specs.promise.LineOwed.{AreLinesOwed}
 use Rattle.bq_job.specs.promise.LineSteps.{LineSeen}
 use Rattle.bq_job.specs.promise.Runs.{Entry, Run, answers_to}
-use Rattle.bq_job.specs.promise.SoFar.{AreDoorsOwedSoFar, IsControlSoFar, IsDoorOwedSoFar, IsHistorySoFar, IsLineOwedSoFar, IsOutOwed}
-use Rattle.bq_host.specs.Clocks.{Gives}
+use Rattle.bq_job.specs.promise.SoFar.{AreDoorsOwedSoFar, IsControlSoFar, IsDoorOwedSoFar, IsLineOwedSoFar, IsOutOwed}
 use Rattle.bq_host.specs.Compared.{AreCompared}
-use Rattle.bq_host.specs.MailStates.{MailState, IsNewMailState, waiting}
+use Rattle.bq_host.specs.MailStates.{IsNewMailState, waiting}
 use Rattle.bq_host.proofs.HasComparedLemmas.{compared_all}
-use Rattle.bq_host.proofs.WentLemmas.{none_waits}
-use Rattle.bq_job.proofs.JoinLemmas.{seat_owed_so_far}
+use Rattle.bq_host.proofs.WentLemmas.{core_none, new_mails_are, none_waits}
+use Rattle.bq_job.proofs.JoinLemmas.{doors_owed, seat_owed_so_far}
 use Rattle.bq_line.proofs.CountedLemmas.{got_few}
 use Rattle.bq_line.proofs.LineSoFarLemmas.{line_so_far}
+use Rattle.bq_line.proofs.TendingLemmas.{tended_new}
 use Rattle.bq_line.specs.ControlRead.{IsReadToEnd}
-use Rattle.bq_line.specs.ControlSeen.{ControlSeen}
 use Rattle.bq_line.specs.Attending.{IsAt}
-use Rattle.bq_line.specs.Tending.{AreSame, DoorSeen, IsNewDoor, IsNewSeat, IsPlaced, IsTended, ended_lines}
+use Rattle.bq_line.specs.Tending.{AreSame, DoorSeen, IsDoorServed, IsNewDoor, IsNewSeat, IsPlaced, IsTended, ended_lines}
 use Rattle.bq_line.specs.declared.attendant.Attendant.{Attendant}
 use Rattle.bq_line.specs.declared.attendant.LinePlace.{LinePlace}
 use Rattle.bq_line.specs.declared.attendant.LinePlace.TheVariants as places
 use Rattle.bq_seat.specs.declared.machine.SeatMachine.{SeatMachine}
 use Rattle.bq_event_loop.specs.ControlTold.{HasTold, IsAtStage}
 use Rattle.bq_event_loop.specs.Meanings.{Clock, Control, Core, Door, Line, at, state}
-use Rattle.bq_event_loop.specs.Serving.{AreServed, IsServing, LoopWent}
+use Rattle.bq_event_loop.specs.Rows.{AreDone}
+use Rattle.bq_event_loop.specs.Serving.{IsServing, LoopWent}
 use Rattle.bq_host.specs.declared.hub.Hub.{Hub}
 use Rattle.bq_event_loop.specs.declared.row.Row.{Row}
-use Rattle.bq_event_loop.specs.SoFar.{Beginning, beginning, IsLoopSoFar, doors_so_far, line_out}
+use Rattle.bq_event_loop.specs.SoFar.{Beginning, IsLoopSoFar, doors_so_far, line_out}
 use Rattle.bq_event_loop.specs.declared.control_turns.ControlTurns.{ControlTurns}
 use Rattle.bq_event_loop.specs.declared.control_turns.Stage.{Stage}
 use Rattle.bq_event_loop.specs.declared.control_turns.Stage.TheVariants as stages
-use Rattle.bq_event_loop.proofs.SessionsLemmas.{StepsKeepSettings, begins_served, run_keeps, up_to}
+use Rattle.bq_event_loop.proofs.ControlLemmas.{IsToldSo, told_all}
+use Rattle.bq_event_loop.proofs.RowLemmas.{some_one}
+use Rattle.bq_event_loop.proofs.SessionsLemmas.{StepsKeepSettings, run_keeps, tended_done, up_to}
 
 -- ---- the control line
 
@@ -150,56 +153,7 @@ module _ {L : Type 0} (seen : L → LineSeen) where
         held = out_held a.place door t.placed;
       }
 
--- ---- all of it
-
-module _ {L D : Type 0} (l : Line L) (d : Door D L) (settings : Settings) (first : MailState) where
-  -- a seat with its door, the answers that it was given, and how many of them are `Closed`
-  record IsSeatSoFar (history : List Entry) (took : ℕ → List Answer) (given : List GivenAnswer) (core : MailState) (t : ℕ)
-      (a : Attendant L) (door : DoorSeen) : Type 0 where
-    within : t < settings.seats
-    tended : IsTended l.seen settings.max_job_size a door (steps_at t history) (took t)
-    answers_are : answers_to t given ≡ took t ++ waiting t core
-    few : closes (took t) ≤ ended_lines a door
-
-  module _ (history : List Entry) (took : ℕ → List Answer) (given : List GivenAnswer) (core : MailState)
-      (runs : Run (new_machine settings) history given core.core) where
-    -- The connections of the seat that have ended are owed what their clients received.
-    lines_so_far : (t : ℕ) (a : Attendant L) (door : DoorSeen) (s : IsSeatSoFar history took given core t a door)
-        → AreLinesOwed settings.max_job_size door.lines_over s.tended.attends.before s.tended.attends.got
-    lines_so_far t a door s =
-        let did = s.tended.attends in
-        seat_owed_so_far settings settings.max_job_size t door.lines_over did.before did.now did.got (did.getting ++ waiting t core)
-        history given core.core s.within runs did.submitted_is
-        (s.answers_are ∙ got_first l.seen did.got did.getting (waiting t core) (took t) did.taken_is)
-        (got_few l.seen settings.max_job_size a door (steps_at t history) (took t) s.tended s.few) did.of_lines
-
-    seat_so_far : (t : ℕ) (a : Attendant L) (x : D) → IsSeatSoFar history took given core t a (at d x)
-        → IsDoorOwedSoFar settings.max_job_size
-        (record { over = d.lines_over x; out = line_out l.seen a.place; is_out = d.is_out x }) (steps_at t history)
-        (answers_to t given)
-    seat_so_far t a x s =
-        subst (λ (xs : List Answer). IsDoorOwedSoFar settings.max_job_size
-        (record { over = d.lines_over x; out = line_out l.seen a.place; is_out = d.is_out x })
-        (steps_at t history) xs) (sym s.answers_are)
-        (out_so_far l.seen settings.max_job_size a (at d x) (steps_at t history) (took t) (waiting t core) s.tended
-        (lines_so_far t a (at d x) s))
-
-    -- the doors from this seat on
-    doors_begun : (k : ℕ) (seats : List (Attendant L)) (doors : List D)
-        → ((j : ℕ) → j < length seats → (a : Attendant L) (x : D)
-        → IsSeatSoFar history took given core (k + j) (slice_index_or seats j a) (at d (slice_index_or doors j x)))
-        → AreDoorsOwedSoFar settings.max_job_size k
-        (doors_so_far l.seen d.lines_over d.is_out seats doors) history given
-    doors_begun k [] [] h = tt
-    doors_begun k [] (x ∷ doors) h = tt
-    doors_begun k (a ∷ seats) [] h = tt
-    doors_begun k (a ∷ seats) (x ∷ doors) h = (
-      seat_so_far k a x (subst (λ (n : ℕ). IsSeatSoFar history took given core n a (at d x)) (add-zero k) (h 0 (omega arith) a x)),
-      doors_begun (suc k) seats doors (λ j below b y.
-          subst (λ (n : ℕ). IsSeatSoFar history took given core n (slice_index_or seats j b) (at d (slice_index_or doors j y)))
-          (let e : k + suc j ≡ suc k + j = omega arith in e) (h (suc j) (omega (arith, below)) b y)),
-    )
-
+module _ {L D : Type 0} (l : Line L) (d : Door D L) where
   many_doors : (seats : List (Attendant L)) (doors : List D) → length doors ≡ length seats
       → length (doors_so_far l.seen d.lines_over d.is_out seats doors) ≡ length seats
   many_doors [] [] e = refl
@@ -208,72 +162,44 @@ module _ {L D : Type 0} (l : Line L) (d : Door D L) (settings : Settings) (first
   many_doors (a ∷ seats) (x ∷ doors) e =
       ap suc (many_doors seats doors (let f : suc (length doors) ≡ suc (length seats) = e in omega arith))
 
-  module _ (control : List Step) (readings : List (Option ℕ)) (core : MailState) (seats : List (Attendant L)) (doors : List D)
-      (new : IsNewMailState settings first) (many : length seats ≡ settings.seats)
-      (s : AreServed l d settings.max_job_size control first readings core seats doors) where
-    -- One history of everything so far, along which the core stayed within its bounds.
-    pub record IsBegunSo (text : List ℕ) (failed : Bool) : Type 0 where
-      pub history : IsHistorySoFar settings
-          (doors_so_far l.seen d.lines_over d.is_out seats doors) text failed readings core.core
-      pub compared : AreCompared (new_machine settings) history.history history.given core.core 0 core.compared
-
-    pub served_so_far : (text : List ℕ) (failed : Bool) → IsControlSoFar text failed control → IsBegunSo text failed
-    served_so_far text failed told =
-        let control_is : steps_at settings.seats s.history ≡ control = ap (λ n. steps_at n s.history) (sym many) ∙ s.control_is in
-        let runs = subst (λ (m : Machine). Run m s.history s.went.given core.core) new.core s.went.runs in
-        record {
-          history = record {
-            history = s.history;
-            given = s.went.given;
-            run = record {
-              runs = runs;
-              timed = subst (λ (n : ℕ). ArePickedFrom (map (λ (e : Entry). e.moment) s.history) (moments_heard n readings)) new.heard
-                  s.went.timed.picked;
-            };
-            many = many_doors seats doors s.doored ∙ many;
-            of_doors = doors_begun s.history s.took s.went.given core runs 0 seats doors (λ j below a x.
-                subst (λ (n : ℕ).
-                IsSeatSoFar s.history s.took s.went.given core n (slice_index_or seats j a) (at d (slice_index_or doors j x)))
-                (let e : j ≡ 0 + j = omega arith in e) (record {
-                  within = omega arith;
-                  tended = s.each j below a x;
-                  answers_are = ap (λ (xs : List Answer). xs ++ answers_to j s.went.given) (sym (none_waits settings first j new))
-                      ∙ s.went.tied j (let m = s.mailed in omega arith);
-                  few = s.few j below (none_waits settings first j new) a x;
-                }));
-            of_control = subst (λ (xs : List Step). IsControlSoFar text failed xs) (sym control_is) told;
-            of_nobody_else = up_to settings.seats s.history (λ n above. s.nobody_else n (omega arith));
-          };
-          compared = subst (λ (m : Machine). AreCompared m s.history s.went.given core.core 0 core.compared) new.core
-              (compared_all first core s.history s.went.given new.unknown new.none_compared s.went.compared);
-        }
-
 -- ---- a run
 
-module _ {L D C I K : Type 0} {k : Core K} {c : Clock C} {l : Line L} {d : Door D L} {i : Control I} {begun : Beginning D C} where
+module _ {L D C I K : Type 0} {k : Core K} {c : Clock C} {l : Line L} {d : Door D L} {i : Control I} where
   -- Nothing was served yet.
-  pub serving_first : {core : Hub C K} {row : Row L D} {control : ControlTurns I} → begun.clock ≡ core.timed.time.clock
-      → c.given core.timed.time.clock [] core.timed.time.clock → IsNewMailState begun.settings (state k core)
+  pub serving_first : {begun : Beginning D C} {core : Hub C K} {row : Row L D} {control : ControlTurns I}
+      → c.given begun.clock [] core.timed.time.clock → IsNewMailState begun.settings (state k core)
       → HasTold i begun.left begun.may_fail control []
       → length row.seats.items ≡ begun.settings.seats → length row.doors.items ≡ begun.settings.seats
       → All (IsNewSeat begun.settings.max_job_size) row.seats.items → All (λ x. IsNewDoor (at d x)) row.doors.items
       → AreSame d.same begun.doors row.doors.items → IsServing k c l d i begun core row control
-  serving_first {core} {row} clock_is none new submits many doored new_seats new_doors same_doors = record {
+  serving_first {begun} {core} {row} none new submits many doored new_seats new_doors same_doors = record {
     first = state k core;
     told = [];
     readings = [];
     is_new = new;
-    gave = subst (λ (first : C). c.given first [] core.timed.time.clock) (sym clock_is) none;
+    gave = none;
     submits = submits;
     many = many;
-    served = begins_served l d begun.settings (state k core) row.seats.items row.doors.items new many doored new_seats new_doors;
+    served = record {
+      history = [];
+      took = λ t. [];
+      went = core_none (state k core);
+      mailed = new_mails_are begun.settings (state k core) new ∙ sym many;
+      doored = doored ∙ sym many;
+      each = λ t below a x. tended_new l.seen begun.settings.max_job_size (slice_index_or row.seats.items t a)
+          (at d (slice_index_or row.doors.items t x)) (new_seats t a below) (new_doors t x (omega arith));
+      few = λ t below none a x. omega arith;
+      control_is = refl;
+      nobody_else = λ t above. refl;
+    };
     same_doors = same_doors;
   }
 
   -- The service went on.
-  pub serving_on : {old new : Hub C K} {row later : Row L D} {control next : ControlTurns I} → IsServing k c l d i begun old row control
-      → LoopWent k c l d i old row control new later next → IsServing k c l d i begun new later next
-  serving_on s on = record {
+  pub serving_on : {begun : Beginning D C} {old new : Hub C K} {row later : Row L D} {control next : ControlTurns I}
+      → IsServing k c l d i begun old row control → LoopWent k c l d i old row control new later next
+      → IsServing k c l d i begun new later next
+  serving_on {begun} s on = record {
     first = s.first;
     told = s.told ++ on.told;
     readings = s.readings ++ on.serves.reads;
@@ -285,38 +211,186 @@ module _ {L D C I K : Type 0} {k : Core K} {c : Clock C} {l : Line L} {d : Door 
     same_doors = on.serves.same_doors begun.doors s.same_doors;
   }
 
+  -- A run that began so began the same way by another name.
+  pub serving_since : {begun first : Beginning D C} {core : Hub C K} {row : Row L D} {control : ControlTurns I} → begun ≡ first
+      → IsServing k c l d i begun core row control → IsServing k c l d i first core row control
+  serving_since {begun} {first} {core} {row} {control} same s = subst (λ b. IsServing k c l d i b core row control) same s
+
+module _ {L D C I K : Type 0} {k : Core K} {c : Clock C} {l : Line L} {d : Door D L} {i : Control I} {begun : Beginning D C}
+    {core : Hub C K} {row : Row L D} {control : ControlTurns I} (s : IsServing k c l d i begun core row control) where
+  -- One history of all steps, each with a reading of its own.
+  ran : IsRun begun.settings s.readings s.served.history s.served.went.given (k.machine core.timed.core)
+  ran = record {
+    runs = subst (λ (m : Machine). Run m s.served.history s.served.went.given (k.machine core.timed.core)) s.is_new.core
+        s.served.went.runs;
+    timed = subst (λ (n : ℕ). ArePickedFrom (map (λ (e : Entry). e.moment) s.served.history) (moments_heard n s.readings)) s.is_new.heard
+        s.served.went.timed.picked;
+  }
+
+  -- Along it, the core stayed within its bounds.
+  within_bounds : AreCompared (new_machine begun.settings) s.served.history s.served.went.given (k.machine core.timed.core) 0
+      (k.comparisons core.timed.core)
+  within_bounds =
+      subst (λ (m : Machine). AreCompared m s.served.history s.served.went.given (k.machine core.timed.core) 0
+      (k.comparisons core.timed.core)) s.is_new.core
+      (compared_all s.first (state k core) s.served.history s.served.went.given s.is_new.unknown s.is_new.none_compared
+      s.served.went.compared)
+
+  -- Its steps are those of the seats, and of the control line after them.
+  control_steps : steps_at begun.settings.seats s.served.history ≡ s.told
+  control_steps = ap (λ n. steps_at n s.served.history) (sym s.many) ∙ s.served.control_is
+
+  no_others : AreSeatsUpTo begun.settings.seats s.served.history
+  no_others = up_to begun.settings.seats s.served.history (λ n above. s.served.nobody_else n (let e = s.many in omega arith))
+
+  -- The core's settings are those that it began with.
+  pub serving_settings : StepsKeepSettings → (k.machine core.timed.core).settings ≡ begun.settings
+  serving_settings law =
+      let r = ran.runs in run_keeps law (new_machine begun.settings) r.1.taken (k.machine core.timed.core) r.1.goes
+
+  -- a seat with its door, the answers that it was given, and how many of them are `Closed`
+  record IsSeatSoFar (t : ℕ) (a : Attendant L) (door : DoorSeen) : Type 0 where
+    within : t < begun.settings.seats
+    tended : IsTended l.seen begun.settings.max_job_size a door (steps_at t s.served.history) (s.served.took t)
+    answers_are : answers_to t s.served.went.given ≡ s.served.took t ++ waiting t (state k core)
+    few : closes (s.served.took t) ≤ ended_lines a door
+
+  seat_served : (t : ℕ) → t < length row.seats.items → (a : Attendant L) (x : D)
+      → IsSeatSoFar t (slice_index_or row.seats.items t a) (at d (slice_index_or row.doors.items t x))
+  seat_served t below a x =
+      let none = none_waits begun.settings s.first t s.is_new in
+      record {
+        within = let e = s.many in omega arith;
+        tended = s.served.each t below a x;
+        answers_are = ap (λ (xs : List Answer). xs ++ answers_to t s.served.went.given) (sym none)
+            ∙ s.served.went.tied t (let e = s.served.mailed in omega arith);
+        few = s.served.few t below none a x;
+      }
+
+  -- The connections of a seat that have ended are owed what their clients received, and an open one is owed a beginning of it.
+  seat_so_far : (t : ℕ) (a : Attendant L) (x : D) → IsSeatSoFar t a (at d x)
+      → IsDoorOwedSoFar begun.settings.max_job_size
+      (record { over = d.lines_over x; out = line_out l.seen a.place; is_out = d.is_out x }) (steps_at t s.served.history)
+      (answers_to t s.served.went.given)
+  seat_so_far t a x g =
+      let did = g.tended.attends in
+      let owed = seat_owed_so_far begun.settings begun.settings.max_job_size t (d.lines_over x) did.before did.now did.got
+      (did.getting ++ waiting t (state k core)) s.served.history s.served.went.given (k.machine core.timed.core) g.within ran.runs
+      did.submitted_is
+      (g.answers_are ∙ got_first l.seen did.got did.getting (waiting t (state k core)) (s.served.took t) did.taken_is)
+      (got_few l.seen begun.settings.max_job_size a (at d x) (steps_at t s.served.history) (s.served.took t) g.tended g.few)
+      did.of_lines in
+      subst (λ (xs : List Answer). IsDoorOwedSoFar begun.settings.max_job_size
+      (record { over = d.lines_over x; out = line_out l.seen a.place; is_out = d.is_out x }) (steps_at t s.served.history) xs)
+      (sym g.answers_are)
+      (out_so_far l.seen begun.settings.max_job_size a (at d x) (steps_at t s.served.history) (s.served.took t)
+      (waiting t (state k core)) g.tended owed)
+
+  -- the doors from this seat on
+  doors_begun : (n : ℕ) (seats : List (Attendant L)) (doors : List D)
+      → ((j : ℕ) → j < length seats → (a : Attendant L) (x : D)
+      → IsSeatSoFar (n + j) (slice_index_or seats j a) (at d (slice_index_or doors j x)))
+      → AreDoorsOwedSoFar begun.settings.max_job_size n
+      (doors_so_far l.seen d.lines_over d.is_out seats doors) s.served.history s.served.went.given
+  doors_begun n [] [] h = tt
+  doors_begun n [] (x ∷ doors) h = tt
+  doors_begun n (a ∷ seats) [] h = tt
+  doors_begun n (a ∷ seats) (x ∷ doors) h = (
+    seat_so_far n a x (subst (λ (t : ℕ). IsSeatSoFar t a (at d x)) (add-zero n) (h 0 (omega arith) a x)),
+    doors_begun (suc n) seats doors (λ j below b y.
+        subst (λ (t : ℕ). IsSeatSoFar t (slice_index_or seats j b) (at d (slice_index_or doors j y)))
+        (let e : n + suc j ≡ suc n + j = omega arith in e) (h (suc j) (omega (arith, below)) b y)),
+  )
+
   -- The promise so far.
-  pub serving_so_far : {core : Hub C K} {row : Row L D} {control : ControlTurns I} → IsServing k c l d i begun core row control
-      → IsLoopSoFar c.given l.seen d.lines_over d.is_out d.same k.machine k.comparisons begun row.seats.items row.doors.items
-      core.timed.time.clock (i.seen control.input) (i.remaining control.input) core.timed.core
-  serving_so_far {core} {row} {control} s =
+  pub serving_so_far : IsLoopSoFar c.given l.seen d.lines_over d.is_out d.same k.machine k.comparisons begun row.seats.items
+      row.doors.items core.timed.time.clock (i.seen control.input) (i.remaining control.input) core.timed.core
+  serving_so_far =
       let b = control_begun i begun.left begun.may_fail control s.told s.submits in
-      let h = served_so_far l d begun.settings s.first s.told s.readings (state k core) row.seats.items row.doors.items s.is_new s.many
-      s.served (i.seen control.input).text (i.seen control.input).failed b.begun in
       record {
         readings = s.readings;
         gave = s.gave;
         read = b.read;
         fault = b.fault;
-        history = h.history;
-        compared = h.compared;
+        history = record {
+          history = s.served.history;
+          given = s.served.went.given;
+          run = ran;
+          many = many_doors l d row.seats.items row.doors.items s.served.doored ∙ s.many;
+          of_doors = doors_begun 0 row.seats.items row.doors.items (λ j below a x.
+              subst (λ (n : ℕ). IsSeatSoFar n (slice_index_or row.seats.items j a) (at d (slice_index_or row.doors.items j x)))
+              (let e : j ≡ 0 + j = omega arith in e) (seat_served j below a x));
+          of_control = subst (λ (xs : List Step). IsControlSoFar (i.seen control.input).text (i.seen control.input).failed xs)
+              (sym control_steps) b.begun;
+          of_nobody_else = no_others;
+        };
+        compared = within_bounds;
         same_doors = s.same_doors;
       }
 
--- Two beginnings are the same if their parts are.
-pub same_beginning : {D C : Type 0} (settings settings' : Settings) (doors doors' : List D) (clock clock' : C)
-    (left left' : Option (List ℕ)) (may may' : Bool) → settings' ≡ settings → doors' ≡ doors → clock' ≡ clock → left' ≡ left → may' ≡ may
-    → beginning settings' doors' clock' left' may' ≡ beginning settings doors clock left may
-same_beginning settings settings' doors doors' clock clock' left left' may may' a b d e f =
-    ap (λ x. beginning x doors' clock' left' may') a ∙ ap (λ x. beginning settings x clock' left' may') b
-    ∙ ap (λ x. beginning settings doors x left' may') d ∙ ap (λ x. beginning settings doors clock x may') e
-    ∙ ap (λ x. beginning settings doors clock left x) f
+  module _ (all_done : AreDone row.seats.items) where
+    -- a door whose seat is done, and its answers
+    record IsDoorDone (t : ℕ) (door : DoorSeen) : Type 0 where
+      served : IsDoorServed begun.settings.max_job_size door (steps_at t s.served.history) (s.served.took t)
+      answers_are : answers_to t s.served.went.given ≡ s.served.took t ++ waiting t (state k core)
 
--- The core's settings are those that it began with.
-pub settings_so_far : {L D C K : Type 0} {given : Gives C} {line_seen : L → LineSeen} {lines_over : D → List LineOver}
-    {is_out : D → Bool} {same : D → D → Type 0} {comparisons : K → ℕ} {seats : List (Attendant L)} {doors : List D} {clock : C}
-    {control : ControlSeen} {left : Option (List ℕ)} (machine : K → Machine) (begun : Beginning D C) (core : K) → StepsKeepSettings
-    → IsLoopSoFar given line_seen lines_over is_out same machine comparisons begun seats doors clock control left core
-    → (machine core).settings ≡ begun.settings
-settings_so_far machine begun core law s =
-    let r = s.history.run.runs in run_keeps law (new_machine begun.settings) r.1.taken (machine core) r.1.goes
+    door_done : (t : ℕ) → t < length row.doors.items → (x : D) → IsDoorDone t (at d (slice_index_or row.doors.items t x))
+    door_done t below x =
+        let here : t < length row.seats.items = let e = s.served.doored in omega arith in
+        let a = some_one row.seats.items t here in
+        let g = seat_served t here a x in
+        record {
+          served = tended_done l.seen begun.settings.max_job_size (slice_index_or row.seats.items t a)
+              (at d (slice_index_or row.doors.items t x)) (steps_at t s.served.history) (s.served.took t) (all_done t here a) g.tended;
+          answers_are = g.answers_are;
+        }
+
+    -- the doors from this seat on
+    doors_tied : (n : ℕ) (rest : List D)
+        → ((j : ℕ) → j < length rest → (x : D) → IsDoorDone (n + j) (at d (slice_index_or rest j x)))
+        → AreTied begun.settings.max_job_size n (map d.lines_over rest) (λ t. steps_at t s.served.history) s.served.took
+        (λ t. waiting t (state k core)) s.served.history s.served.went.given
+    doors_tied n [] h = tt
+    doors_tied n (x ∷ rest) h =
+        let more = doors_tied (suc n) rest (λ j below y.
+        subst (λ (t : ℕ). IsDoorDone t (at d (slice_index_or rest j y)))
+        (let e : n + suc j ≡ suc n + j = omega arith in e) (h (suc j) (omega (arith, below)) y)) in
+        let here : IsDoorDone n (at d x) = subst (λ (t : ℕ). IsDoorDone t (at d x)) (add-zero n) (h 0 (omega arith) x) in (
+          refl,
+          here.answers_are,
+          here.served.done,
+          more,
+        )
+
+    -- The promise of a run that is over.
+    pub record IsLoopOver : Type 0 where
+      pub told : IsToldSo i begun.left begun.may_fail control s.told
+      pub history : IsHistoryOf begun.settings (map d.lines_over row.doors.items) (i.seen control.input).text
+          (i.seen control.input).failed s.readings (k.machine core.timed.core)
+      pub compared : AreCompared (new_machine begun.settings) history.history history.given (k.machine core.timed.core) 0
+          (k.comparisons core.timed.core)
+      pub at_end : All (λ (x : D). (d.is_out x ≡ false) × (d.is_at_end x ≡ true)) row.doors.items
+
+    pub serving_over : control.stage ≡ stages.Over → IsLoopOver
+    serving_over over =
+        let t = told_all over s.submits in
+        let many = length-map row.doors.items d.lines_over ∙ s.served.doored ∙ s.many in
+        record {
+          told = t;
+          history = record {
+            history = s.served.history;
+            given = s.served.went.given;
+            run = ran;
+            many = many;
+            of_doors = doors_owed begun.settings begun.settings.max_job_size 0 (map d.lines_over row.doors.items)
+                (λ n. steps_at n s.served.history) s.served.took (λ n. waiting n (state k core)) s.served.history s.served.went.given
+                (k.machine core.timed.core) (omega (arith, many)) ran.runs
+                (doors_tied 0 row.doors.items (λ j below x.
+                subst (λ (n : ℕ). IsDoorDone n (at d (slice_index_or row.doors.items j x)))
+                (let e : j ≡ 0 + j = omega arith in e) (door_done j below x)));
+            of_control = control_steps ∙ t.done;
+            of_nobody_else = no_others;
+          };
+          compared = within_bounds;
+          at_end = λ n x below. let served = (door_done n below x).served in (served.inside, served.at_end);
+        }

@@ -1,5 +1,5 @@
 -- The seats that turns let act, and what holds when they are asked.
-use Rattle.std.specs.Prelude.{ℕ, List, Option}
+use Rattle.std.specs.Prelude.{ℕ, List}
 use Rattle.bq_job.specs.declared.answer.Answer.{Answer}
 use Rattle.bq_line.specs.declared.attendant.Attendant.{Attendant}
 use Rattle.bq_event_loop.specs.Known.{AreKnown}

@@ -1,5 +1,5 @@
 -- An event loop that is ready to run.
-use Rattle.std.specs.Prelude.{ℕ, ◌≡◌, length}
+use Rattle.std.specs.Prelude.{◌≡◌, length}
 use Rattle.std.specs.List.{All}
 use Rattle.bq_job.specs.declared.settings.Settings.{Settings}
 use Rattle.bq_host.specs.MailStates.{IsInOrder, IsNewMailState}

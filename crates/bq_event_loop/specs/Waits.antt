@@ -1,10 +1,5 @@
 -- How long an event loop waits for the system to report something.
-use Rattle.std.specs.Prelude.{ℕ, ℤ, pos, negsuc, ◌≤◌, min, Option, Some, None}
-
--- The wait has a limit, and is no longer than this.
-abbrev pub IsWaitWithin : Option ℕ → ℕ → Type 0
-IsWaitWithin None most = ⊥
-IsWaitWithin (Some wait) most = wait ≤ most
+use Rattle.std.specs.Prelude.{ℕ, ℤ, pos, negsuc, min, Option, Some, None}
 
 -- the shorter of two waits; `None` stands for one without a limit
 abbrev pub shorter_of : Option ℕ → Option ℕ → Option ℕ

@@ -5,7 +5,7 @@
 //! short. Of the seats that came into the queue since the last wait, all connections are read
 //! first, then all steps are taken, and then all answers are written, so that each part finds its
 //! code and data in the processor's caches. Seats that were in the queue before come last.
-ghost use Rattle.std.specs.Prelude.{◌≡◌, ◌⊎◌, ℕ, true, false, None, Some, IfOk, IfSome, if◌then◌else◌};
+ghost use Rattle.std.specs.Prelude.{◌≡◌, ◌⊎◌, ℕ, true, false, None, Some, IfOk, IfSome};
 ghost use Rattle.bq_event_loop.specs.Known.{AreIdle, AreKnownTo, AreSameLists, IsFreeSeat, IsListedIn, IsNextOf, IsStillSeat, KnowsAll, is_listed};
 ghost use Rattle.bq_event_loop.specs.Known.{is_looking};
 ghost use Rattle.bq_event_loop.specs.Sleeping.{visited_by};

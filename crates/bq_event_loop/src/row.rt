@@ -1,8 +1,8 @@
 //! The seats of a run, each with its door.
-ghost use Rattle.std.specs.Prelude.{◌≡◌, ◌⊎◌, ◌<◌, ℕ, List, [], true, length};
+ghost use Rattle.std.specs.Prelude.{◌≡◌, ◌⊎◌, ◌<◌, List, [], true, length};
 ghost use Rattle.bq_job.specs.declared.answer.Answer.{Answer};
 ghost use Rattle.bq_event_loop.specs.Still.{IsStill};
-ghost use Rattle.bq_line.specs.Tending.{DoorSeen, IsPlaced, Tends, door_seen};
+ghost use Rattle.bq_line.specs.Tending.{IsPlaced, Tends, door_seen};
 
 use crate::still::{is_still, stands_of};
 use crate::turns::Stands;

@@ -11,7 +11,7 @@ ghost use Rattle.bq_host.specs.MailStates.{IsInOrder, IsNewMailState};
 ghost use Rattle.bq_host.specs.WakeLists.{none_waits};
 ghost use Rattle.bq_event_loop.specs.NewLoops.{IsNewLoop};
 ghost use Rattle.bq_event_loop.specs.Refused.{IsRefusedBy};
-ghost use Rattle.bq_event_loop.specs.SoFar.{beginning};
+ghost use Rattle.bq_event_loop.specs.SoFar.{began_with, beginning};
 
 use crate::control_turns::ControlTurns;
 use crate::row::Row;
@@ -25,7 +25,7 @@ use bq_line::Door;
 use bq_line::attendant::Attendant;
 use bq_line::buffers::Buffers;
 use bq_line::clock::Clock;
-use bq_line::control_line::{ControlLine, ControlReader};
+use bq_line::control_line::{ControlInput, ControlLine, ControlReader};
 use bq_line::line::{Line, ReadBuffer};
 use std::alloc::Global;
 use std::snapshot::Snapshot;
@@ -341,16 +341,14 @@ fn run_at<
 }
 
 // What a run begins with, for the proofs.
-fn begin_with<D, C, I>(
+fn begin_with<D, C, I: ControlInput>(
     config: &Config,
     doors: &Vec<D, Global>,
     clock: &C,
     control: &I,
 ) -> Began<D, C, I>
-    ensures config { result.config.value ≡ config.now }
-    ensures doors { result.doors.value ≡ doors.now }
-    ensures clock { result.clock.value ≡ clock.now }
-    ensures control { result.control.value ≡ control.now }
+    ensures { began_with I.ControlInput result
+        ≡ beginning config.now doors.now.items clock.now (I.remaining control.now) (I.may_fail control.now) }
 {
     Began {
         config: Snapshot::of(config),

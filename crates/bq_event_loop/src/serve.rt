@@ -69,8 +69,8 @@ pub fn serve<
     requires woken { core.old.woken ≡ none_waits (length core.old.mails.items) }
     ensures done { result ≡ true → AreDone row.new.seats.items }
     ensures over { result ≡ true → control.new.stage ≡ stages.Over }
-    ensures served { LoopWent K.QueueCore C.Clock L.Line D.Door I.ControlInput core.old row.old control.old
-        core.new row.new control.new }
+    ensures serving { IsServing K.QueueCore C.Clock L.Line D.Door I.ControlInput
+        (began_with I.ControlInput began.now) core.new row.new control.new }
 {
     let mut doors = Doors::new();
     let stands = control.stands();

@@ -1,5 +1,5 @@
 //! The system, as a loop sees it: what it reports, and the one call that may wait.
-ghost use Rattle.std.specs.Prelude.{◌≡◌, ℕ, [], Bool, true, false, None, Some, IsNone};
+ghost use Rattle.std.specs.Prelude.{◌≡◌, ℕ, [], Bool, true, false, None, Some};
 ghost use Rattle.bq_event_loop.specs.Accepting.{may_come, rests};
 ghost use Rattle.bq_event_loop.specs.Known.{AreStill};
 ghost use Rattle.bq_event_loop.specs.Sleeping.{HasWork, IsNoLonger, MayWait, stands_of};

@@ -1,5 +1,5 @@
 //! The system as epoll (`mio`) reports it.
-ghost use Rattle.std.specs.Prelude.{◌≡◌, None, true, IfOk, IfSome};
+ghost use Rattle.std.specs.Prelude.{◌≡◌, None, IfOk, IfSome};
 ghost use Rattle.bq_event_loop.specs.Waits.{timeout_of};
 ghost use Rattle.bq_event_loop.specs.Reports.{IsReportOf};
 ghost use Rattle.bq_event_loop.specs.Sleeping.{is_awaited};

@@ -19,8 +19,8 @@ use Rattle.bq_host.specs.MailStates.{IsInOrder, IsSorted}
 use Rattle.bq_host.specs.Timed.{IsReady, PassesOver}
 use Rattle.bq_host.specs.WakeLists.{Wakes}
 use Rattle.bq_host.specs.declared.{hub.Hub.Hub, timed_core.TimedCore.TimedCore}
-use Rattle.bq_host.proofs.WakeLemmas.{wakes_none, wakes_same, wakes_then}
-use Rattle.bq_host.proofs.{MailLemmas.{seat_takes_pending}, TimedWentLemmas.{by_then}, WentLemmas.{gave_none, seat_none, seat_sorted}}
+use Rattle.bq_host.proofs.WakeLemmas.{wakes_none, wakes_then}
+use Rattle.bq_host.proofs.{MailLemmas.seat_takes_pending, TimedWentLemmas.by_then, WentLemmas.{gave_none, seat_none, seat_sorted}}
 
 module _ {C K : Type 0} (machine : K → Machine) (compared : K → ℕ) where
   -- A hub is in order if its core is ready and its marks about answers are right.
@@ -144,10 +144,9 @@ module _ {C K : Type 0} (machine : K → Machine) (compared : K → ℕ) where
     takes_on seat first next last place after false still takes =
         (takes.0, went_then seat seat first next last [] [] [] [] refl still takes.1)
 
-    -- Each seat that got mail is to be woken, whether the link was used or not.
-    pub wakes_called : (seat : ℕ) (first last : Hub C K) (submitted : List Step) (taken : List Answer)
+    -- What a seat did, whether its link to the hub was used or not.
+    pub called : (seat : ℕ) (first last : Hub C K) (submitted : List Step) (taken : List Answer)
         → Calls (WentAt machine compared given seat) first submitted taken last
-        → Wakes first.mails.items last.mails.items first.woken last.woken
-    wakes_called seat first last submitted taken (inl went) = went.1
-    wakes_called seat first last submitted taken (inr none) =
-        wakes_same first.mails.items last.mails.items first.woken last.woken (ap (λ z. z.mails.items) none.0) (ap (λ z. z.woken) none.0)
+        → WentAt machine compared given seat first submitted taken last
+    called seat first last submitted taken (inl went) = went
+    called seat first last submitted taken (inr none) = rw (none.0, none.1, none.2) (went_none seat first)

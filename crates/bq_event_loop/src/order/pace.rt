@@ -1,7 +1,7 @@
 //! The time that the steps of a round take, as the core's clock shows it. The core reads its clock
 //! when it takes a step, and it is not read for this, so the time of a step becomes known with the
 //! next one.
-ghost use Rattle.std.specs.Prelude.{◌≡◌, ◌<◌, ◌≤◌, ◌-◌, ℕ, Bool, false, None, Some, ◌||◌, not, nat_lt};
+ghost use Rattle.std.specs.Prelude.{◌≡◌, ◌<◌, ◌≤◌, ◌-◌, ℕ, false, None, Some, ◌||◌, not, nat_lt};
 ghost use Rattle.bq_event_loop.specs.Visits.{holds_up};
 
 use super::visits::Part;

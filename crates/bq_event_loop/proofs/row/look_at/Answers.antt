@@ -1,5 +1,4 @@
-use Rattle.std.proofs.Common.{subst}
-use Rattle.bq_line.specs.Tending.{IsPlaced, door_seen}
+use Rattle.bq_line.specs.Tending.{door_seen}
 use Rattle.bq_line.proofs.TendingLemmas.{tends_still}
 use Rattle.bq_event_loop.proofs.row.look_at.Goals as goal
 

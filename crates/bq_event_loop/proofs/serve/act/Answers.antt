@@ -1,6 +1,6 @@
 use Rattle.std.proofs.Common.{◌<◌, refl, subst, sym}
 use Rattle.bq_event_loop.proofs.KnownLemmas.{changed_one}
-use Rattle.bq_host.proofs.HubLemmas.{wakes_called}
+use Rattle.bq_host.proofs.HubLemmas.{called}
 use Rattle.bq_event_loop.proofs.RowLemmas.{placed_there, tended_set}
 use Rattle.bq_event_loop.proofs.ServingLemmas.{serves_acted}
 use Rattle.bq_event_loop.proofs.serve.act.Goals as goal
@@ -31,6 +31,6 @@ returns g c =
             ready.1 ready.0.1.doored seat_is door_is goes c.attend.ensures.same refl refl,
       );
       only = changed_one row.seats.items c.args.seat c.attend.new.attendant;
-      wakes = wakes_called g.K.QueueCore.machine g.K.QueueCore.comparisons g.C.Clock.given c.args.seat c.args.core.now c.attend.new.hub
-          goes.0 goes.1 goes.2;
+      wakes = (called g.K.QueueCore.machine g.K.QueueCore.comparisons g.C.Clock.given c.args.seat c.args.core.now c.attend.new.hub goes.0
+          goes.1 goes.2).1;
     }

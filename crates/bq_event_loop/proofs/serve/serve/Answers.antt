@@ -1,19 +1,18 @@
-use Rattle.std.proofs.Common.{◌≤◌, ◌∙◌, [], ap, arith, inl, length, refl, subst, sym}
+use Rattle.std.proofs.Common.{◌≤◌, ◌∙◌, ap, arith, inl, length, refl, subst, sym}
 use Rattle.bq_event_loop.specs.Sleeping.{IsWaitFor, stands_of}
 use Rattle.bq_host.specs.WakeLists.{none_waits}
 use Rattle.bq_event_loop.proofs.KnownLemmas.{known_after}
-use Rattle.bq_event_loop.proofs.SleepingLemmas.{wait_woken}
 use Rattle.bq_host.proofs.HubLemmas.{order_woken}
 use Rattle.bq_event_loop.proofs.RowLemmas.{rested_none}
 use Rattle.bq_event_loop.proofs.SoFarLemmas.{serving_on, serving_so_far}
-use Rattle.bq_event_loop.proofs.ServingLemmas.{loop_none, loop_rested, loop_then}
-use Rattle.bq_event_loop.proofs.WaitingLemmas.{listed_on}
+use Rattle.bq_event_loop.proofs.ServingLemmas.{loop_rested, loop_then}
+use Rattle.bq_event_loop.proofs.WaitingLemmas.{listed_on, wait_woken}
 use Rattle.bq_event_loop.proofs.serve.serve.Goals as goal
 
 pub loop-init : goal.loop-init
 loop-init g c = record {
   ready = c.requires.ready;
-  served = loop_none;
+  serving = c.requires.serving;
   known = c.requires.known;
   woken = c.requires.woken;
   due = inl refl;
@@ -25,8 +24,8 @@ loop-init g c = record {
 pub take_turn-requires : goal.take_turn-requires
 take_turn-requires g c = record { ready = c.loop.invariant.ready }
 
-pub returns-then-take_turn-clause-served : goal.returns-then-take_turn-clause-served
-returns-then-take_turn-clause-served g c = loop_then c.loop.invariant.served c.take_turn.ensures.served
+pub returns-then-take_turn-clause-serving : goal.returns-then-take_turn-clause-serving
+returns-then-take_turn-clause-serving g c = serving_on c.loop.invariant.serving c.take_turn.ensures.served
 
 pub loop-preserved : goal.loop-preserved
 loop-preserved g c =
@@ -44,13 +43,12 @@ loop-preserved g c =
         ap (λ z. length z.mails.items) same ∙ turned.mailed ∙ i.ready.2 ∙ sym turned.many ∙ sym rests.many,
         subst (λ n. n ≤ 65535) (sym (rests.many ∙ turned.many)) i.ready.3,
       );
-      served = loop_then i.served (loop_then t.served (loop_rested same rests));
+      serving = serving_on i.serving (loop_then t.served (loop_rested same rests));
       known = c.end_turn.ensures.known;
       woken = c.wake_all.ensures.none ∙ ap none_waits (t.wakes.seats ∙ ap (λ w. w.seats) i.woken ∙ sym turned.mailed
           ∙ sym (ap (λ z. length z.mails.items) same));
       due = subst (λ d. IsWaitFor g.K.QueueCore d woken) (sym c.end_turn.ensures.due)
-          (subst (λ z. IsWaitFor g.K.QueueCore c.take_turn.new.news.due z) (sym same)
-          (wait_woken g.K.QueueCore c.take_turn.new.news.due c.take_turn.new.core woken.woken (t.due c.if-take_turn.false i.due)));
+          (wait_woken g.K.QueueCore c.take_turn.new.news.due c.take_turn.new.core woken same (t.due c.if-take_turn.false i.due));
       free = c.end_turn.ensures.free;
       still = c.end_turn.ensures.still;
       stands = c.end_turn.ensures.control ∙ t.stands i.stands;
@@ -66,9 +64,8 @@ end_turn-requires g c =
         mails_are = sym (ap (λ z. z.mails.items) now.whole_core);
         woken = ap (λ z. z.woken.waiting) now.whole_core ∙ ap (λ w. w.waiting) c.wake_all.ensures.none;
         in_time = subst (λ z. IsWaitFor g.K.QueueCore c.take_turn.new.news.due z) (sym now.whole_core)
-            (subst (λ z. IsWaitFor g.K.QueueCore c.take_turn.new.news.due z) (sym c.wake_all.ensures.rest)
-            (wait_woken g.K.QueueCore c.take_turn.new.news.due c.take_turn.new.core c.wake_all.new.core.woken
-            (c.take_turn.ensures.due c.if-take_turn.false c.loop.invariant.due)));
+            (wait_woken g.K.QueueCore c.take_turn.new.news.due c.take_turn.new.core c.wake_all.new.core c.wake_all.ensures.rest
+            (c.take_turn.ensures.due c.if-take_turn.false c.loop.invariant.due));
         stands = c.take_turn.ensures.stands c.loop.invariant.stands ∙ sym (ap (λ z. stands_of z.owes_drain z.stage) now.whole_control);
       };
       acts = listed_on (g.T.Turns.listed c.next-turn.new.self) (g.T.Turns.listed c.wake_all.new.turns) c.next-turn.result
@@ -101,7 +98,7 @@ next-turn-requires-clause-still g c = rw (c.so_far.ensures.seats, c.so_far.ensur
 pub next-turn-requires-clause-so_far : goal.next-turn-requires-clause-so_far
 next-turn-requires-clause-so_far g c =
     let now = c.so_far.ensures in
-    rw (now.seats, now.doors, now.clock, now.control, now.core) (serving_so_far (serving_on c.requires.serving c.loop.invariant.served))
+    rw (now.seats, now.doors, now.clock, now.control, now.core) (serving_so_far c.loop.invariant.serving)
 
 pub next-turn-requires-clause-turn : goal.next-turn-requires-clause-turn
 next-turn-requires-clause-turn g c =

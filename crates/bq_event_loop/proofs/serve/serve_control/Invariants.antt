@@ -1,4 +1,3 @@
-use Rattle.std.proofs.Common.{◌≡◌, length}
 use Rattle.bq_event_loop.specs.Serving.{ControlWent}
 use Rattle.bq_event_loop.proofs.serve.serve_control.Given as goal
 

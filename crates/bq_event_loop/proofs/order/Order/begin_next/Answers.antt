@@ -1,6 +1,6 @@
-use Rattle.std.proofs.Common.{None, Option, Some, sym, subst, ℕ}
+use Rattle.std.proofs.Common.{None, Some, sym, subst}
 use Rattle.bq_event_loop.proofs.KnownLemmas.{known_next, known_same}
-use Rattle.bq_event_loop.specs.Known.{AreKnownTo, IsNextOf}
+use Rattle.bq_event_loop.specs.Known.{AreKnownTo}
 use Rattle.bq_event_loop.proofs.order.Order.begin_next.Goals as goal
 
 pub returns-in_default-clause-known : goal.returns-in_default-clause-known

@@ -1,11 +1,7 @@
-use Rattle.std.proofs.Common.{None, sym, subst}
-use Rattle.bq_event_loop.proofs.KnownLemmas.{known_enqueued, listed_self}
-use Rattle.bq_event_loop.specs.Known.{AreKnownTo}
+use Rattle.bq_event_loop.proofs.KnownLemmas.{known_enqueued}
 use Rattle.bq_event_loop.proofs.order.Order.end_visit.Goals as goal
 
 pub returns-in-PartDone-clause-known : goal.returns-in-PartDone-clause-known
 returns-in-PartDone-clause-known g c =
-    let seats = c.args.seats.now.value.items in
-    let mails = c.args.mails.now.value.items in
-    subst (λ l. AreKnownTo g.L.Line l None seats mails) (sym c.enqueue.ensures)
-    (known_enqueued g.L.Line seats mails c.args.self.now.queue c.args.seat c.requires.known)
+    known_enqueued g.L.Line c.args.seats.now.value.items c.args.mails.now.value.items c.args.self.now.queue c.enqueue.new.self c.args.seat
+    c.enqueue.ensures c.requires.known

@@ -1,14 +1,10 @@
-use Rattle.std.proofs.Common.{None, sym, subst}
 use Rattle.bq_event_loop.proofs.KnownLemmas.{known_enqueued, known_rests}
-use Rattle.bq_event_loop.specs.Known.{AreKnownTo}
 use Rattle.bq_event_loop.proofs.order.Order.let_rest.Goals as goal
 
 pub returns-then-not-is_this-clause-known : goal.returns-then-not-is_this-clause-known
 returns-then-not-is_this-clause-known g c =
-    let seats = c.args.seats.now.value.items in
-    let mails = c.args.mails.now.value.items in
-    subst (λ l. AreKnownTo g.L.Line l None seats mails) (sym c.enqueue.ensures)
-    (known_enqueued g.L.Line seats mails c.args.self.now.queue c.args.seat c.requires.known)
+    known_enqueued g.L.Line c.args.seats.now.value.items c.args.mails.now.value.items c.args.self.now.queue c.enqueue.new.self c.args.seat
+    c.enqueue.ensures c.requires.known
 
 pub returns-else-not-is_this-clause-known : goal.returns-else-not-is_this-clause-known
 returns-else-not-is_this-clause-known g c =

@@ -1,5 +1,5 @@
-use Rattle.std.proofs.Common.{None, ap}
-use Rattle.bq_event_loop.proofs.KnownLemmas.{all_checked, known_checks, known_same, listed_self}
+use Rattle.std.proofs.Common.{ap}
+use Rattle.bq_event_loop.proofs.KnownLemmas.{known_checks, listed_self}
 use Rattle.bq_event_loop.proofs.order.Order.look_at_next.Goals as goal
 
 pub begin_visits-requires : goal.begin_visits-requires
