@@ -31,7 +31,7 @@ fn at_most_rest(left: Duration) -> u64
 
 /// What is known about connections that were not accepted yet. All doors share it, and one
 /// listener: a check that finds no client at one would hide those of another.
-#[derive(Drop)]
+#[derive(Clone, Copy)]
 pub struct Accepts {
     // True if a connection may have come since the last check that found none.
     may_have_come: bool,

@@ -58,12 +58,16 @@ impl<I: ControlInput> ControlTurns<I> {
     pub fn stands(&self) -> ControlStands
         ensures { result ≡ stands_of self.now.owes_drain self.now.stage }
     {
-        if self.is_over() {
-            ControlStands::Over
-        } else if self.owed().is_some() {
-            ControlStands::Owes
-        } else {
-            ControlStands::Reads
+        match self.stage {
+            Stage::Over => ControlStands::Over,
+            Stage::Ended => ControlStands::Owes,
+            Stage::Reads => {
+                if self.owes_drain {
+                    ControlStands::Owes
+                } else {
+                    ControlStands::Reads
+                }
+            }
         }
     }
 

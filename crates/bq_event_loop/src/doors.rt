@@ -16,7 +16,7 @@ use std::rt;
 const TURNED_AWAY: u32 = 64;
 
 /// What a loop knows of connections that were not accepted yet.
-#[derive(Drop)]
+#[derive(Clone, Copy)]
 pub struct Doors {
     accepts: Accepts,
     // Whether more connections may wait to be closed, since all seats are taken.

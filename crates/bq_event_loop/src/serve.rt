@@ -89,7 +89,6 @@ pub fn serve<
     for _ in 0..u64::MAX {
         let turn = turns.next(&news, began, so_far(row, control, core));
         if take_turn(turn, row, control, core, buffers, buffer, &mut news) {
-            drop(doors);
             return true;
         }
         news.elapsed = core.timed.time.clock.elapsed();
@@ -108,7 +107,6 @@ pub fn serve<
         );
         drop(now);
     }
-    drop(doors);
     false
 }
 
@@ -462,8 +460,10 @@ fn submit_one<C: Clock + Drop, I: ControlInput, K: QueueCore + Drop>(
     // The number of the control line comes after those of the seats.
     let seat = core.mails.len() as Seat;
     if !core.submit(seat, &step) {
+        drop(step);
         return false;
     }
+    drop(step);
     control.note_submitted();
     true
 }
