@@ -24,11 +24,14 @@ use Rattle.bq_line.proofs.CountedLemmas.{counted_on}
 use Rattle.bq_line.proofs.TendingLemmas.{tends_still}
 use Rattle.bq_event_loop.specs.ControlTold.{TellsOn}
 use Rattle.bq_event_loop.specs.Meanings.{Clock, Control, Core, Door, Line, at, state}
-use Rattle.bq_event_loop.specs.Rows.{AllRested}
-use Rattle.bq_event_loop.specs.Serving.{AreReadyFor, AreServed, AreServedFrom, ControlWent, LoopWent, ServesOn, TurnServes}
+use Rattle.bq_event_loop.specs.Known.{ChangesOnly}
+use Rattle.bq_event_loop.specs.Rows.{AllRested, AreTended, KeepsRow}
+use Rattle.bq_event_loop.specs.Serving.{AreReadyFor, AreServed, AreServedFrom, ControlWent, LoopWent, SeatActed, ServesOn}
 use Rattle.bq_event_loop.specs.declared.control_turns.ControlTurns.{ControlTurns}
 use Rattle.bq_event_loop.specs.declared.row.Row.{Row}
 use Rattle.bq_event_loop.proofs.ControlLemmas.{tells_none, tells_then}
+use Rattle.bq_host.proofs.WakeLemmas.{wakes_none, wakes_then}
+use Rattle.bq_event_loop.proofs.KnownLemmas.{changed_none, changed_then}
 use Rattle.bq_event_loop.proofs.RowLemmas.{rested_none, same_set, set_each}
 
 -- A seat for which no answer waited at first has taken at most one `Closed` for each close.
@@ -171,12 +174,50 @@ module _ {C K L D : Type 0} {k : Core K} {c : Clock C} {l : Line L} {d : Door D 
     same_doors = λ handed_in h. b.same_doors handed_in (a.same_doors handed_in h);
   }
 
-  -- After a turn the core and its seats are ready for another one of the same seat.
-  pub still_ready : {seat : ℕ} {old new : Hub C K} {row later : Row L D} → TurnServes k c l d old row new later
+  -- No seat did anything.
+  pub acted_none : {seat : ℕ} {core : Hub C K} {row : Row L D} → IsInOrder (state k core) → AreTended l d row
+      → SeatActed k c l d seat core row core row
+  acted_none {seat} {core} {row} order tended = record {
+    order = order;
+    tended = tended;
+    serves = serves_none;
+    only = changed_none row.seats.items seat;
+    wakes = wakes_none core.mails.items core.woken;
+  }
+
+  -- A seat rested.
+  pub acted_rested : {seat : ℕ} {core : Hub C K} {row later : Row L D} → IsInOrder (state k core) → KeepsRow l d row later
+      → ChangesOnly seat row.seats.items later.seats.items → SeatActed k c l d seat core row core later
+  acted_rested {seat} {core} {row} order keeps only = record {
+    order = order;
+    tended = keeps.0;
+    serves = serves_rested (keeps.1 row (rested_none l d row.seats.items row.doors.items));
+    only = only;
+    wakes = wakes_none core.mails.items core.woken;
+  }
+
+  -- A seat did one thing after another.
+  pub acted_then : {seat : ℕ} {old core new : Hub C K} {row mid later : Row L D} → SeatActed k c l d seat old row core mid
+      → SeatActed k c l d seat core mid new later → SeatActed k c l d seat old row new later
+  acted_then {seat} {old} {core} {new} {row} {mid} {later} a b = record {
+    order = b.order;
+    tended = b.tended;
+    serves = serves_then a.serves b.serves;
+    only = changed_then seat row.seats.items mid.seats.items later.seats.items a.only b.only;
+    wakes = wakes_then old.mails.items core.mails.items new.mails.items old.woken core.woken new.woken a.wakes b.wakes;
+  }
+
+  -- After a seat acted, the core and its seats are ready for the same seat.
+  pub still_ready : {seat : ℕ} {old new : Hub C K} {row later : Row L D} → SeatActed k c l d seat old row new later
       → AreReadyFor k l d seat old row → AreReadyFor k l d seat new later
-  still_ready {seat} s r = (
-    (s.0, s.1, s.2.mailed ∙ r.0.2 ∙ sym s.2.many, subst (λ n. n ≤ 65535) (sym s.2.many) r.0.3),
-    subst (λ n. seat < n) (sym s.2.many) r.1,
+  still_ready {seat} a r = (
+    (
+      a.order,
+      a.tended,
+      a.serves.mailed ∙ r.0.2 ∙ sym a.serves.many,
+      subst (λ n. n ≤ 65535) (sym a.serves.many) r.0.3,
+    ),
+    subst (λ n. seat < n) (sym a.serves.many) r.1,
   )
 
   -- The control line submitted steps.

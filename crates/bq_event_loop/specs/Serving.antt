@@ -10,7 +10,9 @@ use Rattle.bq_line.specs.Tending.{AreSame, IsTended, ended_lines}
 use Rattle.bq_line.specs.declared.attendant.Attendant.{Attendant}
 use Rattle.bq_host.specs.Hubs.{WentAt}
 use Rattle.bq_host.specs.MailStates.{IsInOrder, IsNewMailState, MailState, waiting}
+use Rattle.bq_host.specs.WakeLists.{Wakes}
 use Rattle.bq_event_loop.specs.ControlTold.{HasTold, TellsOn}
+use Rattle.bq_event_loop.specs.Known.{ChangesOnly}
 use Rattle.bq_event_loop.specs.Meanings.{Clock, Control, Core, Door, Line, at, state}
 use Rattle.bq_event_loop.specs.declared.control_turns.ControlTurns.{ControlTurns}
 use Rattle.bq_host.specs.Went.{CoreWent}
@@ -85,9 +87,14 @@ AreReady k l d core row =
 abbrev pub AreReadyFor : {C K L D : Type 0} → Core K → Line L → Door D L → ℕ → Hub C K → Row L D → Type 0
 AreReadyFor k l d seat core row = AreReady k l d core row × (seat < length row.seats.items)
 
--- A turn of a seat left the core and its seats in order, and the service went on.
-abbrev pub TurnServes : {C K L D : Type 0} → Core K → Clock C → Line L → Door D L → Hub C K → Row L D → Hub C K → Row L D → Type 0
-TurnServes k c l d old row new later = IsInOrder (state k new) × AreTended l d later × ServesOn k c l d old row [] new later
+-- At most this seat acted. It left the core and the seats in order, and the service went on. Each seat that got mail is to be woken.
+pub record SeatActed {C K L D : Type 0} (k : Core K) (c : Clock C) (l : Line L) (d : Door D L) (seat : ℕ) (old : Hub C K) (row : Row L D)
+    (new : Hub C K) (later : Row L D) : Type 0 where
+  pub order : IsInOrder (state k new)
+  pub tended : AreTended l d later
+  pub serves : ServesOn k c l d old row [] new later
+  pub only : ChangesOnly seat row.seats.items later.seats.items
+  pub wakes : Wakes old.mails.items new.mails.items old.woken new.woken
 
 -- What was served since the run began so, with a new core.
 pub record IsServing {L D C I K : Type 0} (k : Core K) (c : Clock C) (l : Line L) (d : Door D L) (i : Control I) (begun : Beginning D C)

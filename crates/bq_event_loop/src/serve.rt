@@ -6,7 +6,7 @@ ghost use Rattle.bq_event_loop.specs.KnownTurns.{AreKnownBy};
 ghost use Rattle.bq_event_loop.specs.Meanings.{state};
 ghost use Rattle.bq_host.specs.Hubs.{WentInOrder};
 ghost use Rattle.bq_event_loop.specs.Rows.{AreDone, AreTended, KeepsRow};
-ghost use Rattle.bq_event_loop.specs.Serving.{AreReady, AreReadyFor, ControlWent, IsServing, LoopWent, TurnServes};
+ghost use Rattle.bq_event_loop.specs.Serving.{AreReady, AreReadyFor, ControlWent, IsServing, LoopWent, SeatActed};
 ghost use Rattle.bq_event_loop.specs.SoFar.{began_with};
 ghost use Rattle.bq_event_loop.specs.Sleeping.{IsWaitFor, stands_of};
 ghost use Rattle.bq_host.specs.WakeLists.{Wakes, none_waits};
@@ -241,9 +241,7 @@ fn serve_seat<L: Line + Drop, D: Door<Line = L>, C: Clock + Drop, K: QueueCore +
     extent: Extent,
 ) -> Progress
     requires ready { AreReady K.QueueCore L.Line D.Door core.old row.old }
-    ensures served { TurnServes K.QueueCore C.Clock L.Line D.Door core.old row.old core.new row.new }
-    ensures only { ChangesOnly seat row.old.seats.items row.new.seats.items }
-    ensures wakes { Wakes core.old.mails.items core.new.mails.items core.old.woken core.new.woken }
+    ensures acted { SeatActed K.QueueCore C.Clock L.Line D.Door seat core.old row.old core.new row.new }
     ensures between { (a : Attendant L) → (slice_index_or row.old.seats.items seat a).place ≡ places.Between
         → (seat < length row.old.seats.items) → (row.new ≡ row.old) × (core.new ≡ core.old) }
 {
@@ -295,9 +293,7 @@ fn act_with_buffer<L: Line + Drop, D: Door<Line = L>, C: Clock + Drop, K: QueueC
     extent: Extent,
 ) -> Progress
     requires ready { AreReadyFor K.QueueCore L.Line D.Door seat core.old row.old }
-    ensures served { TurnServes K.QueueCore C.Clock L.Line D.Door core.old row.old core.new row.new }
-    ensures only { ChangesOnly seat row.old.seats.items row.new.seats.items }
-    ensures wakes { Wakes core.old.mails.items core.new.mails.items core.old.woken core.new.woken }
+    ensures { SeatActed K.QueueCore C.Clock L.Line D.Door seat core.old row.old core.new row.new }
 {
     let lends = uses_buffer(row, seat);
     exchange_if(lends, row, seat, buffer);
@@ -344,9 +340,7 @@ fn act_to_extent<L: Line + Drop, D: Door<Line = L>, C: Clock + Drop, K: QueueCor
     extent: Extent,
 ) -> Progress
     requires ready { AreReadyFor K.QueueCore L.Line D.Door seat core.old row.old }
-    ensures served { TurnServes K.QueueCore C.Clock L.Line D.Door core.old row.old core.new row.new }
-    ensures only { ChangesOnly seat row.old.seats.items row.new.seats.items }
-    ensures wakes { Wakes core.old.mails.items core.new.mails.items core.old.woken core.new.woken }
+    ensures { SeatActed K.QueueCore C.Clock L.Line D.Door seat core.old row.old core.new row.new }
 {
     let mut progress = Progress::NothingToDo;
     for done in 0..MOST_ACTIONS {
@@ -387,9 +381,7 @@ fn act<L: Line + Drop, D: Door<Line = L>, C: Clock + Drop, K: QueueCore + Drop>(
     buffers: &mut Buffers,
 ) -> Progress
     requires ready { AreReadyFor K.QueueCore L.Line D.Door seat core.old row.old }
-    ensures served { TurnServes K.QueueCore C.Clock L.Line D.Door core.old row.old core.new row.new }
-    ensures only { ChangesOnly seat row.old.seats.items row.new.seats.items }
-    ensures wakes { Wakes core.old.mails.items core.new.mails.items core.old.woken core.new.woken }
+    ensures { SeatActed K.QueueCore C.Clock L.Line D.Door seat core.old row.old core.new row.new }
 {
     attend(
         &mut row.seats[seat],

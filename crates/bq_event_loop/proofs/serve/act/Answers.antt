@@ -23,13 +23,11 @@ returns g c =
     let seat_is = c.index_mut.ensures.value in
     let door_is = c.index_mut-2.ensures.value in
     record {
-      served = (
-        c.attend.ensures.order,
-        tended_set g.L.Line g.D.Door row.seats.items row.doors.items c.args.seat c.index_mut.result.now c.attend.new.attendant
-            c.index_mut-2.result.now c.attend.new.door goes.0 goes.1 ready.1 ready.0.1 seat_is door_is goes.3,
-        serves_acted c.args.seat c.index_mut.result.now c.attend.new.attendant c.index_mut-2.result.now c.attend.new.door
-            ready.1 ready.0.1.doored seat_is door_is goes c.attend.ensures.same refl refl,
-      );
+      order = c.attend.ensures.order;
+      tended = tended_set g.L.Line g.D.Door row.seats.items row.doors.items c.args.seat c.index_mut.result.now c.attend.new.attendant
+          c.index_mut-2.result.now c.attend.new.door goes.0 goes.1 ready.1 ready.0.1 seat_is door_is goes.3;
+      serves = serves_acted c.args.seat c.index_mut.result.now c.attend.new.attendant c.index_mut-2.result.now c.attend.new.door
+          ready.1 ready.0.1.doored seat_is door_is goes c.attend.ensures.same refl refl;
       only = changed_one row.seats.items c.args.seat c.attend.new.attendant;
       wakes = (called g.K.QueueCore.machine g.K.QueueCore.comparisons g.C.Clock.given c.args.seat c.args.core.now c.attend.new.hub goes.0
           goes.1 goes.2).1;

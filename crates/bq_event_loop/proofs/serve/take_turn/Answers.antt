@@ -9,7 +9,7 @@ pub returns-then-is_over-clause-served : goal.returns-then-is_over-clause-served
 returns-then-is_over-clause-served g c = loop_none
 
 pub returns-in-Serve-clause-served : goal.returns-in-Serve-clause-served
-returns-in-Serve-clause-served g c = loop_serves c.serve_seat-news.ensures.served.2
+returns-in-Serve-clause-served g c = loop_serves c.serve_seat-news.ensures.acted.serves
 
 pub serve_control-requires : goal.serve_control-requires
 serve_control-requires g c =
@@ -31,10 +31,10 @@ pub returns-in-Control-clause-order : goal.returns-in-Control-clause-order
 returns-in-Control-clause-order g c = c.serve_control.ensures.order
 
 pub returns-in-Serve-clause-order : goal.returns-in-Serve-clause-order
-returns-in-Serve-clause-order g c = c.serve_seat-news.ensures.served.0
+returns-in-Serve-clause-order g c = c.serve_seat-news.ensures.acted.order
 
 pub returns-in-Serve-clause-tended : goal.returns-in-Serve-clause-tended
-returns-in-Serve-clause-tended g c = c.serve_seat-news.ensures.served.1
+returns-in-Serve-clause-tended g c = c.serve_seat-news.ensures.acted.tended
 
 pub returns-else-is_over-clause-order : goal.returns-else-is_over-clause-order
 returns-else-is_over-clause-order g c = c.pass_time-news.ensures.went.0
