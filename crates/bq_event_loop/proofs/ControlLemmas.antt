@@ -12,7 +12,7 @@ use Rattle.bq_line.specs.ControlSeen.{after_heard}
 use Rattle.bq_line.specs.declared.control_line.Heard.TheVariants as hears
 use Rattle.bq_line.proofs.ControlLemmas.{ends_read, fails_read}
 use Rattle.bq_event_loop.specs.Meanings.{Control}
-use Rattle.bq_event_loop.specs.ControlTold.{HasTold, IsAtStage, IsRead, IsReading, TellsOn, owed_by}
+use Rattle.bq_event_loop.specs.ControlTold.{HasTold, IsRead, IsReading, TellsOn, owed_by}
 use Rattle.bq_event_loop.specs.declared.control_turns.ControlTurns.{ControlTurns}
 use Rattle.bq_event_loop.specs.declared.control_turns.Stage.{Stage}
 use Rattle.bq_event_loop.specs.declared.control_turns.Stage.TheVariants as stages
@@ -153,8 +153,7 @@ pub record IsToldSo {I : Type 0} (i : Control I) (first : Option (List ℕ)) (ma
 pub told_all : {I : Type 0} {i : Control I} {first : Option (List ℕ)} {may : Bool} {c : ControlTurns I} {told : List Step}
     → c.stage ≡ stages.Over → HasTold i first may c told → IsToldSo i first may c told
 told_all {I} {i} {first} {may} {c} {told} over h =
-    let at = subst (λ (s : Stage). IsAtStage s first (i.remaining c.input) may (i.seen c.input) c.line
-    (one_if c.owes_drain) h.count told) over h.at_stage in
+    let at = rw over at h.at_stage in
     let r = at.2 in
     record {
       over = r.over;

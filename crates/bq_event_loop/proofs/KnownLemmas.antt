@@ -4,6 +4,7 @@ use Rattle.std.proofs.Common.{List, [], ◌∷◌, ◌++◌, length, slice_set, 
 use Rattle.std.proofs.Common.{◌∙◌, subst, arith}
 use Rattle.std.specs.Option.{option_to_list}
 use Rattle.std.specs.Prelude.{slice_get}
+use Rattle.std.proofs.Math.Bool.{or-false}
 use Rattle.std.proofs.lemmas.Bool.{eq-eqb, eqb-true, lt-ltb}
 use Rattle.std.proofs.lemmas.Bool.Decides.{eqb_tells, nat_tests}
 use Rattle.std.proofs.lemmas.List.{get_or-set_other, get_or-set_same, length-set}
@@ -17,7 +18,7 @@ use Rattle.std.specs.List.{All}
 use Rattle.bq_line.specs.declared.attendant.LinePlace.TheVariants as places
 use Rattle.bq_seat.specs.declared.machine.Action.{Action}
 use Rattle.bq_seat.specs.declared.machine.Action.TheVariants as actions
-use Rattle.bq_host.proofs.MarkLemmas.{one_if, same_one, times_push}
+use Rattle.bq_host.proofs.MarkLemmas.{one_if, times_push}
 use Rattle.bq_event_loop.specs.Known.{AreApart, AreIdle, AreKnown, AreKnownTo, AreSameLists, ChangesOnly, ChangesOnlyIn, IsKnown}
 use Rattle.bq_event_loop.specs.Known.{IsListedIn, IsNextOf, IsTaken, KnowsAll, is_listed, is_looking, is_on, is_visited}
 use Rattle.bq_event_loop.specs.Meanings.{Line}
@@ -75,42 +76,15 @@ left_only : (b : Bool) → (b || false) ≡ true → b ≡ true
 left_only true e = refl
 left_only false e = absurd cc
 
--- A list with one seat more.
+-- A list with one seat more, the first or the last.
+one_more : (n m : ℕ) (e : Bool) → m ≡ n + one_if e → not (m == 0) ≡ (not (n == 0) || e)
+one_more n m e is = grind (arith, nat_tests)
+
 on_cons : (i : ℕ) (xs : List ℕ) (t : ℕ) → is_on (i ∷ xs) t ≡ (is_on xs t || (i == t))
-on_cons i xs t = same (times t xs) (times t (i ∷ xs)) (i == t) (sum_by-cons (λ x. one_if (x == t)) i xs) where
-  same : (n m : ℕ) (e : Bool) → m ≡ one_if e + n → not (m == 0) ≡ (not (n == 0) || e)
-  same n m e more = grind (arith, nat_tests)
+on_cons i xs t = one_more (times t xs) (times t (i ∷ xs)) (i == t) (omega (arith, sum_by-cons (λ x. one_if (x == t)) i xs))
 
--- a list with one more seat at its end, or without
-abbrev put : Bool → ℕ → List ℕ → List ℕ
-put b i xs = if b then xs ++ i ∷ [] else xs
-
-enqueued_is : (b : Bool) (i : ℕ) (l : Listing)
-    → (if b then record l { queue = l.queue ++ i ∷ [] } else l) ≡ record l { queue = put b i l.queue }
-enqueued_is true i l = refl
-enqueued_is false i l = refl
-
-freed_is : (b : Bool) (i : ℕ) (l : Listing)
-    → (if b then record l { free = l.free ++ i ∷ [] } else l) ≡ record l { free = put b i l.free }
-freed_is true i l = refl
-freed_is false i l = refl
-
-put_keeps : (b : Bool) (i : ℕ) (xs : List ℕ) (t : ℕ) → is_on xs t ≡ true → is_on (put b i xs) t ≡ true
-put_keeps true i xs t on = some_on (xs ++ i ∷ []) t (omega (arith, times_push t xs i, on_some xs t on))
-put_keeps false i xs t on = on
-
-put_only : (b : Bool) (i : ℕ) (xs : List ℕ) (t : ℕ) → is_on (put b i xs) t ≡ true → (is_on xs t ≡ true) ⊎ ((b ≡ true) × (i ≡ t))
-put_only true i xs t on = by (eqb_tells i t) where
-  by : ((i == t) ≡ true) × (i ≡ t) ⊎ ((i == t) ≡ false) × (i ≢ t) → (is_on xs t ≡ true) ⊎ ((true ≡ true) × (i ≡ t))
-  by (inl (_, same)) = inr (refl, same)
-  by (inr (test, _)) =
-      let none : one_if (i == t) ≡ 0 = ap one_if test in
-      inl (some_on xs t (omega (arith, times_push t xs i, on_some (xs ++ i ∷ []) t on, none)))
-put_only false i xs t on = inl on
-
-put_there : (b : Bool) (i : ℕ) (xs : List ℕ) → (b ≡ false → 0 < times i xs) → is_on (put b i xs) i ≡ true
-put_there true i xs there = some_on (xs ++ i ∷ []) i (omega (arith, times_push i xs i, same_one i))
-put_there false i xs there = some_on xs i (there refl)
+on_push : (i : ℕ) (xs : List ℕ) (t : ℕ) → is_on (xs ++ i ∷ []) t ≡ (is_on xs t || (i == t))
+on_push i xs t = one_more (times t xs) (times t (xs ++ i ∷ [])) (i == t) (times_push t xs i)
 
 nowhere_none : (i : ℕ) (l : Listing) → is_nowhere i l ≡ true → times i l.queue + times i l.free ≡ 0
 nowhere_none i l is = none (nat_lt i l.seats) (times i l.queue + times i l.free) is where
@@ -170,36 +144,17 @@ known_as {L} line many later_many listed looks later later_looks seats mails sam
     at t below a (inr (inr (inr still))) = inr (inr (inr still))
 
 module _ {L : Type 0} (line : Line L) (seats : List (Attendant L)) (mails : List (List Answer)) where
-  -- The first seat of the queue is visited.
-  pub known_taken : (l later : Listing) (i : ℕ) → later.seats ≡ l.seats → l.queue ≡ i ∷ later.queue → later.free ≡ l.free
-      → AreKnownTo line l None seats mails → AreKnownTo line later (Some i) seats mails
-  known_taken l later i same_seats first free k =
-      known_as line l.seats later.seats (is_listed l None) (is_looking l) (is_listed later (Some i)) (is_looking later) seats
-      mails same_seats
-      (λ t looks on. k.apart t (subst (λ f. is_on f t ≡ true) free looks)
-      (or_left (is_on l.queue t) false (subst (λ q. is_on q t ≡ true) (sym first) (on_cons i later.queue t ∙ on))))
-      (λ t looks. inl (subst (λ f. is_on f t ≡ true) free looks))
-      (λ t below on. inl (sym (on_cons i later.queue t) ∙ subst (λ q. is_on q t ≡ true) first (left_only (is_on l.queue t) on)))
-      (λ t below looks. inr (subst (λ f. is_on f t ≡ true) (sym free) looks))
+  -- The same seats are let act, and the same check for a client.
+  known_alike : (l later : Listing) (old new : Option ℕ) → later.seats ≡ l.seats
+      → ((t : ℕ) → is_listed later new t ≡ is_listed l old t) → ((t : ℕ) → is_looking later t ≡ is_looking l t)
+      → AreKnownTo line l old seats mails → AreKnownTo line later new seats mails
+  known_alike l later old new same acts checks k =
+      known_as line l.seats later.seats (is_listed l old) (is_looking l) (is_listed later new) (is_looking later) seats mails same
+      (λ t looks on. k.apart t (sym (checks t) ∙ looks) (sym (acts t) ∙ on))
+      (λ t looks. inl (sym (checks t) ∙ looks))
+      (λ t below on. inl (acts t ∙ on))
+      (λ t below looks. inr (checks t ∙ looks))
       k
-
-  -- A seat of the queue is visited, and stays in the queue.
-  pub known_at : (l later : Listing) (i : ℕ) → later.seats ≡ l.seats → is_on l.queue i ≡ true → later.queue ≡ l.queue
-      → later.free ≡ l.free
-      → AreKnownTo line l None seats mails → AreKnownTo line later (Some i) seats mails
-  known_at l later i same_seats there queue free k =
-      known_as line l.seats later.seats (is_listed l None) (is_looking l) (is_listed later (Some i)) (is_looking later) seats
-      mails same_seats
-      (λ t looks on. k.apart t (subst (λ f. is_on f t ≡ true) free looks) (or_left (is_on l.queue t) false (at t (either _ _ on))))
-      (λ t looks. inl (subst (λ f. is_on f t ≡ true) free looks))
-      (λ t below on. inl (or_left (is_on later.queue t) (i == t) (subst (λ q. is_on q t ≡ true) (sym queue) (left_only (is_on l.queue
-      t) on))))
-      (λ t below looks. inr (subst (λ f. is_on f t ≡ true) (sym free) looks))
-      k
-    where
-      at : (t : ℕ) → (is_on later.queue t ≡ true) ⊎ ((i == t) ≡ true) → is_on l.queue t ≡ true
-      at t (inl on) = subst (λ q. is_on q t ≡ true) queue on
-      at t (inr same) = subst (λ n. is_on l.queue n ≡ true) (eqb-true i t same) there
 
   -- A seat that checks for a client is taken out, as the one that is visited.
   pub known_checks : (l later : Listing) (i : ℕ) → later.seats ≡ l.seats → l.free ≡ later.free ++ i ∷ []
@@ -212,135 +167,117 @@ module _ {L : Type 0} (line : Line L) (seats : List (Attendant L)) (mails : List
       (λ t looks. inl (more t looks))
       (λ t below on. inl (or_left (is_on later.queue t) (i == t) (subst (λ q. is_on q t ≡ true) (sym queue) (left_only (is_on l.queue
       t) on))))
-      (λ t below looks. less t looks (eqb_tells i t))
+      (λ t below looks. less t looks)
       k
     where
+      free : (t : ℕ) → is_on l.free t ≡ (is_on later.free t || (i == t))
+      free t = ap (λ f. is_on f t) last ∙ on_push i later.free t
+
       more : (t : ℕ) → is_on later.free t ≡ true → is_on l.free t ≡ true
-      more t on = some_on l.free t (subst (λ f. 0 < times t f) (sym last) (omega (
-        arith,
-        times_push t later.free i,
-        on_some later.free
-            t on,
-      )))
+      more t on = free t ∙ or_left (is_on later.free t) (i == t) on
 
       apart : (t : ℕ) → is_on later.free t ≡ true → (is_on later.queue t ≡ true) ⊎ ((i == t) ≡ true) → ⊥
       apart t looks (inl on) = k.apart t (more t looks) (or_left (is_on l.queue t) false (subst (λ q. is_on q t ≡ true) queue on))
       apart t looks (inr same) = on_none later.free t (subst (λ n. times n later.free ≡ 0) (eqb-true i t same) gone) looks
 
-      less : (t : ℕ) → is_on l.free t ≡ true → ((i == t) ≡ true) × (i ≡ t) ⊎ ((i == t) ≡ false) × (i ≢ t)
-          → (is_listed later (Some i) t ≡ true) ⊎ (is_on later.free t ≡ true)
-      less t on (inl (test, _)) = inl (or_right (is_on later.queue t) (i == t) test)
-      less t on (inr (test, _)) =
-          let none : one_if (i == t) ≡ 0 = ap one_if test in
-          let there : 0 < times t (later.free ++ i ∷ []) = on_some (later.free ++ i ∷ []) t (subst (λ f. is_on f t ≡ true) last on) in
-          inr (some_on later.free t (omega (arith, times_push t later.free i, there, none)))
+      less : (t : ℕ) → is_on l.free t ≡ true → (is_listed later (Some i) t ≡ true) ⊎ (is_on later.free t ≡ true)
+      less t on = elim (either (is_on later.free t) (i == t) (sym (free t) ∙ on)) [
+        | inl looks ↦ inr looks
+        | inr same ↦ inl (or_right (is_on later.queue t) (i == t) same)
+      ]
 
-  -- The next seat is visited.
+  -- The next seat is visited. It was taken out of the queue, or it stays there.
   pub known_next : (l later : Listing) (i : ℕ) → IsTaken i l later
       → AreKnownTo line l None seats mails → AreKnownTo line later (Some i) seats mails
-  known_next l later i is k = elim is.queue [
-    | inl first ↦ known_taken l later i is.seats first is.free k
-    | inr stays ↦ known_at l later i is.seats stays.0 stays.1 is.free k
-  ]
+  known_next l later i is = known_alike l later None (Some i) is.seats (λ t. acts t is.queue) (λ t. ap (λ f. is_on f t) is.free) where
+    acts : (t : ℕ) → (l.queue ≡ i ∷ later.queue) ⊎ ((is_on l.queue i ≡ true) × (later.queue ≡ l.queue))
+        → (is_on later.queue t || (i == t)) ≡ (is_on l.queue t || false)
+    acts t (inl first) = sym (ap (λ q. is_on q t) first ∙ on_cons i later.queue t) ∙ sym (or-false (is_on l.queue t))
+    acts t (inr (there, same)) = ap (λ q. is_on q t || (i == t)) same ∙ elim (eqb_tells i t) [
+      | inl (test, is) ↦ or_right (is_on l.queue t) (i == t) test
+          ∙ sym (or_left (is_on l.queue t) false (subst (λ n. is_on l.queue n ≡ true) is there))
+      | inr (test, _) ↦ ap (λ b. is_on l.queue t || b) test
+    ]
 
   pub known_same : (l later : Listing) (visited : Option ℕ) → AreSameLists l later
       → AreKnownTo line l visited seats mails → AreKnownTo line later visited seats mails
-  known_same l later visited same k =
-      known_as line l.seats later.seats (is_listed l visited) (is_looking l) (is_listed later visited) (is_looking later) seats mails
-      same.seats
-      (λ t looks on. k.apart t (subst (λ f. is_on f t ≡ true) same.free looks)
-      (subst (λ q. (is_on q t || is_visited visited t) ≡ true) same.queue on))
-      (λ t looks. inl (subst (λ f. is_on f t ≡ true) same.free looks))
-      (λ t below on. inl (subst (λ q. (is_on q t || is_visited visited t) ≡ true) (sym same.queue) on))
-      (λ t below looks. inr (subst (λ f. is_on f t ≡ true) (sym same.free) looks))
-      k
+  known_same l later visited same =
+      known_alike l later visited visited same.seats (λ t. ap (λ q. is_on q t || is_visited visited t) same.queue)
+      (λ t. ap (λ f. is_on f t) same.free)
 
   -- Seats changed places in the queue.
   pub known_moved : (l later : Listing) → later.seats ≡ l.seats → later.free ≡ l.free
       → ((t : ℕ) → times t later.queue ≡ times t l.queue)
       → AreKnownTo line l None seats mails → AreKnownTo line later None seats mails
-  known_moved l later same free moved k =
-      known_as line l.seats later.seats (is_listed l None) (is_looking l) (is_listed later None) (is_looking later) seats mails
-      same
-      (λ t looks on. k.apart t (subst (λ f. is_on f t ≡ true) free looks)
-      (subst (λ n. (not (n == 0) || false) ≡ true) (moved t) on))
-      (λ t looks. inl (subst (λ f. is_on f t ≡ true) free looks))
-      (λ t below on. inl (subst (λ n. (not (n == 0) || false) ≡ true) (sym (moved t)) on))
-      (λ t below looks. inr (subst (λ f. is_on f t ≡ true) (sym free) looks))
+  known_moved l later same free moved =
+      known_alike l later None None same (λ t. ap (λ n. not (n == 0) || false) (moved t)) (λ t. ap (λ f. is_on f t) free)
+
+  -- If the visited seat is in a list already, it is in the queue.
+  known_queued : (l : Listing) (i : ℕ) → is_nowhere i l ≡ false → AreKnownTo line l (Some i) seats mails
+      → AreKnownTo line l None seats mails
+  known_queued l i kept k =
+      known_as line l.seats l.seats (is_listed l (Some i)) (is_looking l) (is_listed l None) (is_looking l) seats mails refl
+      (λ t looks on. k.apart t looks (or_left (is_on l.queue t) (i == t) (left_only _ on)))
+      (λ t looks. inl looks)
+      (λ t below on. inl (or_left (is_on l.queue t) false (after t below (either _ _ on))))
+      (λ t below looks. inr looks)
       k
+    where
+      after : (t : ℕ) → t < length seats → (is_on l.queue t ≡ true) ⊎ ((i == t) ≡ true) → is_on l.queue t ≡ true
+      after t below (inl on) = on
+      after t below (inr same) =
+          let is : i ≡ t = eqb-true i t same in
+          let none = free_none i l (λ looks. k.apart i looks (or_right (is_on l.queue i) (i == i) (eq-eqb i i refl))) in
+          subst (λ n. is_on l.queue n ≡ true) is
+          (some_on l.queue i (omega (arith, somewhere i l (omega (arith, below, k.all, is)) kept, none)))
 
   -- The visited seat goes to the queue.
   pub known_enqueued : (l later : Listing) (i : ℕ) → later ≡ enqueued i l
       → AreKnownTo line l (Some i) seats mails → AreKnownTo line later None seats mails
-  known_enqueued l later i is_later k =
-      subst (λ (z : Listing). AreKnownTo line z None seats mails) (sym (is_later ∙ enqueued_is lost i l))
-      (known_as line l.seats l.seats (is_listed l (Some i)) (is_looking l)
-      (is_listed (record l { queue = put lost i l.queue }) None) (is_looking l) seats mails refl
-      (λ t looks on. k.apart t looks (before t (put_only lost i l.queue t (left_only _ on))))
-      (λ t looks. inl looks)
-      (λ t below on. inl (or_left (is_on (put lost i l.queue) t) false (after t below (either _ _ on))))
-      (λ t below looks. inr looks)
-      k)
-    where
-      lost : Bool
-      lost = is_nowhere i l
-
-      before : (t : ℕ) → (is_on l.queue t ≡ true) ⊎ ((lost ≡ true) × (i ≡ t)) → is_listed l (Some i) t ≡ true
-      before t (inl on) = or_left (is_on l.queue t) (i == t) on
-      before t (inr (_, same)) = or_right (is_on l.queue t) (i == t) (eq-eqb i t same)
-
-      after : (t : ℕ) → t < length seats → (is_on l.queue t ≡ true) ⊎ ((i == t) ≡ true) → is_on (put lost i l.queue) t ≡ true
-      after t below (inl on) = put_keeps lost i l.queue t on
-      after t below (inr same) =
-          let is : i ≡ t = eqb-true i t same in
-          let none = free_none i l (λ looks. k.apart i looks (or_right (is_on l.queue i) (i == i) (eq-eqb i i refl))) in
-          subst (λ n. is_on (put lost i l.queue) n ≡ true) is
-          (put_there lost i l.queue (λ e. omega (arith, somewhere i l (omega (arith, below, k.all, is)) e, none)))
+  known_enqueued l later i is k = by (is_nowhere i l) refl is where
+    by : (b : Bool) → is_nowhere i l ≡ b → later ≡ (if b then record l { queue = l.queue ++ i ∷ [] } else l)
+        → AreKnownTo line later None seats mails
+    by true gone same =
+        subst (λ (z : Listing). AreKnownTo line z None seats mails) (sym same)
+        (known_alike l (record l { queue = l.queue ++ i ∷ [] }) (Some i) None refl
+        (λ t. or-false (is_on (l.queue ++ i ∷ []) t) ∙ on_push i l.queue t) (λ t. refl) k)
+    by false kept same = subst (λ (z : Listing). AreKnownTo line z None seats mails) (sym same) (known_queued l i kept k)
 
   -- The visited seat found no client, and is between two connections.
   pub known_freed : (l later : Listing) (i : ℕ) → later ≡ freed i l
       → ((a : Attendant L) → (slice_index_or seats i a).place ≡ places.Between)
       → AreKnownTo line l (Some i) seats mails → AreKnownTo line later None seats mails
-  known_freed l later i is_later between k =
-      subst (λ (z : Listing). AreKnownTo line z None seats mails) (sym (is_later ∙ freed_is lost i l))
-      (known_as line l.seats l.seats (is_listed l (Some i)) (is_looking l) (is_listed l None)
-      (is_looking (record l { free = put lost i l.free })) seats mails refl
-      (λ t looks on. apart t (left_only _ on) (put_only lost i l.free t looks))
-      (λ t looks. looked t (put_only lost i l.free t looks))
-      (λ t below on. after t below (either _ _ on))
-      (λ t below looks. inr (put_keeps lost i l.free t looks))
-      k)
-    where
-      lost : Bool
-      lost = is_nowhere i l
+  known_freed l later i is between k = by (is_nowhere i l) refl is where
+    apart : (t : ℕ) → is_nowhere i l ≡ true → is_on l.queue t ≡ true → (is_on l.free t ≡ true) ⊎ ((i == t) ≡ true) → ⊥
+    apart t gone on (inl looks) = k.apart t looks (or_left (is_on l.queue t) (i == t) on)
+    apart t gone on (inr same) =
+        let there = on_some l.queue i (subst (λ n. is_on l.queue n ≡ true) (sym (eqb-true i t same)) on) in
+        omega (arith, nowhere_none i l gone, there)
 
-      apart : (t : ℕ) → is_on l.queue t ≡ true → (is_on l.free t ≡ true) ⊎ ((lost ≡ true) × (i ≡ t)) → ⊥
-      apart t on (inl looks) = k.apart t looks (or_left (is_on l.queue t) (i == t) on)
-      apart t on (inr (nowhere, same)) =
-          let there : 0 < times i l.queue = subst (λ n. 0 < times n l.queue) (sym same) (on_some l.queue t on) in
-          omega (arith, nowhere_none i l nowhere, there)
+    looked : (t : ℕ) → (is_on l.free t ≡ true) ⊎ ((i == t) ≡ true)
+        → (is_looking l t ≡ true) ⊎ ((a : Attendant L) → (slice_index_or seats t a).place ≡ places.Between)
+    looked t (inl looks) = inl looks
+    looked t (inr same) =
+        inr (λ a. subst (λ n. (slice_index_or seats n a).place ≡ places.Between) (eqb-true i t same) (between a))
 
-      looked : (t : ℕ) → (is_on l.free t ≡ true) ⊎ ((lost ≡ true) × (i ≡ t))
-          → (is_looking l t ≡ true) ⊎ ((a : Attendant L) → (slice_index_or seats t a).place ≡ places.Between)
-      looked t (inl looks) = inl looks
-      looked t (inr (_, same)) = inr (λ a. subst (λ n. (slice_index_or seats n a).place ≡ places.Between) same (between a))
+    after : (t : ℕ) → (is_on l.queue t ≡ true) ⊎ ((i == t) ≡ true)
+        → (is_listed l None t ≡ true) ⊎ (is_on (l.free ++ i ∷ []) t ≡ true)
+        ⊎ ((a : Attendant L) → IsStill line (slice_index_or seats t a) (slice_index_or mails t []))
+    after t (inl on) = inl (or_left (is_on l.queue t) false on)
+    after t (inr same) = inr (inl (on_push i l.free t ∙ or_right (is_on l.free t) (i == t) same))
 
-      there : (t : ℕ) → i ≡ t → ((times i l.queue == 0) ≡ true) × (times i l.queue ≡ 0)
-          ⊎ ((times i l.queue == 0) ≡ false) × (times i l.queue ≢ 0) → (lost ≡ false → 0 < times i l.queue + times i l.free)
-          → (is_listed l None t ≡ true) ⊎ (is_on (put lost i l.free) t ≡ true)
-          ⊎ ((a : Attendant L) → IsStill line (slice_index_or seats t a) (slice_index_or mails t []))
-      there t is (inl (_, none)) some =
-          inr (inl (subst (λ n. is_on (put lost i l.free) n ≡ true) is (put_there lost i l.free (λ e. omega (arith, some e, none)))))
-      there t is (inr (_, differs)) some =
-          inl (or_left (is_on l.queue t) false (subst (λ n. is_on l.queue n ≡ true) is (some_on l.queue i (omega (arith, differs)))))
-
-      after : (t : ℕ) → t < length seats → (is_on l.queue t ≡ true) ⊎ ((i == t) ≡ true)
-          → (is_listed l None t ≡ true) ⊎ (is_on (put lost i l.free) t ≡ true)
-          ⊎ ((a : Attendant L) → IsStill line (slice_index_or seats t a) (slice_index_or mails t []))
-      after t below (inl on) = inl (or_left (is_on l.queue t) false on)
-      after t below (inr same) =
-          let is : i ≡ t = eqb-true i t same in
-          there t is (eqb_tells (times i l.queue) 0) (λ e. somewhere i l (omega (arith, below, k.all, is)) e)
+    by : (b : Bool) → is_nowhere i l ≡ b → later ≡ (if b then record l { free = l.free ++ i ∷ [] } else l)
+        → AreKnownTo line later None seats mails
+    by true gone same =
+        subst (λ (z : Listing). AreKnownTo line z None seats mails) (sym same)
+        (known_as line l.seats l.seats (is_listed l (Some i)) (is_looking l) (is_listed l None)
+        (is_looking (record l { free = l.free ++ i ∷ [] })) seats mails refl
+        (λ t looks on. apart t gone (left_only _ on) (either _ _ (sym (on_push i l.free t) ∙ looks)))
+        (λ t looks. looked t (either _ _ (sym (on_push i l.free t) ∙ looks)))
+        (λ t below on. after t (either _ _ on))
+        (λ t below looks. inr (on_push i l.free t ∙ or_left (is_on l.free t) (i == t) looks))
+        k)
+    by false kept same = subst (λ (z : Listing). AreKnownTo line z None seats mails) (sym same) (known_queued l i kept k)
 
   -- Nothing moves at the visited seat.
   pub known_rests : (l : Listing) (i : ℕ)
@@ -388,15 +325,10 @@ module _ {L : Type 0} (line : Line L) where
 -- A seat at a place of the queue is on it.
 got_on : (xs : List ℕ) (n i : ℕ) → Some i ≡ slice_get xs n → is_on xs i ≡ true
 got_on [] n i is = absurd cc
-got_on (x ∷ xs) zero i is =
-    let same : i ≡ x = some_is i x is in
-    let one : one_if (x == i) ≡ 1 = ap one_if (eq-eqb x i (sym same)) in
-    some_on (x ∷ xs) i (omega (arith, sum_by-cons (λ y. one_if (y == i)) x xs, one))
-  where
-    some_is : (a b : ℕ) → Some a ≡ Some b → a ≡ b
-    some_is a b e = cc
-got_on (x ∷ xs) (suc n) i is =
-    some_on (x ∷ xs) i (omega (arith, sum_by-cons (λ y. one_if (y == i)) x xs, on_some xs i (got_on xs n i is)))
+got_on (x ∷ xs) zero i is = on_cons x xs i ∙ or_right (is_on xs i) (x == i) (eq-eqb x i (sym (some_is i x is))) where
+  some_is : (a b : ℕ) → Some a ≡ Some b → a ≡ b
+  some_is a b e = cc
+got_on (x ∷ xs) (suc n) i is = on_cons x xs i ∙ or_left (is_on xs i) (x == i) (got_on xs n i is)
 
 pub next_in_round_is : (l later : Listing) (result : Option ℕ) → result ≡ (if nat_lt l.at l.round then slice_get l.queue l.at else None)
     → later ≡ record l { at = l.at + length (option_to_list result) } → IsNextOf result l later

@@ -8,7 +8,7 @@ use Rattle.std.proofs.lemmas.List.{get_or-set_other, get_or-set_same, get_or_def
 use Rattle.bq_job.specs.declared.answer.Answer.{Answer}
 use Rattle.bq_job.specs.declared.step.Step.{Step}
 use Rattle.bq_job.specs.promise.LineSteps.{LineSeen}
-use Rattle.bq_line.specs.Tending.{AreSame, DoorSeen, IsNewDoor, IsNewSeat, IsPlaced, IsTended, Tends}
+use Rattle.bq_line.specs.Tending.{AreSame, DoorSeen, IsNewDoor, IsNewSeat, IsPlaced, Tends}
 use Rattle.bq_line.specs.declared.attendant.Attendant.{Attendant}
 use Rattle.bq_line.proofs.TendingLemmas.{tended_new, tends_still}
 use Rattle.bq_event_loop.specs.Meanings.{Door, Line, at}
@@ -23,8 +23,7 @@ tends_then seen a b c at_a at_b at_c h k size before got t =
     let y = k size (before ++ []) (got ++ []) x.0 in
     let earlier = x.1.grows in
     let later = y.1.grows in (
-      subst (λ (xs : List Step). IsTended seen size c at_c xs (got ++ [])) (append-nil (before ++ []))
-          (subst (λ (ys : List Answer). IsTended seen size c at_c ((before ++ []) ++ []) ys) (append-nil (got ++ [])) y.0),
+      rw (append-nil (before ++ []), append-nil (got ++ [])) at y.0,
       record { grows = omega arith; unclosed = λ p. refl },
     )
 
