@@ -9,17 +9,15 @@ left_within : (due : Option ℕ) (moment : ℕ) → is_before moment due ≡ tru
 left_within None moment before = tt
 left_within (Some due) moment before = omega (arith, ltb-true moment due before)
 
-chosen : (ticks before : Bool) (left : Option ℕ) → ticks ≡ not before
-    → (if ticks then Some 0 else left) ≡ (if before then left else Some 0)
-chosen ticks true left is = ap (λ b. if b then Some 0 else left) is
-chosen ticks false left is = ap (λ b. if b then Some 0 else left) is
+chosen : (before : Bool) (left : Option ℕ) → (if not before then Some 0 else left) ≡ (if before then left else Some 0)
+chosen true left = refl
+chosen false left = refl
 
 pub rest_is : (ticks : Bool) (heard moment : ℕ) (known due result : Option ℕ)
     → result ≡ (if ticks then Some 0 else time_left known moment) → ticks ≡ not (is_before heard due) → moment ≡ heard → known ≡ due
     → result ≡ (if is_before moment due then time_left due moment else Some 0)
 rest_is ticks heard moment known due result is ticked same now =
-    is ∙ ap (λ d. if ticks then Some 0 else time_left d moment) now
-    ∙ chosen ticks (is_before moment due) (time_left due moment) (ticked ∙ ap (λ m. not (is_before m due)) (sym same))
+    rw (is, ticked, same, now) (chosen (is_before heard due) (time_left due heard))
 
 -- `later` is what is due after that, which is the same unless a tick was taken.
 pub limit_is : (ticks : Bool) (heard moment : ℕ) (known due later result : Option ℕ)

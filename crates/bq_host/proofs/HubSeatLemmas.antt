@@ -1,5 +1,5 @@
 -- What the link of a seat to a hub did in an action.
-use Rattle.std.proofs.Common.{◌∙◌, ◌≡◌, ◌++◌, ◌∷◌, ℕ, Bool, true, false, List, [], ap, append-nil, inl, inr, refl, subst, sym}
+use Rattle.std.proofs.Common.{◌∙◌, ◌≡◌, ◌∷◌, ℕ, Bool, true, false, List, [], ap, append-nil, inl, inr, refl, subst, sym}
 use Rattle.bq_job.specs.declared.answer.Answer.{Answer}
 use Rattle.bq_job.specs.declared.step.Step.{Step}
 use Rattle.bq_job.specs.machine.Machine.{Machine}
@@ -45,10 +45,8 @@ module _ {C K : Type 0} (machine : K → Machine) (compared : K → ℕ) (given 
     λ first submitted taken w. (
       name ∙ w.0,
       seat ∙ w.1,
-      subst (λ (s : List Step). WentAt machine compared given first.seat first.hub.now s (taken ++ t.0 ∷ []) new.hub.now)
-          (append-nil submitted)
-          (went_then machine compared given first.seat old.seat first.hub.now old.hub.now new.hub.now submitted [] taken (t.0 ∷ []) w.1
-          w.2 t.2),
+      rw (append-nil submitted) at (went_then machine compared given first.seat old.seat first.hub.now old.hub.now new.hub.now submitted []
+          taken (t.0 ∷ []) w.1 w.2 t.2),
     ),
   )
   took_further old new place next false name seat t = (
@@ -56,9 +54,7 @@ module _ {C K : Type 0} (machine : K → Machine) (compared : K → ℕ) (given 
     λ first submitted taken w. (
       name ∙ w.0,
       seat ∙ w.1,
-      subst (λ (a : List Answer). WentAt machine compared given first.seat first.hub.now submitted a new.hub.now) (append-nil taken)
-          (subst (λ (s : List Step). WentAt machine compared given first.seat first.hub.now s (taken ++ []) new.hub.now)
-          (append-nil submitted)
-          (went_then machine compared given first.seat old.seat first.hub.now old.hub.now new.hub.now submitted [] taken [] w.1 w.2 t.1)),
+      rw (append-nil submitted, append-nil taken) at (went_then machine compared given first.seat old.seat first.hub.now old.hub.now
+          new.hub.now submitted [] taken [] w.1 w.2 t.1),
     ),
   )

@@ -1,36 +1,25 @@
 -- Properties that hold for each element of a list, as elements are added and taken.
-use Rattle.std.proofs.Common.{◌≡◌, ◌∙◌, ℕ, zero, suc, List, [], ◌∷◌, ◌++◌, Some, ap, subst, sym, arith, append_assoc, map, take}
+use Rattle.std.proofs.Common.{◌≡◌, ◌∙◌, ℕ, List, [], ◌∷◌, ◌++◌, Some, ap, subst, sym, append_assoc, map, take}
 use Rattle.std.specs.Prelude.{reverse}
 use Rattle.std.specs.List.{All}
 use Rattle.std.specs.Option.{option_to_list}
 use Rattle.std.proofs.lemmas.List.{map-append, reverse-append}
-use Rattle.std.proofs.lemmas.List.Elements.{All-take}
-
--- The property also holds for one more element.
-pub all_more : {X : Type 0} (P : X → Type 0) (xs : List X) (x : X) → All P xs → P x → All P (xs ++ x ∷ [])
-all_more P [] x h p zero d below = p
-all_more P [] x h p (suc k) d below = absurd (omega arith)
-all_more P (y ∷ xs) x h p zero d below = h 0 d (omega arith)
-all_more P (y ∷ xs) x h p (suc k) d below = all_more P xs x (λ j e there. h (suc j) e (omega (arith, there))) p k d (omega (arith, below))
+use Rattle.std.proofs.lemmas.List.Elements.{All-head, All-pop, All-push, All-rest, All-take}
 
 pub all_pushed : {X : Type 0} (xs ys : List X) (x : X) (P : X → Type 0) → ys ≡ xs ++ x ∷ [] → All P xs → P x → All P ys
-all_pushed xs ys x P e h p = subst (All P) (sym e) (all_more P xs x h p)
+all_pushed xs ys x P e h p = subst (All P) (sym e) (All-push P xs x h p)
 
 pub all_taken : {X : Type 0} (n : ℕ) (xs ys : List X) (P : X → Type 0) → ys ≡ take n xs → All P xs → All P ys
 all_taken n xs ys P e h = subst (All P) (sym e) (All-take P n xs h)
 
-last_passes : {X : Type 0} (xs : List X) (x : X) (P : X → Type 0) → All P (xs ++ x ∷ []) → P x
-last_passes [] x P h = h 0 x (omega arith)
-last_passes (y ∷ xs) x P h = last_passes xs x P (λ k d below. h (suc k) d (omega (arith, below)))
-
 pub popped_passes : {X : Type 0} (xs ys : List X) (x : X) (P : X → Type 0) → xs ≡ ys ++ option_to_list (Some x) → All P xs → P x
-popped_passes xs ys x P e h = last_passes ys x P (subst (All P) e h)
+popped_passes xs ys x P e h = (All-pop P xs ys (Some x) e h).1
 
 pub first_passes : {X : Type 0} (xs ys : List X) (x : X) (P : X → Type 0) → xs ≡ x ∷ ys → All P xs → P x
-first_passes xs ys x P e h = let at : All P (x ∷ ys) = subst (All P) e h in at 0 x (omega arith)
+first_passes xs ys x P e h = All-head P x ys (subst (All P) e h)
 
 pub rest_passes : {X : Type 0} (xs ys : List X) (x : X) (P : X → Type 0) → xs ≡ x ∷ ys → All P xs → All P ys
-rest_passes xs ys x P e h = let at : All P (x ∷ ys) = subst (All P) e h in λ k d below. at (suc k) d (omega (arith, below))
+rest_passes xs ys x P e h = All-rest P x ys xs e h
 
 -- In reverse, the last element comes first.
 turned : {X Y : Type 0} (f : X → Y) (xs : List X) (x : X) → reverse (map f (xs ++ x ∷ [])) ≡ f x ∷ reverse (map f xs)

@@ -17,10 +17,6 @@ use Rattle.bq_host.specs.WakeLists.{WakeList, Wakes, to_wake}
 pub wakes_none : (mails : List (List Answer)) (w : WakeList) → Wakes mails mails w w
 wakes_none mails w = record { seats = refl; kept = λ seat. omega arith; mail = λ seat below empty. inl empty }
 
-pub wakes_same : (first last : List (List Answer)) (old new : WakeList) → last ≡ first → new ≡ old → Wakes first last old new
-wakes_same first last old new mails woken =
-    subst (λ ms. Wakes first ms old new) (sym mails) (subst (λ w. Wakes first first old w) (sym woken) (wakes_none first old))
-
 pub wakes_then : (first next last : List (List Answer)) (old mid new : WakeList) → Wakes first next old mid → Wakes next last mid new
     → Wakes first last old new
 wakes_then first next last old mid new a b = record {
@@ -117,16 +113,12 @@ pub wakes_put : (first mails next last : List (List Answer)) (old w mid new : Wa
     → ((t : ℕ) → t < length next → slice_index_or last t [] ≡ slice_index_or next t [] ++ answers_to t ((seat, answer) ∷ []))
     → new ≡ to_wake seat mid → Wakes first last old new
 wakes_put first mails next last old w mid new seat answer so_far same still many put woken =
-    wakes_then first next last old mid new
-    (wakes_then first mails next old w mid so_far (wakes_same mails next w mid same still))
-    (subst (λ z. Wakes next last mid z) (sym woken) (wakes_posted next last seat answer mid many put))
+    wakes_then first next last old mid new (rw (same, still) so_far) (rw woken (wakes_posted next last seat answer mid many put))
 
 pub wakes_full : (first mails next last : List (List Answer)) (old w mid new : WakeList) (seat : ℕ)
     → Wakes first mails old w → next ≡ mails → mid ≡ w → last ≡ next → new ≡ to_wake seat mid → Wakes first last old new
 wakes_full first mails next last old w mid new seat so_far same still kept woken =
-    wakes_then first next last old mid new
-    (wakes_then first mails next old w mid so_far (wakes_same mails next w mid same still))
-    (subst (λ z. Wakes next z mid new) (sym kept) (subst (λ z. Wakes next next mid z) (sym woken) (wakes_added next seat mid)))
+    wakes_then first next last old mid new (rw (same, still) so_far) (rw (kept, woken) (wakes_added next seat mid))
 
 -- Of answers that wait for seats, none was put into a mail.
 pub sorted_moved : (first mid next : MailState) (pending : List GivenAnswer) (sorted : Bool) → IsSorted first mid
