@@ -173,10 +173,20 @@ impl<C: Clock + Drop, K: QueueCore + Drop> Hub<C, K> {
         };
         if seat == first {
             *place = Action::Write(answer);
+            self.note_none_pending();
             return true;
         }
         self.put_back(first, answer);
         self.take_kept(seat, place)
+    }
+
+    // Notes whether an answer is pending. Mostly none is: then nothing has to be sorted when the
+    // turn of the seat ends.
+    fn note_none_pending(&mut self)
+        ensures none { self.new.is_sorted ≡ true → (state_of K.machine K.comparisons self.new).pending ≡ [] }
+        ensures rest { self.new ≡ record self.old { is_sorted = self.new.is_sorted } }
+    {
+        self.is_sorted = self.has_none_pending();
     }
 
     // Takes the oldest answer that no seat has taken, if all of them are where the core put them.

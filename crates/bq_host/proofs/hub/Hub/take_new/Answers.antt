@@ -14,14 +14,20 @@ returns-in_default-clause-went g c = (
 
 pub returns-then-seat-first-clause-went : goal.returns-then-seat-first-clause-went
 returns-then-seat-first-clause-went g c =
-    let pending : Hub _ _ → List GivenAnswer = λ h. (state_of g.K.QueueCore.machine g.K.QueueCore.comparisons h).pending in
+    let machine = g.K.QueueCore.machine in
+    let compared = g.K.QueueCore.comparisons in
+    let pending : Hub _ _ → List GivenAnswer = λ h. (state_of machine compared h).pending in
     let old = c.args.self.now in
-    let popped = c.next_new.new.self in (
+    let popped = c.next_new.new.self in
+    let last = c.note_none_pending.new.self in
+    let moved : last ≡ with_pending None popped.timed.outs.given last.is_sorted old =
+    c.note_none_pending.ensures.rest ∙ ap (λ (h : Hub _ _). record h { is_sorted = last.is_sorted }) c.next_new.ensures.rest in
+    let same : pending popped ≡ pending last = sym (ap pending c.note_none_pending.ensures.rest) in (
       c.in-Some.answer,
       refl,
-      went_taken g.K.QueueCore.machine g.K.QueueCore.comparisons g.C.Clock.given c.args.seat c.in-Some.answer old popped None _ _
-          c.next_new.ensures.rest c.requires.empty
-          (subst (λ (n : ℕ). pending old ≡ (n, c.in-Some.answer) ∷ pending popped) (sym c.if-seat-first.true) c.in-Some.ensures.pending),
+      went_taken machine compared g.C.Clock.given c.args.seat c.in-Some.answer old last None _ _ moved c.requires.empty
+          (subst (λ (n : ℕ). pending old ≡ (n, c.in-Some.answer) ∷ pending popped) (sym c.if-seat-first.true) c.in-Some.ensures.pending
+          ∙ ap (λ xs. (c.args.seat, c.in-Some.answer) ∷ xs) same),
     )
 
 pub returns-clause-went : goal.returns-clause-went
