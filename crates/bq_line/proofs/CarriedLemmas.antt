@@ -1,5 +1,5 @@
 -- The result of carrying out an action that is known by an equation.
-use Rattle.std.proofs.Common.{◌≡◌, ◌⊎◌, ℕ, List, [], append-nil, refl, sym, ap, ◌∙◌, subst, inl, inr}
+use Rattle.std.proofs.Common.{◌≡◌, ◌⊎◌, ℕ, List, [], ◌∷◌, append-nil, refl, sym, ap, ◌∙◌, subst, inl, inr}
 use Rattle.bq_job.specs.declared.answer.Answer.{Answer}
 use Rattle.bq_job.specs.declared.step.Step.{Step}
 use Rattle.bq_job.specs.promise.LineSteps.{LineSeen}
@@ -15,8 +15,8 @@ use Rattle.bq_line.specs.Carried.{with_part}
 use Rattle.bq_line.specs.declared.attendant.Progress.{Progress}
 use Rattle.bq_line.specs.declared.attendant.Progress.TheVariants as results
 use Rattle.bq_line.specs.Writing.{BreaksOff, with_begun, with_written}
-use Rattle.bq_line.specs.Links.{Calls}
-use Rattle.bq_line.specs.Submitting.{IsSubmittedOn}
+use Rattle.bq_line.specs.Links.{Calls, as_submitted}
+use Rattle.bq_line.specs.Submitting.{HasSubmittedOn, IsSubmittedOn, TakesOrWaits}
 use Rattle.bq_line.specs.Tending.{MayEndAt}
 use Rattle.bq_line.specs.declared.attendant.LinePlace.{LinePlace}
 use Rattle.bq_line.specs.declared.attendant.LinePlace.TheVariants as places
@@ -205,3 +205,16 @@ rests_submission went result first last step old new next submitted taken w (inl
     let still = (ends_submitted result old step new next submitted taken s.1 s.0).still moved in
     inl (subst (λ x. went first x [] last) still.0 (subst (λ t. went first submitted t last) still.1 w))
 rests_submission went result first last step old new next submitted taken w (inr s) moved = absurd (moved s.0)
+
+-- A step was submitted, and then the seat waits for its answer or took it.
+pub submits_on : {K : Type 0} (went : K → List Step → List Answer → K → Type 0) (first middle last : K) (old new : SeatMachine)
+    (step : Step) (next : Action) → went first (as_submitted step) [] middle → TakesOrWaits went middle last old new next
+    → HasSubmittedOn went first last results.Moved old step new next
+submits_on went first middle last old new step next submits (inl waits) =
+    (as_submitted step, [], waits.1 first (as_submitted step) [] submits, inl (refl, (refl, waits.0)))
+submits_on went first middle last old new step next submits (inr took) = (
+  as_submitted step,
+  took.0 ∷ [],
+  took.2 first (as_submitted step) [] submits,
+  inr (refl, took.1.0, (refl, took.1.1), (took.0, refl, took.1.2)),
+)

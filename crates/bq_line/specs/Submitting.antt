@@ -6,7 +6,7 @@ use Rattle.bq_line.specs.Carried.{IsPolledAs, IsSubmittedAs}
 use Rattle.bq_line.specs.Links.{TakesNone, TakesOne}
 use Rattle.bq_line.specs.declared.attendant.Progress.{Progress}
 use Rattle.bq_line.specs.declared.attendant.Progress.TheVariants as results
-use Rattle.bq_seat.specs.SeatMoves.{IsMove}
+use Rattle.bq_seat.specs.SeatMoves.{IsAnswered, IsMove}
 use Rattle.bq_seat.specs.declared.machine.Action.{Action}
 use Rattle.bq_seat.specs.declared.machine.Action.TheVariants as actions
 use Rattle.bq_seat.specs.declared.machine.Event.TheVariants as events
@@ -18,11 +18,11 @@ abbrev pub HasSubmitted : {K : Type 0} → (K → List Step → List Answer → 
 HasSubmitted went first last result old step new next =
     (submitted : List Step) × went first submitted [] last × IsSubmittedAs result old step new next submitted
 
--- The answer that the seat waited for was taken, or it still waits.
-abbrev pub TakesAtOnce : {K : Type 0} → (K → List Step → List Answer → K → Type 0) → K → K → SeatMachine → SeatMachine → Action → Type 0
-TakesAtOnce went first last old new next =
-    ((new ≡ old) × (next ≡ actions.PollMail) × TakesNone went first last)
-    ⊎ ((answer : Answer) × IsMove old (events.Mail answer) next new × TakesOne went first answer last)
+-- The step was submitted, and the seat waits for the answer if there will be one. Or the answer to a request was taken at once.
+abbrev pub TakesOrWaits : {K : Type 0} → (K → List Step → List Answer → K → Type 0) → K → K → SeatMachine → SeatMachine → Action → Type 0
+TakesOrWaits went first last old new next =
+    (IsMove old events.Submitted next new × TakesNone went first last)
+    ⊎ ((answer : Answer) × IsAnswered old answer next new × TakesOne went first answer last)
 
 -- The step was submitted or was not accepted. Or it was submitted, and then the answer was taken.
 abbrev pub IsSubmittedOn : Progress → SeatMachine → Step → SeatMachine → Action → List Step → List Answer → Type 0

@@ -14,7 +14,7 @@ ghost use Rattle.bq_job.specs.promise.LineSteps.{LineSeen};
 ghost use Rattle.bq_line.specs.Streams.{StaysOver};
 ghost use Rattle.bq_line.specs.Carried.{Carried, CarriedPart, HasGone};
 ghost use Rattle.bq_line.specs.Links.{Calls, SubmitsInPlace, TakesFurther, TakesInPlace};
-ghost use Rattle.bq_line.specs.Submitting.{HasSubmitted, HasSubmittedOn, TakesAtOnce};
+ghost use Rattle.bq_line.specs.Submitting.{HasSubmitted, HasSubmittedOn, TakesOrWaits};
 
 use crate::buffers::{Buffers, Wrote, read, write_answer};
 use crate::door::{Door, Opening};
@@ -508,8 +508,8 @@ fn submit<K: Link>(
     }
 }
 
-// Submits the step of an action. If the seat then waits for the answer and the link has it at once,
-// the seat takes it.
+// Submits the step of an action. If it is a request and the link has the answer at once, the seat
+// takes it.
 fn submit_and_take<K: Link>(
     alloc: Global,
     machine: &mut SeatMachine,
@@ -524,28 +524,34 @@ fn submit_and_take<K: Link>(
         → HasSubmittedOn K.went link.old link.new result machine.old step machine.new action.new }
 {
     *sent = 0;
-    let progress = submit(alloc, machine, action, link);
-    if progress.has_moved() && polls(action) {
-        take_at_once(machine, action, link);
+    match action {
+        Action::Submit(step) => {
+            if !link.submit(step) {
+                return Progress::NotAccepted;
+            }
+            take_or_wait(alloc, machine, action, link);
+            Progress::Moved
+        }
+        _ => Progress::NothingToDo,
     }
-    progress
 }
 
-fn polls(action: &Action) -> bool
-    ensures { result ≡ true → action.now ≡ Action.PollMail }
-{
-    matches!(action, Action::PollMail)
-}
-
-// Takes the answer that a seat waits for, if the link has it at once.
-fn take_at_once<K: Link>(machine: &mut SeatMachine, action: &mut Action, link: &mut K)
-    requires polls { action.old ≡ Action.PollMail }
+// The step of a seat was submitted. Takes the answer to a request if the link has it at once.
+#[inline(always)]
+fn take_or_wait<K: Link>(
+    alloc: Global,
+    machine: &mut SeatMachine,
+    action: &mut Action,
+    link: &mut K,
+)
     requires ready { K.is_ready link.old }
     ensures ready { K.is_ready link.new }
-    ensures took { TakesAtOnce K.went link.old link.new machine.old machine.new action.new }
+    ensures took { TakesOrWaits K.went link.old link.new machine.old machine.new action.new }
 {
-    if link.mail_at_once(action) {
-        machine.mail(action);
+    if machine.is_asking() && link.mail_at_once(action) {
+        machine.answered(action);
+    } else {
+        machine.submitted(alloc, action);
     }
 }
 

@@ -15,8 +15,8 @@ use Rattle.bq_job.proofs.GivenLemmas.{wanted_append}
 use Rattle.bq_seat.specs.Finds.{Finds}
 use Rattle.bq_seat.specs.Past.{IsOrderly, Past, awaited_by, has_close, is_close, is_stray, past_after, with_action, with_event}
 use Rattle.bq_seat.specs.Past.{with_fault, with_mail, Awaited, answers, first_past}
-use Rattle.bq_seat.specs.SeatMoves.{IsMove, OpensPast}
-use Rattle.bq_seat.specs.SeatParts.{IfLineOver, IsStagedMove, OpensLine, GoesOn, ServesAll, between, in_stage, reads_on}
+use Rattle.bq_seat.specs.SeatMoves.{IsAnswered, IsMove, OpensPast}
+use Rattle.bq_seat.specs.SeatParts.{IfLineOver, IsStagedMove, OpensLine, GoesOn, ServesAll, between, in_stage, is_asking, reads_on}
 use Rattle.bq_seat.specs.SeatStands.{AgreesWith, IsClosing, StandsInStage, StandsFor, awaited_at, end_if, IsOpen, awaited}
 use Rattle.bq_seat.specs.Served.{IsServed}
 use Rattle.bq_wire.specs.declared.reader.ReaderState.{ReaderState}
@@ -30,7 +30,7 @@ use Rattle.bq_seat.specs.declared.machine.Action.TheVariants as actions
 use Rattle.bq_seat.specs.declared.machine.Event.TheVariants as events
 use Rattle.bq_seat.specs.declared.machine.Stage.TheVariants as stages
 use Rattle.bq_seat.proofs.StepLemmas.{asks_at, closes_at, connects, few_missing, quits_at, tells_at, none_kept}
-use Rattle.bq_seat.proofs.LooksLemmas.{wanted_open, read_on_is}
+use Rattle.bq_seat.proofs.LooksLemmas.{behind_request, wanted_open, read_on_is}
 use Rattle.bq_seat.proofs.OpenLemmas.{answered, opened, served_now, still_closing}
 
 -- a connection that is being closed lacks one answer at most
@@ -226,3 +226,13 @@ pub opens : (m new : SeatMachine) (action : Action) → m.stage ≡ stages.Betwe
 opens m new action at does connects untold stands same none =
     let begun : AgreesWith new first_past = rw (connects, untold, none) (opened new.reader stands) in
     turn at does refl (refl, rw connects refl, same, (λ e. (refl, begun)), tt) (λ p h. begun) (λ p h. refl)
+
+-- A request is submitted, and then its answer comes.
+pub asks_and_takes : (m : SeatMachine) (stage : Stage) → m.stage ≡ stage → is_asking stage ≡ true → (answer : Answer) (action : Action)
+    → action ≡ actions.Write answer → IsAnswered m answer action (in_stage stages.Writing m)
+asks_and_takes m (stages.Asking waits) at asking answer action lies = (
+  in_stage (stages.Polling waits) m,
+  turn at refl refl (refl, refl, refl, tt, tt) (λ p h. h.0) (λ p h. behind_request h.0.0 h.1),
+  turn refl lies refl (refl, refl, refl, tt, tt) (λ p h. answered answer h) (λ p h. rw h.0.stepped.closing_is refl),
+)
+asks_and_takes m _ at asking answer action lies = absurd cc

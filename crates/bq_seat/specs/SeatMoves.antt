@@ -1,5 +1,6 @@
 -- What a seat machine does with an event.
 use Rattle.std.specs.Prelude.{◌≡◌, ◌≤◌, true, false, not, length, Some}
+use Rattle.bq_job.specs.declared.answer.Answer.{Answer}
 use Rattle.bq_job.specs.declared.step.Step.TheVariants as steps
 use Rattle.bq_seat.specs.Finds.{Finds}
 use Rattle.bq_seat.specs.Looks.{LooksOn}
@@ -36,3 +37,8 @@ pub record IsMove (old : SeatMachine) (event : Event) (action : Action) (new : S
   pub finds : is_stray action ≡ false → (p : Past) → StandsFor old p → Finds old.reader.max_job_size action (with_event event p)
   -- what the machine does next
   pub looks : is_stray action ≡ false → (p : Past) → StandsFor old p → LooksOn (awaited old) (kept_bytes old) event p action
+
+-- The request was submitted, and then this answer came.
+abbrev pub IsAnswered : SeatMachine → Answer → Action → SeatMachine → Type 0
+IsAnswered old answer action new =
+    (between : SeatMachine) × IsMove old events.Submitted actions.PollMail between × IsMove between (events.Mail answer) action new

@@ -39,6 +39,11 @@ between reader m = record m { reader = reader; stage = stages.Between }
 abbrev pub holding : List ℕ → SeatMachine → SeatMachine
 holding bytes m = record m { kept = bytes }
 
+-- a request is being submitted
+abbrev pub is_asking : Stage → Bool
+is_asking (stages.Asking waits) = true
+is_asking _ = false
+
 -- what is awaited after this request was submitted
 abbrev pub asking_stage : Request → Stage
 asking_stage request = if is_quit request then stages.AskingQuit else stages.Asking (is_waiting_request request)

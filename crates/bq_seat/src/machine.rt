@@ -92,8 +92,8 @@ impl SeatMachine {
     ghost use Rattle.bq_job.specs.declared.answer.Answer.{Answer};
     ghost use Rattle.bq_job.specs.machine.OneClient.{is_closed_answer};
     ghost use Rattle.bq_seat.specs.Outstanding.{ReadsWith};
-    ghost use Rattle.bq_seat.specs.SeatMoves.{IsMove};
-    ghost use Rattle.bq_seat.specs.SeatParts.{GoesOn, asking_stage, between, holding, in_stage, reads_on, would_read};
+    ghost use Rattle.bq_seat.specs.SeatMoves.{IsAnswered, IsMove};
+    ghost use Rattle.bq_seat.specs.SeatParts.{GoesOn, asking_stage, is_asking, between, holding, in_stage, reads_on, would_read};
     ghost use Rattle.bq_job.specs.declared.line_end.LineEnd.{LineEnd};
     ghost use Rattle.bq_seat.specs.SeatStands.{awaited, kept_bytes};
     ghost use Rattle.bq_seat.specs.Pieces.{HasRoomFor, HasRoomIn, missing_in};
@@ -288,6 +288,22 @@ impl SeatMachine {
             Stage::Leaving(end) => self.mail_after_close(end, next),
             _ => stray(next),
         }
+    }
+
+    /// Returns true if the machine submits a request.
+    pub fn is_asking(&self) -> bool
+        ensures { result ≡ is_asking self.now.stage }
+    {
+        matches!(self.stage, Stage::Asking { .. })
+    }
+
+    /// The request was submitted, and then its answer came: `submitted` and `mail` in one call. The
+    /// answer must already be in `next` as a `Write`, and stays there.
+    pub fn answered(&mut self, next: &mut Action)
+        requires asking { is_asking self.old.stage ≡ true }
+        ensures moved { (answer : Answer) → next.old ≡ Action.Write answer → IsAnswered self.old answer next.new self.new }
+    {
+        self.stage = Stage::Writing;
     }
 
     /// The whole answer was written.
