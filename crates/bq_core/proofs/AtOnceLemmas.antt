@@ -5,7 +5,7 @@ use Rattle.std.{proofs.lemmas.{Grind.common_steps, Nat.mul-le}, specs.{List.AllB
 use Rattle.bq_core.proofs.{ActLemmas.{acts_silent, asking_client, number_found}, AskLemmas.{asks_more, asks_then, search_grows}}
 use Rattle.bq_core.proofs.{CostLemmas.given_length, DispatchLemmas.{id_of_best, next_is, next_offer, taker_known}}
 use Rattle.bq_core.proofs.{SearchLemmas.{client_entries, client_waits}, StepLemmas.waiting_alike, TurnLemmas.{gives_nothing, shared_given}}
-use Rattle.bq_core.{proofs.TurnLemmas.turn_given, specs.{Acting.Acts, AtOnce.{ActsOrGives, is_reserve, may_take, waiting_at}}}
+use Rattle.bq_core.{proofs.TurnLemmas.turn_given, specs.{Acting.Acts, AtOnce.{ActsOrGives, TakesAtOnce, is_reserve, may_take, waiting_at}}}
 use Rattle.bq_core.specs.HandOuts.{handed_to}
 use Rattle.bq_core.specs.Serving.{NoneIsGone}
 use Rattle.bq_core_api.specs.{Cost.changed_jobs, Outbox.Outbox}
@@ -86,20 +86,16 @@ module _ (st : CoreParts) (seat : ℕ) (what : Step) (r : Reserves st seat what)
       (sym (unset _ _ _ _ r.awake _ (only_seat _ _ _ _ _ st.sound.numbered r.at)))
 
   -- The client is given the job that its tubes offer.
-  pub given_at_once : (id : ℕ) (body : List ℕ) (old new : Outbox) (looked last : Machine) (between after : Kept)
-      → AtSeat seat st (λ s. Some id ≡ option_map (λ r. r.1) (fold (with_offer st.jobs.jobs st.tubes.entries) None s.watched))
-      → IsBodyOf (job_with id st.jobs.jobs) body → AtSeat seat st (λ s. Asks (length s.watched + 1) st.jobs between)
-      → looked ≡ machine_of st → NoneIsGone (machine_of st)
-      → last ≡ record (with_job id (reserved_by looked.moment seat) looked) { tickets = raised looked.tickets }
-      → new ≡ record old { given = old.given ++ (seat, answers.Reserved id body) ∷ [] } → Asks 8 between after
-      → ActsOrGives (machine_of st) seat what old new last st.jobs after
-  given_at_once id body old new looked last between after first is few same none after_is told then_few =
-      let next_id = next id (first r.client r.at) in
-      let last_is : last ≡ handed_to seat id then_waits = rw (after_is, same) (handed id) in
+  pub given_at_once : (id : ℕ) (body : List ℕ) (old new : Outbox) (last : CoreParts) → TakesAtOnce seat what id body st last
+      → NoneIsGone (machine_of st) → new ≡ record old { given = old.given ++ (seat, answers.Reserved id body) ∷ [] }
+      → ActsOrGives (machine_of st) seat what old new (machine_of last) st.jobs last.jobs
+  given_at_once id body old new last t none told =
+      let next_id = next id (t.job r.client r.at) in
+      let last_is = t.after ∙ handed id in
       let gives = turn_given then_waits id next_id seat (taker_known then_waits seat known) (Ok body)
-      (λ j e. is j (sym (next_is then_waits id st.sound.ids next_id) ∙ e)) old new last
-      (λ j t i n b. shared_given then_waits last id seat body j t old new i n b last_is told) in
-      let long = given_length DispatchTurn has_refused_share then_waits last old new gives in
+      (λ j e. t.body_is j (sym (next_is then_waits id st.sound.ids next_id) ∙ e)) old new (machine_of last)
+      (λ j s i n b. shared_given then_waits (machine_of last) id seat body j s old new i n b last_is told) in
+      let long = given_length DispatchTurn has_refused_share then_waits (machine_of last) old new gives in
       let one : length gives.given ≡ 1 = grind (arith, common_steps) in
       record {
         acted_machine = then_waits;
@@ -110,8 +106,7 @@ module _ (st : CoreParts) (seat : ℕ) (what : Step) (r : Reserves st seat what)
         forgotten = sym (forgets_nothing _ (waiting_alike (machine_of st) seat r.until none));
         turns = gives;
         asks = record { stays = omega arith; rise = omega arith };
-        asks_then = rw one (asks_more _ (omega (arith, client_entries then_waits.seats seat _ found))
-            (asks_then (few r.client r.at) then_few));
+        asks_then = rw one (asks_more _ (omega (arith, client_entries then_waits.seats seat _ found)) (t.asks r.client r.at));
       }
 
 -- What is asked by a look that finds no job, and then by the command itself.

@@ -1,11 +1,12 @@
 -- A command's own effect, and the job that a reserve is given at once.
-use Rattle.std.specs.Prelude.{Bool, Option, false, length, true, ℕ, ◌&&◌, ◌*◌, ◌+◌, ◌≡◌}
+use Rattle.std.specs.{Option.option_map, Prelude.{Bool, List, None, Option, Some, false, fold, length, true, ℕ, ◌&&◌, ◌*◌, ◌+◌, ◌≡◌}}
 use Rattle.bq_core.specs.{Acting.Acts, Turns.Gives}
 use Rattle.bq_core_api.specs.{Cost.changed_jobs, Outbox.Outbox}
 use Rattle.bq_job.specs.{declared.{request.Request.Request, step.Step.Step}, machine.{DispatchTurn, forgetting, has_refused_share, raised}}
-use Rattle.bq_job.specs.machine.{Machine.Machine, seat_with, waiting_from, with_seat}
-use Rattle.bq_jobs.specs.{Kept.Kept, Searching.Asks}
-use Rattle.bq_state.specs.{Asking.AsksWithin, Cost.waited, SeatStates.is_asking, WantedJobs.is_nothing}
+use Rattle.bq_job.specs.machine.{Machine.Machine, job_with, reserved_by, seat_with, waiting_from, with_job, with_seat}
+use Rattle.bq_jobs.specs.{Kept.Kept, Searching.Asks, Seen.IsBodyOf}
+use Rattle.bq_state.specs.{Asking.AsksWithin, CoreParts.{AtSeat, machine_of}, Cost.waited, Offers.with_offer, SeatStates.is_asking}
+use Rattle.bq_state.specs.WantedJobs.{is_nothing}
 use Rattle.bq_state.specs.declared.core_parts.CoreParts.{CoreParts}
 use Rattle.bq_job.specs.declared.request.Request.TheVariants as requests
 use Rattle.bq_job.specs.declared.step.Step.TheVariants as steps
@@ -22,6 +23,20 @@ is_reserve what = false
 -- the step is a reserve of a client that can ask, and no waiting client may have a job
 abbrev pub may_take : ℕ → Step → CoreParts → Bool
 may_take seat what st = is_reserve what && (is_nothing st.known.wanted && is_asking (seat_with seat st.seats.items))
+
+-- The client at this seat holds the job with this id, whose body this is, and a ticket was used up.
+pub record IsHandedOver (seat id : ℕ) (body : List ℕ) (old new : CoreParts) : Type 0 where
+  pub body_is : IsBodyOf (job_with id (machine_of old).jobs) body
+  pub after : machine_of new ≡ record (with_job id (reserved_by old.moment seat) (machine_of old)) { tickets = raised old.tickets }
+  pub asks : Asks 7 old.jobs new.jobs
+
+-- The client at this seat, which reserves, was handed this job, which its tubes offer.
+pub record TakesAtOnce (seat : ℕ) (what : Step) (id : ℕ) (body : List ℕ) (old new : CoreParts) : Type 0 where
+  pub may : may_take seat what old ≡ true
+  pub job : AtSeat seat old (λ s. Some id ≡ option_map (λ r. r.1) (fold (with_offer old.jobs.jobs old.tubes.entries) None s.watched))
+  pub body_is : IsBodyOf (job_with id (machine_of old).jobs) body
+  pub after : machine_of new ≡ record (with_job id (reserved_by old.moment seat) (machine_of old)) { tickets = raised old.tickets }
+  pub asks : AtSeat seat old (λ s. Asks (length s.watched + 7) old.jobs new.jobs)
 
 -- the model once the client at this seat waits, with the next ticket
 abbrev pub waiting_at : ℕ → Option ℕ → Machine → Machine

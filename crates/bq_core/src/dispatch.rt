@@ -2,7 +2,7 @@
 //! once.
 ghost use Rattle.std.specs.{List.sum_by, Option.option_map, Prelude.{IfOk, IfSome, None, Some, []}};
 ghost use Rattle.std.specs.Prelude.{fold, if◌then◌else◌, is_some, length, true, ◌&&◌, ◌++◌, ◌+◌, ◌<◌, ◌∷◌, ◌≡◌};
-ghost use Rattle.bq_core.specs.{AtOnce.{ActsOrGives, is_reserve, may_take}, HandOuts.{HandsOut, IsPicked, handed_to}};
+ghost use Rattle.bq_core.specs.{AtOnce.{ActsOrGives, IsHandedOver, TakesAtOnce, is_reserve, may_take}, HandOuts.{HandsOut, IsPicked, handed_to}};
 ghost use Rattle.bq_core.specs.{Serving.NoneIsGone, Turns.{Gives, HasRoom}};
 ghost use Rattle.bq_job.specs.{beside.Computed.waiting_count, machine.Changes.{job_with, seat_with, with_job, with_seat}};
 ghost use Rattle.bq_job.specs.machine.{Changes.without_wait, Dispatch.{DispatchTurn, next_job, reserved_by}, Limits.raised};
@@ -374,16 +374,14 @@ fn may_take(state: &CoreParts, seat: Seat, what: &Step) -> bool
     is_reserve(what) && (state.known.wanted.is_nothing() && state.is_asking(seat))
 }
 
-// Returns the job that the client at the seat is handed at once, and another reference to its body.
-// Returns None if the step may take no job, if there is none, if the client watches many tubes, or
-// if the body cannot be shared.
-fn job_at_once(state: &mut CoreParts, seat: Seat, what: &Step) -> Option<(JobId, Body)>
+// Returns the job that the client at the seat may be handed at once. Returns None if the step may
+// take no job, if there is none, or if the client watches many tubes.
+fn job_at_once(state: &mut CoreParts, seat: Seat, what: &Step) -> Option<JobId>
     ensures may { IfSome result (λ _. may_take seat what.now state.old ≡ true) }
-    ensures job { IfSome result (λ p. AtSeat seat state.old (λ s. Some p.0
+    ensures job { IfSome result (λ id. AtSeat seat state.old (λ s. Some id
         ≡ option_map (λ r. r.1) (fold (with_offer state.old.jobs.jobs state.old.tubes.entries) None s.watched))) }
-    ensures body { IfSome result (λ p. IsBodyOf (job_with p.0 (machine_of state.old).jobs) p.1) }
-    ensures few { IfSome result (λ _. AtSeat seat state.old (λ s. Asks (length s.watched + 1) state.old.jobs state.new.jobs)) }
-    ensures kept { Looks 9 state.old state.new }
+    ensures few { IfSome result (λ _. AtSeat seat state.old (λ s. Asks (length s.watched) state.old.jobs state.new.jobs)) }
+    ensures kept { Looks 8 state.old state.new }
 {
     if !may_take(state, seat, what) {
         return None;
@@ -396,26 +394,33 @@ fn job_at_once(state: &mut CoreParts, seat: Seat, what: &Step) -> Option<(JobId,
         return None;
     }
     let (_, id) = best_among(&mut state.jobs, &state.tubes, client.watched(), None)?;
-    match state.jobs.share_body(id)? {
-        Ok(body) => Some((id, body)),
+    Some(id)
+}
+
+// Makes the client at the seat hold the job, and returns another reference to its body. The ticket
+// of the client's wait is used up. Returns None, and changes nothing, if the reference is refused.
+fn hand_over(state: &mut CoreParts, seat: Seat, id: JobId) -> Option<Body>
+    ensures given { IfSome result (λ body. IsHandedOver seat id body state.old state.new) }
+    ensures kept { result ≡ None → Looks 1 state.old state.new }
+{
+    match changes::hand_out(state, seat, id)? {
+        Ok(body) => {
+            changes::give_ticket(state);
+            Some(body)
+        }
         Err(_) => None,
     }
 }
 
-// Makes the client at the seat hold the job, and gives its answer. The ticket of its wait is used
-// up.
-fn hand_over(state: &mut CoreParts, outs: &mut Outs, seat: Seat, id: JobId, body: Body)
-    requires room { length outs.old.given < outs.old.most }
-    ensures after { machine_of state.new ≡ record (with_job id (reserved_by state.old.moment seat) (machine_of state.old))
-        { tickets = raised state.old.tickets } }
-    ensures told { outs.new
-        ≡ record outs.old { given = outs.old.given ++ (seat, answers.Reserved id body) ∷ [] } }
-    ensures asks { Asks 8 state.old.jobs state.new.jobs }
+// Makes the client at the seat hold the job that it gets at once, if there is one, and returns that
+// job's id and another reference to its body. If not, nothing is changed.
+fn take_at_once(state: &mut CoreParts, seat: Seat, what: &Step) -> Option<(JobId, Body)>
+    ensures taken { IfSome result (λ p. TakesAtOnce seat what.now p.0 p.1 state.old state.new) }
+    ensures kept { result ≡ None → Looks 9 state.old state.new }
 {
-    changes::give_ticket(state);
-    let change = JobChange::HandOut(seat, state.moment);
-    changes::change_job(state, id, &change);
-    outs.push(seat, Answer::Reserved(id, body));
+    let id = job_at_once(state, seat, what)?;
+    let body = hand_over(state, seat, id)?;
+    Some((id, body))
 }
 
 /// Carries out the command's own effect and drops tubes that are gone. If the command is a reserve
@@ -433,8 +438,8 @@ pub(crate) fn act_or_hand_out(
     requires room { HasRoom 1 (machine_of state.old) outs.old }
     ensures { ActsOrGives (machine_of state.old) seat what.now outs.old outs.new (machine_of state.new) state.old.jobs state.new.jobs }
 {
-    match job_at_once(state, seat, what) {
-        Some((id, body)) => hand_over(state, outs, seat, id, body),
+    match take_at_once(state, seat, what) {
+        Some((id, body)) => outs.push(seat, Answer::Reserved(id, body)),
         None => {
             acts::act(state, alloc, seat, what, outs);
             changes::forget_tubes(state);

@@ -5,13 +5,12 @@ use Rattle.bq_core.proofs.dispatch.act_or_hand_out.Goals as goal
 
 pub returns-in-Some : goal.returns-in-Some
 returns-in-Some c =
-    let found = c.in-Some.ensures in
-    given_at_once c.args.state.now _ _ (reserves _ _ _ found.may) _ _ _ _ _ _ _ _ found.job found.body found.few
-    (ap machine_held found.kept.same) c.requires.tubes c.hand_over.ensures.after c.hand_over.ensures.told c.hand_over.ensures.asks
+    let taken = c.in-Some.ensures.taken in
+    given_at_once c.args.state.now _ _ (reserves _ _ _ taken.may) _ _ _ _ _ taken c.requires.tubes c.push.ensures
 
 pub returns-in-None : goal.returns-in-None
 returns-in-None c =
-    let looked = c.in-None.ensures.kept in
-    acted_alone c.args.state.now c.job_at_once.new.state c.act.new.state c.forget_tubes.new.state _ _ _ _ _
+    let looked = c.in-None.ensures.kept refl in
+    acted_alone c.args.state.now c.take_at_once.new.state c.act.new.state c.forget_tubes.new.state _ _ _ _ _
     (ap machine_held looked.same, refl, looked.asks) c.act.ensures.acts c.act.ensures.asks c.forget_tubes.ensures.after
     c.forget_tubes.ensures.jobs
