@@ -95,7 +95,7 @@ fn fire_one(state: &mut CoreParts, due: Due)
 }
 
 // Fires all due timers of jobs.
-#[tactic(auto, using(crate::proofs::AskLemmas::asks_more, crate::proofs::AskLemmas::asks_none, crate::proofs::AskLemmas::asks_then))]
+#[tactic(auto, using(crate::proofs::ToldLemmas::loop_asks))]
 fn fire_jobs(state: &mut CoreParts)
     ensures after { HaveFired state.old state.new }
     ensures asks { Asks
@@ -124,7 +124,7 @@ pub(crate) fn state_once_left(state: &CoreParts) -> JobState
 }
 
 /// Brings all jobs that the client at the seat holds into this state.
-#[tactic(auto, using(crate::proofs::AskLemmas::asks_more, crate::proofs::AskLemmas::asks_none, crate::proofs::AskLemmas::asks_then, crate::proofs::FiredTimerLemmas::given_none))]
+#[tactic(auto, using(crate::proofs::ToldLemmas::loop_asks, crate::proofs::FiredTimerLemmas::given_none))]
 pub(crate) fn give_back_all(state: &mut CoreParts, seat: Seat, becomes: JobState)
     requires free { is_reserved becomes ≡ false }
     ensures after { machine_of state.new ≡ after_giving_back becomes seat (machine_of state.old) }
