@@ -2,7 +2,7 @@
 use Rattle.std.proofs.Common.{List, None, Option, Some, [], ap, arith, false, if◌then◌else◌, length, map, not, refl, sym, true, ℕ, ◌&&◌}
 use Rattle.std.proofs.{Common.{◌*◌, ◌++◌, ◌+◌, ◌==◌, ◌∙◌, ◌∷◌, ◌≡◌}, Math.Nat.add-mul, lemmas.Bool.{and_parts, cases_Bool, eqb-true}}
 use Rattle.std.{proofs.lemmas.{Grind.common_steps, Nat.mul-le}, specs.{List.AllByRecursion as All, Prelude.{Ok, fold, option_map}}}
-use Rattle.bq_core.proofs.{ActLemmas.{acts_silent, asking_client, number_found}, AskLemmas.{asks_more, asks_then, search_grows}}
+use Rattle.bq_core.proofs.{ActLemmas.{acts_silent, asking_client, number_found}, AskLemmas.{asks_more, search_grows}}
 use Rattle.bq_core.proofs.{CostLemmas.given_length, DispatchLemmas.{id_of_best, next_is, next_offer, taker_known}}
 use Rattle.bq_core.proofs.{SearchLemmas.{client_entries, client_waits}, StepLemmas.waiting_alike, TurnLemmas.{gives_nothing, shared_given}}
 use Rattle.bq_core.{proofs.TurnLemmas.turn_given, specs.{Acting.Acts, AtOnce.{ActsOrGives, TakesAtOnce, is_reserve, may_take, waiting_at}}}
@@ -10,11 +10,11 @@ use Rattle.bq_core.specs.HandOuts.{handed_to}
 use Rattle.bq_core.specs.Serving.{NoneIsGone}
 use Rattle.bq_core_api.specs.{Cost.changed_jobs, Outbox.Outbox}
 use Rattle.bq_job.{proofs.{KeptLemmas.only_seat, QuietLemmas.forgets_nothing}, specs.{declared.step.Step.Step, machine.DispatchTurn}}
-use Rattle.bq_job.specs.machine.{Machine.Machine, SeatRecord, effect, forgetting, has_refused_share, is_waiting, job_with, later, next_job}
+use Rattle.bq_job.specs.machine.{Machine.Machine, SeatRecord, effect, forgetting, has_refused_share, is_waiting, later, next_job}
 use Rattle.bq_job.specs.machine.{raised, reserved_by, seat_with, silent, waiting_from, with_job, without_wait}
-use Rattle.bq_jobs.specs.{Kept.Kept, Searching.Asks, Seen.IsBodyOf}
+use Rattle.bq_jobs.specs.{Kept.Kept, Searching.Asks}
 use Rattle.bq_state.proofs.{PartsLemmas.numbered_after, WantedLemmas.{known_nothing, known_of_seat, none_known}}
-use Rattle.bq_state.specs.{Asking.{AsksAsChanged, AsksWithin}, CoreParts.{AtSeat, machine_of}, Offers.with_offer}
+use Rattle.bq_state.specs.{Asking.{AsksAsChanged, AsksWithin}, CoreParts.{machine_of}, Offers.with_offer}
 use Rattle.bq_state.specs.{WantedJobs.{AreKnown, is_nothing}, declared.core_parts.CoreParts.CoreParts}
 use Rattle.bq_state.specs.declared.{known.wanted.Wanted.TheVariants.{Client, Nothing}, seats.SeatChange.TheVariants.Wait}
 use Rattle.bq_job.specs.declared.answer.Answer.TheVariants as answers
