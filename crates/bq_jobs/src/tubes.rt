@@ -3,7 +3,7 @@ ghost use Rattle.std.specs.Cmp as Cmp;
 ghost use Rattle.bq_jobs.specs.Names.{name_cmp, name_total, number_in};
 ghost use Rattle.std.proofs.Common.{refl};
 ghost use Rattle.std.specs.Ordering.{as_partial_cmp, eq_by_cmp};
-ghost use Rattle.std.specs.Prelude.{◌≡◌, ◌<◌, ◌≤◌, ◌^◌, [], None, true, get_or, length, IfOk, OnErr, OnOk, Some};
+ghost use Rattle.std.specs.Prelude.{◌≡◌, ◌<◌, ◌≤◌, ◌^◌, ◌∷◌, [], None, true, get_or, length, IfOk, IfSome, OnErr, OnOk, Some};
 ghost use Rattle.std.specs.BTreeMap.{insert_entry};
 ghost use Rattle.std.specs.Cmp.Lexicographic.{slice_cmp};
 ghost use Rattle.std.specs.Ordering.{nat_cmp};
@@ -245,6 +245,7 @@ impl NumberedTubes {
     /// comparison finds that out, and no search is needed.
     pub fn number_of(&self, name: &TubeName, hint: TubeNumber) -> Option<TubeNumber>
         ensures number { option_map number_in result ≡ number_of name.now self.now }
+        ensures alone { IfSome result (λ n. n ≡ number_in n ∷ []) }
         ensures paired { IsPaired self.now }
     {
         if is_named(self.slots.as_slice(), hint.get(), name) {
@@ -258,6 +259,7 @@ impl NumberedTubes {
     #[inline(never)]
     pub(crate) fn search(&self, name: &TubeName) -> Option<TubeNumber>
         ensures number { option_map number_in result ≡ number_of name.now self.now }
+        ensures alone { IfSome result (λ n. n ≡ number_in n ∷ []) }
         ensures paired { IsPaired self.now }
     {
         match self.numbers.peek(name) {

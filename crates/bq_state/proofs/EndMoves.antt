@@ -1,52 +1,97 @@
 -- How the ends of pauses change when a pause changes, or a tube is added or removed.
 use Rattle.std.proofs.Common.{List, None, Option, Some, [], ap, arith, cond, false, if◌then◌else◌, is_some, length, map, refl, sym, true, ℕ}
-use Rattle.std.proofs.{Common.{◌+◌, ◌<◌, ◌∙◌, ◌∷◌, ◌≡◌, ◌≤◌, ◌⊎◌}, lemmas.{Bool.eqb-true, Cmp.nat_list_eq_equiv, Grind.common_steps}}
-use Rattle.std.specs.{Cmp.Lexicographic.{nat_list_cmp_total, slice_cmp}, Map.{lookup, remove_entry}, Option.{ForSome, option_map}}
-use Rattle.std.specs.{Ordering.nat_cmp, Prelude.count_by}
+use Rattle.std.proofs.Common.{◌+◌, ◌<◌, ◌∙◌, ◌∷◌, ◌≡◌, ◌≤◌, ◌⊎◌}
+use Rattle.std.proofs.lemmas.{Bool.{eqb-true, or_parts}, Cmp.nat_list_eq_equiv, Grind.common_steps, List.length-map}
+use Rattle.std.specs.{BTreeMap.insert_entry, Cmp.Lexicographic.{nat_list_cmp_total, slice_cmp}, List.{AllByRecursion as All, list_any}}
+use Rattle.std.specs.{Map.{keys_of, lookup, remove_entry}, Option.{ForSome, option_map}, Ordering.nat_cmp, Prelude.{count_by, nat_le, ◌&&◌}}
 use Rattle.bq_index.{proofs.Order.{length_inserted, length_lost, order_remove}, specs.{Catalog.CatalogSeen, Order.InOrder}}
-use Rattle.bq_job.{proofs.ListLemmas.{all_weaker, list_any_not, map_all_same}, specs.machine.{TubeRecord, fresh_tube, pause_after_timers}}
-use Rattle.bq_job.specs.{machine.{tube_after_timers, with_record}, reading.TubeName.is_same_name}
-use Rattle.bq_jobs.proofs.Choice.{lookup_removed}
-use Rattle.bq_state.proofs.{EndLemmas.{has_entered, has_left, none_over_yet, one_over}, NamedLemmas.{change_kept, edit_change, found_entry}}
-use Rattle.bq_state.proofs.{NamedLemmas.{in_order, ties}, PartsLemmas.tube_name_kept, TubeLemmas.{before_differs, changed_one, order_kept}}
-use Rattle.bq_state.{proofs.TubeLemmas.{same_itself, same_name}, specs.KeptTubes.{KeptTube, Named, edited, ended, is_named_at}}
-use Rattle.bq_state.specs.{KeptTubes.{kept_changed, record_at, record_of, records_ended}, PauseEnds.{AreEnds, Ends, end_cmp, end_of}}
-use Rattle.bq_state.specs.PauseEnds.{ends_at, first_end, found_end, has_end, if_over, is_end_in, is_paused, pause_at, pause_in}
-use Rattle.bq_state.specs.{PauseEnds.{paused_count, with_end, without_end}, TubeEntries.{AreInOrder, has_entry, tube_changed}}
+use Rattle.bq_job.proofs.ListLemmas.{all_weaker, list_any_not, map_all_same}
+use Rattle.bq_job.specs.machine.{Pause, TubeRecord, fresh_tube, pause_after_timers, tube_after_timers, with_record}
+use Rattle.bq_job.specs.reading.TubeName.{is_same_name}
+use Rattle.bq_jobs.{proofs.Choice.lookup_removed, specs.{Names.number_in, Numbering.{Numbering, number_of}, Table.Tabled}}
+use Rattle.bq_state.proofs.EndLemmas.{has_entered, has_left, none_over_yet, one_over, over_in}
+use Rattle.bq_state.proofs.NamedLemmas.{change_kept, edit_change, found_any, found_entry, have_numbers, in_order, ties}
+use Rattle.bq_state.proofs.{NumberLemmas.{number_inserted, number_left, number_read}, PartsLemmas.tube_name_kept}
+use Rattle.bq_state.proofs.TubeLemmas.{before_differs, changed_one, order_kept, same_itself, same_name}
+use Rattle.bq_state.specs.{KeptTubes.{KeptTube, Named, edited, ended, is_named_at, kept_changed, record_at, record_of, records_ended}}
+use Rattle.bq_state.specs.PauseEnds.{AreEnds, AreTold, Ends, IsTold, end_cmp, end_of, ends_at, first_end, found_end, has_end, if_over}
+use Rattle.bq_state.specs.PauseEnds.{is_end_in, is_paused, number_at, pause_at, pause_in, paused_count, with_end, without_end}
+use Rattle.bq_state.specs.TubeEntries.{AreInOrder, has_entry, tube_changed}
 use Rattle.bq_state.specs.declared.tubes.{entry.TubeChange.{TheVariants.{CountDelete, CountPut}, TubeChange}, pauses.PauseEnd.PauseEnd}
 
--- At most the pause of the tube with this name changes.
-pub record Moves (name : List ℕ) (es last : List Named) : Type 0 where
-  pub was : InOrder (slice_cmp nat_cmp) es
-  pub is : AreInOrder (map record_at last)
-  pub others : (k : List ℕ) → is_same_name name k ≡ false → pause_at k (map record_at last) ≡ pause_at k (map record_at es)
-  pub count : paused_count last + cond (is_some (pause_at name (map record_at es))) 1 0
-      ≡ paused_count es + cond (is_some (pause_at name (map record_at last))) 1 0
-  pub fewer : length (map record_at last) ≤ length (map record_at es)
+abbrev records : Tabled KeptTube → List TubeRecord
+records kept = map record_at kept.entries
 
--- Names are in order, so only one tube has a name.
-named_ends : (e : PauseEnd) (ts : List TubeRecord) → AreInOrder ts → is_end_in e ts ≡ ends_at e.until (pause_at e.name ts)
-named_ends e [] order = refl
-named_ends e (t ∷ ts) order = grind (arith, same_name e.name t.name, before_differs, list_any_not, all_weaker, named_ends e ts order.1)
+-- At most the pause of the tube with this number changes.
+pub record Moves (number : List ℕ) (from to : Option Pause) (kept last : Tabled KeptTube) : Type 0 where
+  pub was : (until : ℕ) → is_end_in kept.numbers (record { until = until; number = number }) (records kept) ≡ ends_at until from
+  pub is : (until : ℕ) → is_end_in last.numbers (record { until = until; number = number }) (records last) ≡ ends_at until to
+  pub others : (q : PauseEnd) → is_same_name number q.number ≡ false
+      → is_end_in last.numbers q (records last) ≡ is_end_in kept.numbers q (records kept)
+  pub count : paused_count last.entries + cond (is_some from) 1 0 ≡ paused_count kept.entries + cond (is_some to) 1 0
+  pub fewer : length last.entries ≤ length kept.entries
+
+module _ (name : List ℕ) (numbers : List (List ℕ × ℕ)) where
+  -- Numbers tell the tubes apart, and names are in order, so only one tube has a number.
+  by_name : (until : ℕ) (ts : List TubeRecord) → All (IsTold numbers name) ts
+      → is_end_in numbers (record { until = until; number = number_at name numbers }) ts
+      ≡ list_any (λ t. is_same_name name t.name && ends_at until t.pause) ts
+  by_name until [] told = refl
+  by_name until (t ∷ ts) told = grind (arith, by_name until ts told.1)
+
+  one_named : (until : ℕ) (ts : List TubeRecord) → AreInOrder ts
+      → list_any (λ t. is_same_name name t.name && ends_at until t.pause) ts ≡ ends_at until (pause_at name ts)
+  one_named until [] order = refl
+  one_named until (t ∷ ts) order =
+      grind (arith, same_name name t.name, before_differs, list_any_not, all_weaker, one_named until ts order.1)
+
+  named_ends : (until : ℕ) (ts : List TubeRecord) → AreInOrder ts → All (IsTold numbers name) ts
+      → is_end_in numbers (record { until = until; number = number_at name numbers }) ts ≡ ends_at until (pause_at name ts)
+  named_ends until ts order told = by_name until ts told ∙ one_named until ts order
 
 -- the pause of an entry that was looked up
 pub pause_is : (name : List ℕ) (es : List Named)
     → pause_at name (map record_at es) ≡ pause_in (option_map (record_of name) (lookup (is_named_at name) es))
 pause_is name es = ap pause_in (sym (found_entry name es))
 
+-- the end of the pause of a tube that was looked up
+pub no_end : (name : List ℕ) (kept : Tabled KeptTube) (k : Numbering) (r : Option (List ℕ)) → option_map number_in r ≡ number_of name k
+    → k.numbers ≡ kept.numbers → keys_of kept.entries ≡ keys_of kept.numbers → r ≡ None
+    → None ≡ end_of (number_at name kept.numbers) (pause_at name (map record_at kept.entries))
+no_end name kept k r is same keys none =
+    let absent : lookup (is_named_at name) kept.numbers ≡ None =
+    ap (lookup (is_named_at name)) (sym same) ∙ sym is ∙ ap (option_map number_in) none in
+    let gone = have_numbers kept.entries kept.numbers keys name in
+    let found = found_any name kept.entries in
+    grind (arith, common_steps, pause_is name kept.entries)
+
+pub some_end : (name : List ℕ) (kept : Tabled KeptTube) (k : Numbering) (n : List ℕ) (t : KeptTube) (r : Option PauseEnd)
+    → n ≡ number_in n ∷ [] → Some (number_in n) ≡ number_of name k → k.numbers ≡ kept.numbers
+    → Some t ≡ lookup (is_named_at name) kept.entries → r ≡ end_of n t.pause
+    → r ≡ end_of (number_at name kept.numbers) (pause_at name (map record_at kept.entries))
+some_end name kept k n t r alone is same found end =
+    end ∙ ap (λ m. end_of m t.pause) (number_read name kept.numbers n alone (is ∙ ap (lookup (is_named_at name)) same))
+    ∙ ap (end_of (number_at name kept.numbers))
+    (ap (λ o. pause_in (option_map (record_of name) o)) found ∙ sym (pause_is name kept.entries))
+
 -- The end of a tube's pause is one of the ends.
-pub end_held : (name : List ℕ) (es : List Named) (ends : CatalogSeen PauseEnd (Unit {0})) (from : Option PauseEnd)
-    → AreEnds (map record_at es) ends → InOrder (slice_cmp nat_cmp) es → from ≡ end_of name (pause_at name (map record_at es))
+pub end_held : (name : List ℕ) (kept : Tabled KeptTube) (ends : CatalogSeen PauseEnd (Unit {0})) (from : Option PauseEnd)
+    → AreEnds kept ends → InOrder (slice_cmp nat_cmp) kept.entries → AreTold kept
+    → from ≡ end_of (number_at name kept.numbers) (pause_at name (map record_at kept.entries))
     → ForSome from (λ e. has_end e ends.entries ≡ true)
-end_held name es ends from h order was e is = grind (arith, common_steps, named_ends, in_order)
+end_held name kept ends from h order told was e is =
+    grind (arith, common_steps, h.known e, named_ends name kept.numbers e.until (records kept) (in_order kept.entries order) (told name))
 
 -- The end of the pause is removed, and that of the new pause is added.
-module _ (name : List ℕ) (es new : List Named) (ends mid : CatalogSeen PauseEnd (Unit {0})) (from to : Option PauseEnd)
-    (h : AreEnds (map record_at es) ends) (m : Moves name es new) (was : from ≡ end_of name (pause_at name (map record_at es)))
-    (is : to ≡ end_of name (pause_at name (map record_at new))) (left : mid.entries ≡ without_end from ends.entries)
+module _ (number : List ℕ) (old next : Option Pause) (kept new : Tabled KeptTube) (ends mid : CatalogSeen PauseEnd (Unit {0}))
+    (from to : Option PauseEnd) (h : AreEnds kept ends) (m : Moves number old next kept new) (was : from ≡ end_of number old)
+    (is : to ≡ end_of number next) (left : mid.entries ≡ without_end from ends.entries)
     (s : ForSome from (λ _. InOrder end_cmp ends.entries)) (spare : mid.spare ≡ ends.spare + cond (is_some from) 1 0) where
-  known_left : (q : PauseEnd) → has_end q mid.entries ≡ (if is_same_name name q.name then false else has_end q ends.entries)
-  known_left q = grind (arith, common_steps, has_left, named_ends, in_order, same_name name q.name)
+  from_held : ForSome from (λ e. has_end e ends.entries ≡ true)
+  from_held e some = grind (arith, common_steps, h.known e, m.was e.until)
+
+  known_left : (q : PauseEnd) → has_end q mid.entries ≡ (if is_same_name number q.number then false else has_end q ends.entries)
+  known_left q = grind (arith, common_steps, has_left, h.known q, m.was q.until, same_name number q.number)
 
   -- There is a box for the new end,
   pub end_fits : ForSome to (λ _. 0 < mid.spare)
@@ -56,20 +101,49 @@ module _ (name : List ℕ) (es new : List Named) (ends mid : CatalogSeen PauseEn
   pub end_absent : ForSome to (λ e. found_end e mid.entries ≡ None)
   end_absent e some = grind (arith, common_steps, known_left, same_itself)
 
-  known_last : (last : Ends) → last ≡ with_end to mid.entries → (q : PauseEnd) → has_end q last ≡ is_end_in q (map record_at new)
-  known_last last e q = grind (arith, common_steps, has_entered, end_absent, same_name name q.name, named_ends, in_order, known_left)
+  known_last : (last : Ends) → last ≡ with_end to mid.entries → (q : PauseEnd)
+      → has_end q last ≡ is_end_in new.numbers q (map record_at new.entries)
+  known_last last e q =
+      grind (arith, common_steps, has_entered, end_absent, same_name number q.number, m.is q.until, m.others q, known_left)
 
   -- and the ends are again those of the pauses.
   pub ends_moved : (last : CatalogSeen PauseEnd (Unit {0})) → last.entries ≡ with_end to mid.entries
-      → last.spare + cond (is_some to) 1 0 ≡ mid.spare → AreEnds (map record_at new) last
-  ends_moved last entries rest = grind (arith, common_steps, known_last, length_inserted, end_absent, length_lost, end_held)
+      → last.spare + cond (is_some to) 1 0 ≡ mid.spare → AreEnds new last
+  ends_moved last entries rest =
+      grind (arith, common_steps, known_last, length_inserted, end_absent, length_lost, from_held, m.count, m.fewer)
 
 -- the tube's pause changes
 module _ (name : List ℕ) (f : TubeRecord → TubeRecord) (keeps : (t : TubeRecord) → (f t).name ≡ t.name) where
-  others_changed : (k : List ℕ) → is_same_name name k ≡ false → (ts : List TubeRecord)
-      → pause_at k (map (changed_one name f) ts) ≡ pause_at k ts
-  others_changed k other [] = refl
-  others_changed k other (t ∷ ts) = grind (arith, same_name, nat_list_eq_equiv.symm, others_changed k other ts)
+  name_kept : (t : TubeRecord) → (changed_one name f t).name ≡ t.name
+  name_kept t = grind (arith, common_steps, keeps t)
+
+  module _ (numbers : List (List ℕ × ℕ)) where
+    others_changed : (q : PauseEnd) → is_same_name (number_at name numbers) q.number ≡ false
+        → (ts : List TubeRecord) → is_end_in numbers q (map (changed_one name f) ts) ≡ is_end_in numbers q ts
+    others_changed q other [] = refl
+    others_changed q other (t ∷ ts) = grind (
+      arith,
+      common_steps,
+      same_name name t.name,
+      nat_list_eq_equiv.symm (number_at name numbers) q.number,
+      keeps t,
+      others_changed q other ts,
+    )
+
+    told_changed : (ts : List TubeRecord) → All (IsTold numbers name) ts → All (IsTold numbers name) (map (changed_one name f) ts)
+    told_changed [] told = tt
+    told_changed (t ∷ ts) told = (rw (name_kept t) told.0, told_changed ts told.1)
+
+    -- If the change keeps the pauses, it keeps their ends.
+    same_ends : ((t : TubeRecord) → (f t).pause ≡ t.pause) → (q : PauseEnd) (ts : List TubeRecord)
+        → is_end_in numbers q (map (changed_one name f) ts) ≡ is_end_in numbers q ts
+    same_ends paused q [] = refl
+    same_ends paused q (t ∷ ts) = grind (arith, common_steps, keeps t, paused t, same_ends paused q ts)
+
+  same_count : ((t : TubeRecord) → (f t).pause ≡ t.pause) → (ts : List TubeRecord)
+      → count_by is_paused (map (changed_one name f) ts) ≡ count_by is_paused ts
+  same_count paused [] = refl
+  same_count paused (t ∷ ts) = grind (arith, common_steps, paused t, same_count paused ts)
 
   count_changed : (ts : List TubeRecord) → AreInOrder ts
       → count_by is_paused (map (changed_one name f) ts) + cond (is_some (pause_at name ts)) 1 0
@@ -78,73 +152,150 @@ module _ (name : List ℕ) (f : TubeRecord → TubeRecord) (keeps : (t : TubeRec
   count_changed (t ∷ ts) order =
       grind (arith, common_steps, same_name name t.name, before_differs, map_all_same, all_weaker, count_changed ts order.1)
 
--- the tube is removed
+-- the tube is removed or added
 module _ (name : List ℕ) where
-  pause_left : (k : List ℕ) (es : List Named) → InOrder (slice_cmp nat_cmp) es
-      → pause_at k (map record_at (remove_entry (is_named_at name) es))
-      ≡ (if is_same_name name k then None else pause_at k (map record_at es))
-  pause_left k es order =
-      let gone = lookup_removed {V = KeptTube} nat_list_cmp_total k name es order in
-      grind (arith, common_steps, ties name k, pause_is)
+  -- The other tubes keep their numbers.
+  renumbered : (numbers new : List (List ℕ × ℕ)) → ((k : List ℕ) → is_same_name name k ≡ false → number_at k new ≡ number_at k numbers)
+      → (q : PauseEnd) (ts : List TubeRecord) → has_entry name ts ≡ false → is_end_in new q ts ≡ is_end_in numbers q ts
+  renumbered numbers new same q [] none = refl
+  renumbered numbers new same q (t ∷ ts) none =
+      let parts = or_parts (is_same_name name t.name) (has_entry name ts) none in
+      grind (arith, same t.name parts.0, renumbered numbers new same q ts parts.1)
 
-  count_left : (es : List Named)
-      → paused_count (remove_entry (is_named_at name) es) + cond (is_some (pause_at name (map record_at es))) 1 0 ≡ paused_count es
+  abbrev left : List Named → List Named
+  left es = remove_entry (is_named_at name) es
+
+  abbrev numbers_left : List (List ℕ × ℕ) → List (List ℕ × ℕ)
+  numbers_left numbers = remove_entry (is_named_at name) numbers
+
+  none_left : (es : List Named) → InOrder (slice_cmp nat_cmp) es → lookup (is_named_at name) (left es) ≡ None
+  none_left es order = lookup_removed {V = KeptTube} nat_list_cmp_total name name es order
+      ∙ ap (λ b. cond b None (lookup (is_named_at name) es)) (ties name name ∙ same_itself name)
+
+  no_entry_left : (es : List Named) → InOrder (slice_cmp nat_cmp) es → has_entry name (map record_at (left es)) ≡ false
+  no_entry_left es order = sym (found_any name (left es)) ∙ ap is_some (none_left es order)
+
+  others_left : (numbers : List (List ℕ × ℕ)) (q : PauseEnd) → is_same_name (number_at name numbers) q.number ≡ false
+      → (es : List Named) → is_end_in numbers q (map record_at (left es)) ≡ is_end_in numbers q (map record_at es)
+  others_left numbers q other [] = refl
+  others_left numbers q other (x ∷ es) = grind (
+    arith,
+    common_steps,
+    ties name x.0,
+    same_name name x.0,
+    nat_list_eq_equiv.symm (number_at name numbers) q.number,
+    others_left numbers q other es,
+  )
+
+  renumbered_left : (numbers : List (List ℕ × ℕ)) (es : List Named) → InOrder (slice_cmp nat_cmp) es → (q : PauseEnd)
+      → is_end_in (numbers_left numbers) q (map record_at (left es)) ≡ is_end_in numbers q (map record_at (left es))
+  renumbered_left numbers es order q = renumbered numbers (numbers_left numbers) (λ k other. number_left name k other numbers) q
+      (map record_at (left es)) (no_entry_left es order)
+
+  told_left : (numbers : List (List ℕ × ℕ)) (es : List Named) → All (IsTold numbers name) (map record_at es)
+      → All (IsTold numbers name) (map record_at (left es))
+  told_left numbers [] told = tt
+  told_left numbers (x ∷ es) told = grind (arith, told_left numbers es told.1)
+
+  is_left : (numbers : List (List ℕ × ℕ)) (es : List Named) → InOrder (slice_cmp nat_cmp) es → All (IsTold numbers name) (map record_at es)
+      → (until : ℕ)
+      → is_end_in (numbers_left numbers) (record { until = until; number = number_at name numbers }) (map record_at (left es)) ≡ false
+  is_left numbers es order told until =
+      renumbered_left numbers es order (record { until = until; number = number_at name numbers })
+      ∙ named_ends name numbers until (map record_at (left es))
+      (in_order (left es) (order_remove (slice_cmp nat_cmp) (is_named_at name) es order))
+      (told_left numbers es told)
+      ∙ ap (ends_at until) (pause_is name (left es) ∙ ap (λ o. pause_in (option_map (record_of name) o)) (none_left es order))
+
+  count_left : (es : List Named) → paused_count (left es) + cond (is_some (pause_at name (map record_at es))) 1 0 ≡ paused_count es + 0
   count_left [] = refl
-  count_left (x ∷ es) = grind (arith, common_steps, ties, count_left es)
+  count_left (x ∷ es) = grind (arith, common_steps, ties name x.0, count_left es)
 
-  pub moves_left : (es last : List Named) → InOrder (slice_cmp nat_cmp) es → last ≡ remove_entry (is_named_at name) es → Moves name es last
-  moves_left es last order e =
-      let fewer = length_lost (is_named_at name) es (lookup (is_named_at name) es) refl in
-      grind (arith, common_steps, in_order, order_remove, pause_left, count_left, same_itself)
+  fewer_left : (es : List Named) → length (left es) ≤ length es
+  fewer_left es = let fewer = length_lost (is_named_at name) es (lookup (is_named_at name) es) refl in omega (arith, fewer)
 
-  pub none_left : (es last : List Named) → InOrder (slice_cmp nat_cmp) es → last ≡ remove_entry (is_named_at name) es
-      → None ≡ end_of name (pause_at name (map record_at last))
-  none_left es last order e = grind (arith, common_steps, pause_left, same_itself)
+  pub moves_left : (kept last : Tabled KeptTube) → InOrder (slice_cmp nat_cmp) kept.entries → AreTold kept
+      → last.entries ≡ remove_entry (is_named_at name) kept.entries → last.numbers ≡ remove_entry (is_named_at name) kept.numbers
+      → Moves (number_at name kept.numbers) (pause_at name (map record_at kept.entries)) None kept last
+  moves_left kept last order told e n = record {
+    was = λ until. named_ends name kept.numbers until (map record_at kept.entries) (in_order kept.entries order) (told name);
+    is = λ until. rw (e, n) (is_left kept.numbers kept.entries order (told name) until);
+    others = λ q other. rw (e, n) (renumbered_left kept.numbers kept.entries order q ∙ others_left kept.numbers q other kept.entries);
+    count = rw e (count_left kept.entries);
+    fewer = rw e (fewer_left kept.entries);
+  }
 
-  -- the tube is added
-  fresh : (ts : List TubeRecord) → has_entry name ts ≡ false
-      → ((e : PauseEnd) → is_end_in e (with_record (fresh_tube name) ts) ≡ is_end_in e ts)
+  fresh : (numbers : List (List ℕ × ℕ)) (ts : List TubeRecord) → has_entry name ts ≡ false
+      → ((q : PauseEnd) → is_end_in numbers q (with_record (fresh_tube name) ts) ≡ is_end_in numbers q ts)
       × (count_by is_paused (with_record (fresh_tube name) ts) ≡ count_by is_paused ts)
       × (length (with_record (fresh_tube name) ts) ≡ length ts + 1)
-  fresh [] h = (λ e. grind (arith, common_steps), refl, refl)
-  fresh (t ∷ ts) h = grind (arith, common_steps, fresh ts)
+  fresh numbers [] h = (λ q. grind (arith, common_steps), refl, refl)
+  fresh numbers (t ∷ ts) h = grind (arith, common_steps, fresh numbers ts)
 
-  pub ends_provided : (ts : List TubeRecord) (ends last : CatalogSeen PauseEnd (Unit {0})) → AreEnds ts ends → has_entry name ts ≡ false
-      → last.entries ≡ ends.entries → length ts + 1 ≤ length last.entries + last.spare → AreEnds (with_record (fresh_tube name) ts) last
-  ends_provided ts ends last h none same room = grind (arith, fresh)
+  pub ends_provided : (n : ℕ) (kept new : Tabled KeptTube) (ends last : CatalogSeen PauseEnd (Unit {0})) → AreEnds kept ends
+      → has_entry name (map record_at kept.entries) ≡ false
+      → map record_at new.entries ≡ with_record (fresh_tube name) (map record_at kept.entries)
+      → new.numbers ≡ insert_entry (slice_cmp nat_cmp) kept.numbers name n
+      → last.entries ≡ ends.entries → length kept.entries + 1 ≤ length last.entries + last.spare → AreEnds new last
+  ends_provided n kept new ends last h none e numbers same room =
+      let parts = fresh (insert_entry (slice_cmp nat_cmp) kept.numbers name n) (map record_at kept.entries) none in
+      let many : length new.entries ≡ length kept.entries + 1 =
+      sym (length-map new.entries record_at) ∙ ap length e ∙ parts.2 ∙ ap (λ m. m + 1) (length-map kept.entries record_at) in
+      record {
+        known = λ q. rw (same, e, numbers) (h.known q ∙ sym (parts.0 q
+            ∙ renumbered kept.numbers (insert_entry (slice_cmp nat_cmp) kept.numbers name n)
+            (λ k other. number_inserted name k other n kept.numbers) q (map record_at kept.entries) none));
+        counted = rw (same, e) (h.counted ∙ sym parts.1);
+        roomy = rw many room;
+      }
 
 -- A change of what is kept about one tube, as an entry and as a record.
 module _ (name : List ℕ) (f : KeptTube → KeptTube) (g : TubeRecord → TubeRecord)
     (made : (n : List ℕ) (t : KeptTube) → record_of n (f t) ≡ g (record_of n t)) (keeps : (t : TubeRecord) → (g t).name ≡ t.name)
-    (es last : List Named) (order : AreInOrder (map record_at es)) (e : last ≡ edited name f (lookup (is_named_at name) es) es) where
-  edit_is : map record_at last ≡ map (changed_one name g) (map record_at es)
-  edit_is = ap (map record_at) e ∙ edit_change name f g made es order
+    (kept last : Tabled KeptTube) (order : InOrder (slice_cmp nat_cmp) kept.entries) (n : last.numbers ≡ kept.numbers)
+    (e : last.entries ≡ edited name f (lookup (is_named_at name) kept.entries) kept.entries) where
+  edit_is : map record_at last.entries ≡ map (changed_one name g) (map record_at kept.entries)
+  edit_is = ap (map record_at) e ∙ edit_change name f g made kept.entries (in_order kept.entries order)
 
-  pub edit_moves : InOrder (slice_cmp nat_cmp) es → Moves name es last
-  edit_moves s = grind (arith, common_steps, edit_is, others_changed, order_kept, count_changed)
+  as_many : length last.entries ≡ length kept.entries
+  as_many = sym (length-map last.entries record_at) ∙ ap length edit_is ∙ length-map (map record_at kept.entries) (changed_one name g)
+      ∙ length-map kept.entries record_at
 
-  -- If no pause changes, the ends stay the same.
-  same_ends : ((t : TubeRecord) → (g t).pause ≡ t.pause) → (q : PauseEnd) (ts : List TubeRecord)
-      → is_end_in q (map (changed_one name g) ts) ≡ is_end_in q ts
-  same_ends paused q [] = refl
-  same_ends paused q (t ∷ ts) = grind (arith, common_steps, same_ends paused q ts)
+  pub edit_moves : AreTold kept → Moves (number_at name kept.numbers) (pause_at name (map record_at kept.entries))
+      (pause_at name (map record_at last.entries)) kept last
+  edit_moves told =
+      let ts = map record_at kept.entries in
+      let sorted = in_order kept.entries order in
+      record {
+        was = λ until. named_ends name kept.numbers until ts sorted (told name);
+        is = λ until. rw (n, edit_is) (named_ends name kept.numbers until (map (changed_one name g) ts)
+            (order_kept (changed_one name g) (name_kept name g keeps) ts sorted) (told_changed name g keeps kept.numbers ts (told name)));
+        others = λ q other. rw (n, edit_is) (others_changed name g keeps kept.numbers q other ts);
+        count = rw edit_is (count_changed name g keeps ts sorted);
+        fewer = omega (arith, as_many);
+      }
 
-  pub edit_stays : ((t : TubeRecord) → (g t).pause ≡ t.pause) → (ends : CatalogSeen PauseEnd (Unit {0})) → AreEnds (map record_at es) ends
-      → AreEnds (map record_at last) ends
-  edit_stays paused ends h = grind (arith, common_steps, edit_is, same_ends)
+  pub edit_stays : ((t : TubeRecord) → (g t).pause ≡ t.pause) → (ends : CatalogSeen PauseEnd (Unit {0})) → AreEnds kept ends
+      → AreEnds last ends
+  edit_stays paused ends h = record {
+    known = λ q. rw (n, edit_is) (h.known q ∙ sym (same_ends name g keeps kept.numbers paused q (map record_at kept.entries)));
+    counted = rw edit_is (h.counted ∙ sym (same_count name g keeps paused (map record_at kept.entries)));
+    roomy = rw as_many h.roomy;
+  }
 
 -- How a pause changes, and a count.
-pub change_moves : (name : List ℕ) (what : TubeChange) (es last : List Named) → InOrder (slice_cmp nat_cmp) es
-    → last ≡ edited name (kept_changed what) (lookup (is_named_at name) es) es → Moves name es last
-change_moves name what es last order e = edit_moves name (kept_changed what) (tube_changed what) (change_kept what)
-    (tube_name_kept what) es last (in_order es order) e order
+pub change_moves : (name : List ℕ) (what : TubeChange) (kept last : Tabled KeptTube) → InOrder (slice_cmp nat_cmp) kept.entries
+    → last.numbers ≡ kept.numbers → last.entries ≡ edited name (kept_changed what) (lookup (is_named_at name) kept.entries) kept.entries
+    → AreTold kept → Moves (number_at name kept.numbers) (pause_at name (map record_at kept.entries))
+    (pause_at name (map record_at last.entries)) kept last
+change_moves name what = edit_moves name (kept_changed what) (tube_changed what) (change_kept what) (tube_name_kept what)
 
-pub count_stays : (name : List ℕ) (what : TubeChange) (es last : List Named) (ends : CatalogSeen PauseEnd (Unit {0}))
-    → (what ≡ CountPut) ⊎ (what ≡ CountDelete) → InOrder (slice_cmp nat_cmp) es
-    → last ≡ edited name (kept_changed what) (lookup (is_named_at name) es) es
-    → AreEnds (map record_at es) ends → AreEnds (map record_at last) ends
-count_stays name what es last ends counts order e h = edit_stays name (kept_changed what) (tube_changed what) (change_kept what)
-    (tube_name_kept what) es last (in_order es order) e (λ t. grind (arith, common_steps)) ends h
+pub count_stays : (name : List ℕ) (what : TubeChange) (kept last : Tabled KeptTube) (ends : CatalogSeen PauseEnd (Unit {0}))
+    → (what ≡ CountPut) ⊎ (what ≡ CountDelete) → InOrder (slice_cmp nat_cmp) kept.entries → last.numbers ≡ kept.numbers
+    → last.entries ≡ edited name (kept_changed what) (lookup (is_named_at name) kept.entries) kept.entries
+    → AreEnds kept ends → AreEnds last ends
+count_stays name what kept last ends counts order n e h = edit_stays name (kept_changed what) (tube_changed what) (change_kept what)
+    (tube_name_kept what) kept last order n e (λ t. grind (arith, common_steps)) ends h
 
 -- A pause that is due ends.
 module _ (moment : ℕ) (name : List ℕ) where
@@ -158,32 +309,52 @@ module _ (moment : ℕ) (name : List ℕ) where
   pause_then [] = refl
   pause_then (t ∷ ts) = grind (arith, pause_then ts)
 
+-- the end of a pause that is due, and of one that has ended
+from_at : (until : ℕ) (number : List ℕ) (p : Option Pause) → ends_at until p ≡ true
+    → Some (record { until = until; number = number }) ≡ end_of number p
+from_at until number None h = absurd cc
+from_at until number (Some p) h = grind (arith, common_steps, eqb-true)
+
+to_at : (moment : ℕ) (number : List ℕ) (e : PauseEnd) (p : Option Pause) → Some e ≡ end_of number p → nat_le e.until moment ≡ true
+    → None ≡ end_of number (pause_after_timers moment p)
+to_at moment number e None is h = refl
+to_at moment number e (Some p) is h = grind (arith, common_steps)
+
 -- the first end, which is due
-module _ (moment : ℕ) (e : PauseEnd) (es last : List Named) (ends : CatalogSeen PauseEnd (Unit {0})) (h : AreEnds (map record_at es) ends)
-    (order : InOrder (slice_cmp nat_cmp) es) (come : Some e ≡ if_over moment (first_end ends.entries))
-    (edit : last ≡ edited e.name (ended moment) (lookup (is_named_at e.name) es) es) where
-  last_is : map record_at last ≡ map (changed_one e.name (tube_after_timers moment)) (map record_at es)
-  last_is = edit_is e.name (ended moment) (tube_after_timers moment) (λ n t. refl) (λ t. refl) es last (in_order es order) edit
+module _ (moment : ℕ) (e : PauseEnd) (name : List ℕ) (kept last : Tabled KeptTube) (ends : CatalogSeen PauseEnd (Unit {0}))
+    (h : AreEnds kept ends) (order : InOrder (slice_cmp nat_cmp) kept.entries) (told : AreTold kept)
+    (come : Some e ≡ if_over moment (first_end ends.entries)) (own : e.number ≡ number_at name kept.numbers)
+    (n : last.numbers ≡ kept.numbers)
+    (edit : last.entries ≡ edited name (ended moment) (lookup (is_named_at name) kept.entries) kept.entries) where
+  last_is : map record_at last.entries ≡ map (changed_one name (tube_after_timers moment)) (map record_at kept.entries)
+  last_is = edit_is name (ended moment) (tube_after_timers moment) (λ n t. refl) (λ t. refl) kept last order n edit
 
-  over_from : Some e ≡ end_of e.name (pause_at e.name (map record_at es))
-  over_from = grind (arith, common_steps, eqb-true, named_ends e (map record_at es) (in_order es order), one_over)
+  over_from : Some e ≡ end_of (number_at name kept.numbers) (pause_at name (map record_at kept.entries))
+  over_from =
+      let same : e ≡ record { until = e.until; number = number_at name kept.numbers } = λ i. record { until = e.until; number = own i } in
+      ap Some same ∙ from_at e.until (number_at name kept.numbers) (pause_at name (map record_at kept.entries))
+      (sym (named_ends name kept.numbers e.until (map record_at kept.entries) (in_order kept.entries order) (told name))
+      ∙ ap (λ (q : PauseEnd). is_end_in kept.numbers q (map record_at kept.entries)) (sym same)
+      ∙ sym (h.known e) ∙ (one_over moment e ends.entries come).0)
 
-  over_to : None ≡ end_of e.name (pause_at e.name (map record_at last))
-  over_to = grind (arith, last_is, pause_then, over_from, one_over)
+  over_to : None ≡ end_of (number_at name kept.numbers) (pause_at name (map record_at last.entries))
+  over_to = rw (last_is, pause_then moment name (map record_at kept.entries)) (to_at moment (number_at name kept.numbers) e
+      (pause_at name (map record_at kept.entries)) over_from (one_over moment e ends.entries come).1)
 
-  over_moves : Moves e.name es last
-  over_moves = edit_moves e.name (ended moment) (tube_after_timers moment) (λ n t. refl) (λ t. refl) _ _ (in_order _ order) edit order
+  over_moves : Moves (number_at name kept.numbers) (pause_at name (map record_at kept.entries)) (pause_at name (map record_at last.entries))
+      kept last
+  over_moves = edit_moves name (ended moment) (tube_after_timers moment) (λ n t. refl) (λ t. refl) kept last order n edit told
 
-  pub over_fewer : paused_count last < paused_count es
-  over_fewer = grind (arith, common_steps, over_moves, over_from, over_to)
+  pub over_fewer : paused_count last.entries < paused_count kept.entries
+  over_fewer = grind (arith, common_steps, over_moves.count, over_from, over_to)
 
   pub over_ends : (mid : CatalogSeen PauseEnd (Unit {0})) → mid.entries ≡ without_end (Some e) ends.entries
-      → InOrder end_cmp ends.entries → mid.spare ≡ ends.spare + 1 → AreEnds (map record_at last) mid
-  over_ends mid left s spare = ends_moved e.name es last ends mid (Some e) None h over_moves over_from over_to left (λ _ _. s) spare mid
-      refl (omega arith)
+      → InOrder end_cmp ends.entries → mid.spare ≡ ends.spare + 1 → AreEnds last mid
+  over_ends mid left s spare = ends_moved (number_at name kept.numbers) _ _ kept last ends mid (Some e) None h over_moves over_from over_to
+      left (λ _ _. s) spare mid refl (omega arith)
 
-  pub over_records : records_ended moment last ≡ records_ended moment es
+  pub over_records : records_ended moment last.entries ≡ records_ended moment kept.entries
   over_records = grind (arith, last_is, one_after)
 
 -- facts about the end of the first pause, under a name that an attribute can cite
-pub ruleset first_ended = (common_steps, one_over, none_over_yet, over_records, over_fewer)
+pub ruleset first_ended = (common_steps, over_in, none_over_yet)

@@ -17,6 +17,7 @@ pub mod MaybeGoneLemmas
 pub mod MovedLemmas
 pub mod NameLemmas
 pub mod NamedLemmas
+pub mod NumberLemmas
 pub mod PartsLemmas
 pub mod PauseLemmas
 pub mod PausedLemmas

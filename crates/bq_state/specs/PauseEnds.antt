@@ -1,18 +1,19 @@
--- The ordered ends of the pauses of tubes.
+-- The ordered ends of the pauses of tubes. An end has the number of its tube.
 use Rattle.std.specs.{BTreeMap.{insert_entry, is_at}, Cmp.{IsTotalOrder, nat_cmp_total, on_total, then_total}}
-use Rattle.std.specs.{Cmp.Lexicographic.{nat_list_cmp_total, slice_cmp}, List.list_any, Map.{lookup, remove_entry}, Ordering.{nat_cmp, on}}
+use Rattle.std.specs.{List.{AllByRecursion, list_any}, Map.{lookup, remove_entry}, Ordering.{nat_cmp, on}}
 use Rattle.std.specs.{Ordering.then_cmp, Prelude.{Bool, List, None, Option, Some, [], count_by, false, find, if◌then◌else◌, is_some}}
 use Rattle.std.specs.{Prelude.{length, map, nat_le, ℕ, ◌&&◌, ◌+◌, ◌==◌, ◌∷◌, ◌≡◌, ◌≤◌}, declared.cmp.Ordering.Ordering}
 use Rattle.bq_index.specs.Catalog.{CatalogSeen}
 use Rattle.bq_job.specs.{machine.{Pause, TubeRecord}, reading.TubeName.is_same_name}
-use Rattle.bq_state.specs.{KeptTubes.{Named, record_at}, declared.tubes.pauses.PauseEnd.PauseEnd}
+use Rattle.bq_jobs.specs.{Names.{name_cmp, name_total}, Table.Tabled}
+use Rattle.bq_state.specs.{KeptTubes.{KeptTube, Named, is_named_at, record_at}, declared.tubes.pauses.PauseEnd.PauseEnd}
 
--- by moment, then by name
+-- by moment, then by number
 abbrev pub end_cmp : PauseEnd → PauseEnd → Ordering
-end_cmp = then_cmp (on (λ e. e.until) nat_cmp) (on (λ e. e.name) (slice_cmp nat_cmp))
+end_cmp = then_cmp (on (λ e. e.until) nat_cmp) (on (λ e. e.number) name_cmp)
 
 pub end_total : IsTotalOrder end_cmp
-end_total = then_total (on_total (λ e. e.until) nat_cmp_total) (on_total (λ e. e.name) nat_list_cmp_total)
+end_total = then_total (on_total (λ e. e.until) nat_cmp_total) (on_total (λ e. e.number) name_total)
 
 -- ends as they are in a shelf
 abbrev pub Ends : Type 0
@@ -43,10 +44,18 @@ abbrev pub without_end : Option PauseEnd → Ends → Ends
 without_end None ends = ends
 without_end (Some e) ends = remove_entry (is_at (end_cmp e)) ends
 
--- the end of the pause of the tube of this name, if it has one
+-- the end of the pause of the tube with this number, if it has one
 abbrev pub end_of : List ℕ → Option Pause → Option PauseEnd
-end_of name None = None
-end_of name (Some pause) = Some (record { until = pause.until; name = name })
+end_of number None = None
+end_of number (Some pause) = Some (record { until = pause.until; number = number })
+
+-- the number of the tube with this name, as its end has it; an empty one if it has none
+abbrev pub as_number : Option ℕ → List ℕ
+as_number None = []
+as_number (Some n) = n ∷ []
+
+unfoldable pub number_at : List ℕ → List (List ℕ × ℕ) → List ℕ
+number_at name numbers = as_number (lookup (is_named_at name) numbers)
 
 abbrev pub pause_in : Option TubeRecord → Option Pause
 pause_in None = None
@@ -61,12 +70,12 @@ abbrev pub ends_at : ℕ → Option Pause → Bool
 ends_at moment None = false
 ends_at moment (Some pause) = pause.until == moment
 
-abbrev pub is_end_of : PauseEnd → TubeRecord → Bool
-is_end_of e t = is_same_name e.name t.name && ends_at e.until t.pause
+abbrev pub is_end_of : List (List ℕ × ℕ) → PauseEnd → TubeRecord → Bool
+is_end_of numbers e t = is_same_name e.number (number_at t.name numbers) && ends_at e.until t.pause
 
 -- it is the end of the pause of one of these tubes
-abbrev pub is_end_in : PauseEnd → List TubeRecord → Bool
-is_end_in e entries = list_any (is_end_of e) entries
+abbrev pub is_end_in : List (List ℕ × ℕ) → PauseEnd → List TubeRecord → Bool
+is_end_in numbers e entries = list_any (is_end_of numbers e) entries
 
 abbrev pub is_paused : TubeRecord → Bool
 is_paused t = is_some t.pause
@@ -76,7 +85,15 @@ abbrev pub paused_count : List Named → ℕ
 paused_count es = count_by is_paused (map record_at es)
 
 -- The ends of exactly the pauses of these tubes are kept, and there is a box for that of each tube.
-pub record AreEnds (entries : List TubeRecord) (ends : CatalogSeen PauseEnd (Unit {0})) : Type 0 where
-  pub known : (e : PauseEnd) → has_end e ends.entries ≡ is_end_in e entries
-  pub counted : length ends.entries ≡ count_by is_paused entries
-  pub roomy : length entries ≤ length ends.entries + ends.spare
+pub record AreEnds (kept : Tabled KeptTube) (ends : CatalogSeen PauseEnd (Unit {0})) : Type 0 where
+  pub known : (e : PauseEnd) → has_end e ends.entries ≡ is_end_in kept.numbers e (map record_at kept.entries)
+  pub counted : length ends.entries ≡ paused_count kept.entries
+  pub roomy : length kept.entries ≤ length ends.entries + ends.spare
+
+-- This tube has the same number as the one with this name only if it is that one.
+abbrev pub IsTold : List (List ℕ × ℕ) → List ℕ → TubeRecord → Type 0
+IsTold numbers name t = is_same_name (number_at name numbers) (number_at t.name numbers) ≡ is_same_name name t.name
+
+-- The tubes have numbers of their own.
+abbrev pub AreTold : Tabled KeptTube → Type 0
+AreTold kept = (name : List ℕ) → AllByRecursion (IsTold kept.numbers name) (map record_at kept.entries)

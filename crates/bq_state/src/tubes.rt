@@ -6,7 +6,7 @@ ghost use Rattle.bq_job.specs.{machine.Timers.tube_after_timers, reading.TubeNam
 ghost use Rattle.bq_jobs.specs.{Names.number_in, Numbering.{Extends, HasNumber}};
 ghost use Rattle.bq_state.specs.Counting.{AreCounts, DropsGone, IfCounted, tubes_with, with_crowds_at, with_job_put, with_removal_counted};
 ghost use Rattle.bq_state.specs.{Counting.with_tallies_at, Crowds.{crowd_at, has_seats, recounted}, Dues.first_pause_end};
-ghost use Rattle.bq_state.specs.{Dues.{pause_end_after, pause_end_left}, KeptTubes.{edited_at, is_named_at, kept_changed, record_at}};
+ghost use Rattle.bq_state.specs.{Dues.{pause_end_after, pause_end_left}, KeptTubes.{edited_at, is_named_at, kept_changed}};
 ghost use Rattle.bq_state.specs.{Leaving.exists_in, Names.names_of, PauseEnds.AreEnds, Tallies.{has_jobs, tallies_of, tally_at}};
 ghost use Rattle.bq_state.specs.{Tallies.tally_moved, TubeEntries.{has_entry, names_alive, tube_changed_at}, TubeNumbers.HaveNumbers};
 
@@ -39,13 +39,13 @@ pub struct Tubes {
 
 impl Model for Tubes {
     ghost use Rattle.std.specs.Prelude.{map};
-    ghost use Rattle.bq_state.specs.{KeptTubes.{KeptTubes, record_at, tubes_kept}, PauseEnds.AreEnds};
+    ghost use Rattle.bq_state.specs.{KeptTubes.{KeptTubes, tubes_kept}, PauseEnds.AreEnds};
 
     ghost Value = { KeptTubes };
 
     ghost view = { λ t. tubes_kept t.kept.numbers t.kept.entries };
 
-    ghost invariant = { λ t. AreEnds (map record_at t.kept.entries) t.ends };
+    ghost invariant = { λ t. AreEnds t.kept t.ends };
 }
 
 // Changes the tube with this name. The ends of pauses are accessed only if it is paused.
@@ -56,10 +56,10 @@ fn change(
     hint: TubeNumber,
     what: TubeChange,
 )
-    requires { AreEnds (map record_at kept.old.entries) ends.old }
+    requires { AreEnds kept.old ends.old }
     ensures numbers { kept.new.numbers ≡ kept.old.numbers }
     ensures kept { kept.new.entries ≡ edited_at name.now (kept_changed what) kept.old.entries }
-    ensures ends { AreEnds (map record_at kept.new.entries) ends.new }
+    ensures ends { AreEnds kept.new ends.new }
     ensures ordered { InOrder (slice_cmp nat_cmp) kept.old.entries }
 {
     match what {

@@ -9,8 +9,8 @@ use super::pauses::PauseEnd;
 use crate::job_store::later;
 use crate::known::Tally;
 use bq_index::Edit;
-use bq_job::{Job, Moment, TubeName};
-use bq_jobs::{Moved, Removed, Standing};
+use bq_job::{Job, Moment};
+use bq_jobs::{Moved, Removed, Standing, TubeNumber};
 use std::marker::Model;
 
 /// A pause of a tube.
@@ -135,15 +135,15 @@ impl TubeEntry {
         self.crowd
     }
 
-    /// Returns the end of its pause, with the name of the tube.
-    pub(crate) fn end(&self, name: &TubeName) -> Option<PauseEnd>
-        ensures { result ≡ end_of name.now self.now.pause }
+    /// Returns the end of its pause, with the number of the tube.
+    pub(crate) fn end(&self, number: TubeNumber) -> Option<PauseEnd>
+        ensures { result ≡ end_of number self.now.pause }
     {
         match &self.pause {
             None => None,
             Some(pause) => Some(PauseEnd {
                 until: pause.until,
-                name: *name,
+                number,
             }),
         }
     }

@@ -1,31 +1,37 @@
 //! Changes of tubes in which pauses begin and end. The ends of the pauses are kept in order.
-ghost use Rattle.std.{proofs.Common.refl, specs.{Cmp.Lexicographic.slice_cmp, Map.remove_entry, Option.{ForSome, option_map}}};
-ghost use Rattle.std.specs.{Ordering.{as_partial_cmp, eq_by_cmp, nat_cmp}, Prelude.{IfOk, None, false, if◌then◌else◌, is_some, length}};
-ghost use Rattle.std.specs.Prelude.{map, true, ◌+◌, ◌<◌, ◌≡◌, ◌≤◌};
+ghost use Rattle.std.specs.{Cmp.Lexicographic.slice_cmp, Map.remove_entry, Option.{ForSome, option_map}, Ordering.nat_cmp};
+ghost use Rattle.std.specs.Prelude.{IfOk, None, false, if◌then◌else◌, is_some, length, map, true, ◌+◌, ◌<◌, ◌≡◌, ◌≤◌};
 ghost use Rattle.bq_index.specs.Order.{InOrder};
 ghost use Rattle.bq_state.specs.{Dues.{first_pause_end, is_end_over}, KeptTubes.{crowd_kept, edited_at, is_named_at, kept_changed}};
-ghost use Rattle.bq_state.specs.{KeptTubes.{record_at, records_ended, tally_kept}, PauseEnds.{AreEnds, end_cmp, end_of, end_total}};
-ghost use Rattle.bq_state.specs.PauseEnds.{first_end, found_end, has_end, if_over, pause_at, paused_count, with_end, without_end};
-ghost use Rattle.std.specs.Cmp as Cmp;
+ghost use Rattle.bq_state.specs.{KeptTubes.{record_at, records_ended, tally_kept}, PauseEnds.{AreEnds, AreTold, end_cmp, end_of}};
+ghost use Rattle.bq_state.specs.PauseEnds.{first_end, found_end, has_end, if_over, is_end_in, number_at, pause_at, paused_count};
+ghost use Rattle.bq_state.specs.PauseEnds.{with_end, without_end};
 
 use super::entry::{PauseTimer, TubeChange, TubeEntry};
 use bq_index::{Catalog, Test};
 use bq_job::{Moment, NoMemory, TubeName};
-use bq_jobs::{TubeNumber, TubeTable};
+use bq_jobs::{Tube, TubeNumber, TubeTable};
 use std::alloc::Global;
-use std::cmp::Ordering;
 
 // Returns the end of the pause of the tube with this name, if it is paused.
-#[tactic(auto, using(crate::proofs::EndMoves::pause_is))]
 fn end_of(kept: &TubeTable<TubeEntry>, name: &TubeName, hint: TubeNumber) -> Option<PauseEnd>
-    ensures end { result
-        ≡ end_of name.now (pause_at name.now (map record_at kept.now.entries)) }
+    ensures end { result ≡ end_of (number_at name.now kept.now.numbers)
+        (pause_at name.now (map record_at kept.now.entries)) }
+    ensures told { AreTold kept.now }
     ensures ordered { InOrder (slice_cmp nat_cmp) kept.now.entries }
 {
-    match kept.get(name, hint) {
-        None => None,
-        Some(entry) => entry.end(name),
-    }
+    let number = kept.tubes().number_of(name, hint)?;
+    kept.get_numbered(name, number).end(number)
+}
+
+// Returns the tube whose pause has this end.
+#[tactic(auto, using(crate::proofs::NumberLemmas::number_is))]
+fn tube_of(kept: &TubeTable<TubeEntry>, end: &PauseEnd) -> Tube
+    requires { is_end_in kept.now.numbers end.now (map record_at kept.now.entries) ≡ true }
+    ensures number { end.now.number ≡ number_at result kept.now.numbers }
+    ensures told { AreTold kept.now }
+{
+    Tube::new(kept.tubes().name_of(end.number).unwrap(), end.number)
 }
 
 /// Pauses the tube with this name, or ends its pause.
@@ -37,10 +43,10 @@ pub(crate) fn pause(
     hint: TubeNumber,
     what: TubeChange,
 )
-    requires { AreEnds (map record_at kept.old.entries) ends.old }
+    requires { AreEnds kept.old ends.old }
     ensures numbers { kept.new.numbers ≡ kept.old.numbers }
     ensures kept { kept.new.entries ≡ edited_at name.now (kept_changed what) kept.old.entries }
-    ensures ends { AreEnds (map record_at kept.new.entries) ends.new }
+    ensures ends { AreEnds kept.new ends.new }
     ensures ordered { InOrder (slice_cmp nat_cmp) kept.old.entries }
 {
     let from = end_of(kept, name, hint);
@@ -53,10 +59,10 @@ pub(crate) fn pause(
 /// Drops the entry with this name, if there is one.
 #[tactic(auto, using(crate::proofs::EndMoves::end_held))]
 pub(crate) fn drop_entry(kept: &mut TubeTable<TubeEntry>, ends: &mut PauseEnds, name: &TubeName)
-    requires { AreEnds (map record_at kept.old.entries) ends.old }
+    requires { AreEnds kept.old ends.old }
     ensures numbers { kept.new.numbers ≡ remove_entry (is_named_at name.now) kept.old.numbers }
     ensures kept { kept.new.entries ≡ remove_entry (is_named_at name.now) kept.old.entries }
-    ensures ends { AreEnds (map record_at kept.new.entries) ends.new }
+    ensures ends { AreEnds kept.new ends.new }
     ensures ordered { InOrder (slice_cmp nat_cmp) kept.old.entries }
 {
     let from = end_of(kept, name, TubeNumber::unknown());
@@ -67,7 +73,7 @@ pub(crate) fn drop_entry(kept: &mut TubeTable<TubeEntry>, ends: &mut PauseEnds, 
 // Ends the first pause, if it is due.
 #[tactic(auto, using(crate::proofs::EndMoves::first_ended))]
 fn end_first(kept: &mut TubeTable<TubeEntry>, ends: &mut PauseEnds, moment: Moment) -> bool
-    requires { AreEnds (map record_at kept.old.entries) ends.old }
+    requires { AreEnds kept.old ends.old }
     ensures numbers { kept.new.numbers ≡ kept.old.numbers }
     ensures done { result ≡ false
         → is_end_over moment (first_pause_end (map record_at kept.new.entries)) ≡ false }
@@ -76,12 +82,13 @@ fn end_first(kept: &mut TubeTable<TubeEntry>, ends: &mut PauseEnds, moment: Mome
     ensures tallies { map tally_kept kept.new.entries ≡ map tally_kept kept.old.entries }
     ensures crowds { map crowd_kept kept.new.entries ≡ map crowd_kept kept.old.entries }
     ensures fewer { result ≡ true → paused_count kept.new.entries < paused_count kept.old.entries }
-    ensures ends { AreEnds (map record_at kept.new.entries) ends.new }
+    ensures ends { AreEnds kept.new ends.new }
 {
     let Some(end) = first_over(ends, moment) else {
         return false;
     };
-    let _ended = kept.edit(&end.name, TubeNumber::unknown(), &PauseTimer { moment });
+    let tube = tube_of(kept, &end);
+    let _ended = kept.edit(tube.name(), tube.number(), &PauseTimer { moment });
     leave(ends, Some(end));
     true
 }
@@ -89,61 +96,21 @@ fn end_first(kept: &mut TubeTable<TubeEntry>, ends: &mut PauseEnds, moment: Mome
 /// Ends pauses that are due. No other tube is accessed.
 #[tactic(auto, using(crate::proofs::PauseLemmas::no_pause_ends, crate::proofs::PauseLemmas::none_over))]
 pub(crate) fn end_all(kept: &mut TubeTable<TubeEntry>, ends: &mut PauseEnds, moment: Moment)
-    requires { AreEnds (map record_at kept.old.entries) ends.old }
+    requires { AreEnds kept.old ends.old }
     ensures numbers { kept.new.numbers ≡ kept.old.numbers }
     ensures records { map record_at kept.new.entries ≡ records_ended moment kept.old.entries }
     ensures tallies { map tally_kept kept.new.entries ≡ map tally_kept kept.old.entries }
     ensures crowds { map crowd_kept kept.new.entries ≡ map crowd_kept kept.old.entries }
-    ensures ends { AreEnds (map record_at kept.new.entries) ends.new }
+    ensures ends { AreEnds kept.new ends.new }
 {
     while end_first(kept, ends, moment) {}
 }
 
-/// The end of a tube's pause. Ends are ordered by moment, then by name.
-#[derive(Clone, Copy)]
+/// The end of a tube's pause. Ends are ordered by moment, then by the number of the tube.
+#[derive(Clone, Copy, PartialEq, Eq, PartialOrd, Ord)]
 pub(crate) struct PauseEnd {
     pub(crate) until: Moment,
-    pub(crate) name: TubeName,
-}
-
-impl PartialEq for PauseEnd {
-    ghost eq = { eq_by_cmp end_cmp };
-
-    ghost laws = { Cmp.partial_equiv_from_equiv (Cmp.eq_by_cmp_equiv end_total) };
-
-    fn eq(&self, other: &PauseEnd) -> bool {
-        self.cmp(other).is_eq()
-    }
-}
-
-impl Eq for PauseEnd {
-    ghost laws = { Cmp.eq_by_cmp_equiv end_total };
-}
-
-impl PartialOrd for PauseEnd {
-    ghost partial_cmp = { as_partial_cmp end_cmp };
-
-    ghost laws = { Cmp.partial_order_from_agreeing_total end_cmp end_total (λ a b. refl) (λ a b. refl) };
-
-    fn partial_cmp(&self, other: &PauseEnd) -> Option<Ordering> {
-        Some(self.cmp(other))
-    }
-}
-
-impl Ord for PauseEnd {
-    ghost cmp = { end_cmp };
-
-    ghost total = { end_total };
-
-    ghost matches_partial_cmp = { λ a b. refl };
-
-    ghost matches_eq = { λ a b. refl };
-
-    fn cmp(&self, other: &PauseEnd) -> Ordering {
-        self.until
-            .cmp(&other.until)
-            .then_with(|| self.name.cmp(&other.name))
-    }
+    pub(crate) number: TubeNumber,
 }
 
 /// The ends of pauses, one for each paused tube.

@@ -97,11 +97,11 @@ fn drop_tube(
     jobs: &mut NumberedJobs,
     name: &TubeName,
 )
-    requires ends { AreEnds (map record_at catalog.old.entries) ends.old }
+    requires ends { AreEnds catalog.old ends.old }
     requires numbered { jobs.old.tubes ≡ catalog.old.numbers }
     requires none { list_any (λ j. is_same_name name.now j.tube) jobs.old.jobs ≡ false }
     ensures kept { catalog.new.entries ≡ remove_entry (is_named_at name.now) catalog.old.entries }
-    ensures ends { AreEnds (map record_at catalog.new.entries) ends.new }
+    ensures ends { AreEnds catalog.new ends.new }
     ensures ordered { InOrder (slice_cmp nat_cmp) catalog.old.entries }
     ensures numbered { jobs.new.tubes ≡ catalog.new.numbers }
     ensures jobs { jobs.new ≡ record jobs.old { tubes = jobs.new.tubes } }
@@ -117,11 +117,11 @@ pub(crate) fn forget_one(
     jobs: &mut NumberedJobs,
     tube: &Tube,
 )
-    requires ends { AreEnds (map record_at catalog.old.entries) ends.old }
+    requires ends { AreEnds catalog.old ends.old }
     requires numbered { jobs.old.tubes ≡ catalog.old.numbers }
     requires tallies { map tally_kept catalog.old.entries
         ≡ tallies_of jobs.old.jobs (map record_at catalog.old.entries) }
-    ensures ends { AreEnds (map record_at catalog.new.entries) ends.new }
+    ensures ends { AreEnds catalog.new ends.new }
     ensures kept { catalog.new.entries ≡ without_gone tube.now catalog.old.entries }
     ensures numbered { jobs.new.tubes ≡ catalog.new.numbers }
     ensures jobs { jobs.new ≡ record jobs.old { tubes = jobs.new.tubes } }
@@ -154,11 +154,11 @@ pub(crate) fn forget_all(
     ends: &mut PauseEnds,
     jobs: &mut NumberedJobs,
 )
-    requires ends { AreEnds (map record_at catalog.old.entries) ends.old }
+    requires ends { AreEnds catalog.old ends.old }
     requires numbered { jobs.old.tubes ≡ catalog.old.numbers }
     requires tallies { map tally_kept catalog.old.entries
         ≡ tallies_of jobs.old.jobs (map record_at catalog.old.entries) }
-    ensures ends { AreEnds (map record_at catalog.new.entries) ends.new }
+    ensures ends { AreEnds catalog.new ends.new }
     ensures kept { catalog.new.entries ≡ filter is_alive_at catalog.old.entries }
     ensures numbered { jobs.new.tubes ≡ catalog.new.numbers }
     ensures jobs { jobs.new ≡ record jobs.old { tubes = jobs.new.tubes } }

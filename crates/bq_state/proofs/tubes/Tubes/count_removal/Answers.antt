@@ -1,5 +1,5 @@
-use Rattle.std.proofs.Common.{arith, refl}
-use Rattle.bq_state.{proofs.{EndMoves.edit_stays, NamedLemmas.{in_order, job_counted}}, specs.KeptTubes.kept_removed}
+use Rattle.std.proofs.Common.{refl}
+use Rattle.bq_state.{proofs.{EndMoves.edit_stays, NamedLemmas.job_counted}, specs.KeptTubes.kept_removed}
 use Rattle.bq_state.specs.{TubeEntries.tube_changed, declared.tubes.entry.TubeChange.TheVariants.CountDelete}
 use Rattle.bq_state.proofs.tubes.Tubes.count_removal.Goals as goal
 
@@ -8,4 +8,6 @@ returns-clause-after c = job_counted CountDelete _ _ _ _ _ _ _ _ c.edit_numbered
     c.self.view_is c.edit_numbered.ensures.ordered (λ n t. refl) (λ t. refl) (λ t. refl)
 
 pub invariant_of-self : goal.invariant_of-self
-invariant_of-self c = let r = c.args.removed.now in grind (arith, edit_stays r.tube (kept_removed r) (tube_changed CountDelete), in_order)
+invariant_of-self c = edit_stays c.args.removed.now.tube (kept_removed c.args.removed.now) (tube_changed CountDelete) (λ n t. refl)
+    (λ t. refl) _ _ c.edit_numbered.ensures.ordered c.edit_numbered.ensures.numbers c.edit_numbered.ensures.entries (λ t. refl) _
+    c.self.invariant

@@ -2,4 +2,4 @@ use Rattle.bq_state.proofs.EndLemmas.{first_seen}
 use Rattle.bq_state.proofs.tubes.Tubes.first_pause_end.Goals as goal
 
 pub returns : goal.returns
-returns c = first_seen _ _ _ _ _ c.first_until.ensures.until c.self.invariant c.first_until.ensures.ordered c.self.view_is
+returns c = first_seen _ _ c.self.invariant c.first_until.ensures.ordered _ _ c.first_until.ensures.until c.self.view_is

@@ -1,9 +1,11 @@
-use Rattle.std.proofs.Common.{arith}
-use Rattle.bq_state.{proofs.NamedLemmas.{edit_same, edit_tally, kept_alike}, specs.{KeptTubes.kept_moved, Tallies.tally_moved}}
+use Rattle.std.proofs.Common.{arith, refl}
+use Rattle.bq_state.proofs.{EndMoves.edit_stays, NamedLemmas.{edit_same, edit_tally, kept_alike}}
+use Rattle.bq_state.specs.{KeptTubes.kept_moved, Tallies.tally_moved}
 use Rattle.bq_state.proofs.tubes.Tubes.move_job.Goals as goal
 
 pub invariant_of-self : goal.invariant_of-self
-invariant_of-self c = grind (arith, edit_same c.args.moved.now.tube (kept_moved c.args.moved.now))
+invariant_of-self c = edit_stays c.args.moved.now.tube (kept_moved c.args.moved.now) (λ t. t) (λ n t. refl) (λ t. refl) _ _
+    c.edit_numbered.ensures.ordered c.edit_numbered.ensures.numbers c.edit_numbered.ensures.entries (λ t. refl) _ c.self.invariant
 
 pub returns : goal.returns
 returns c = let m = c.args.moved.now in

@@ -1,6 +1,6 @@
 -- The pauses that are still to end, after those that ended so far.
 use Rattle.std.proofs.Common.{map, ◌≡◌}
-use Rattle.bq_state.specs.{KeptTubes.{crowd_kept, record_at, records_ended, tally_kept}, PauseEnds.{AreEnds, paused_count}}
+use Rattle.bq_state.specs.{KeptTubes.{crowd_kept, records_ended, tally_kept}, PauseEnds.{AreEnds, paused_count}}
 use Rattle.bq_state.proofs.tubes.pauses.end_all.Given as goal
 
 abbrev pub invariant-loop : goal.invariant-loop
@@ -9,7 +9,7 @@ invariant-loop l = record {
   tallies : map tally_kept l.kept.entries ≡ map tally_kept l.fn.kept.entries;
   crowds : map crowd_kept l.kept.entries ≡ map crowd_kept l.fn.kept.entries;
   numbers : l.kept.numbers ≡ l.fn.kept.numbers;
-  ends : AreEnds (map record_at l.kept.entries) l.ends;
+  ends : AreEnds l.kept l.ends;
 }
 
 abbrev pub decreases-loop : goal.decreases-loop

@@ -1,7 +1,15 @@
 use Rattle.std.proofs.Common.{ap, map, refl, ◌∙◌}
-use Rattle.bq_state.{proofs.{EndMoves.over_ends, NamedLemmas.{edit_same_crowds, edit_same_tallies}}, specs.KeptTubes.crowd_kept}
-use Rattle.bq_state.specs.KeptTubes.{tally_kept}
+use Rattle.bq_state.proofs.{EndMoves.{over_ends, over_fewer, over_records}, NamedLemmas.{edit_same_crowds, edit_same_tallies}}
+use Rattle.bq_state.specs.KeptTubes.{crowd_kept, tally_kept}
 use Rattle.bq_state.proofs.tubes.pauses.end_first.Goals as goal
+
+pub returns-clause-records : goal.returns-clause-records
+returns-clause-records c = over_records _ _ _ _ _ _ c.requires c.edit-ended.ensures.ordered c.tube_of-tube.ensures.told
+    c.in-Some.ensures.end c.tube_of-tube.ensures.number c.edit-ended.ensures.numbers (rw c.name.ensures at c.edit-ended.ensures.entries)
+
+pub returns-clause-fewer : goal.returns-clause-fewer
+returns-clause-fewer c ended = over_fewer _ _ _ _ _ _ c.requires c.edit-ended.ensures.ordered c.tube_of-tube.ensures.told
+    c.in-Some.ensures.end c.tube_of-tube.ensures.number c.edit-ended.ensures.numbers (rw c.name.ensures at c.edit-ended.ensures.entries)
 
 pub returns-clause-tallies : goal.returns-clause-tallies
 returns-clause-tallies c = ap (map tally_kept) c.edit-ended.ensures.entries ∙ edit_same_tallies _ _ (λ t. refl) _
@@ -10,5 +18,6 @@ pub returns-clause-crowds : goal.returns-clause-crowds
 returns-clause-crowds c = ap (map crowd_kept) c.edit-ended.ensures.entries ∙ edit_same_crowds _ _ (λ t. refl) _
 
 pub returns-clause-ends : goal.returns-clause-ends
-returns-clause-ends c = over_ends _ _ _ _ _ c.requires c.edit-ended.ensures.ordered c.in-Some.ensures.end c.edit-ended.ensures.entries _
-    c.leave.ensures.entries c.in-Some.ensures.ordered c.leave.ensures.spare
+returns-clause-ends c = over_ends _ _ _ _ _ _ c.requires c.edit-ended.ensures.ordered c.tube_of-tube.ensures.told
+    c.in-Some.ensures.end c.tube_of-tube.ensures.number c.edit-ended.ensures.numbers (rw c.name.ensures at c.edit-ended.ensures.entries)
+    _ c.leave.ensures.entries c.in-Some.ensures.ordered c.leave.ensures.spare

@@ -9,7 +9,7 @@ abbrev pub invariant-loop-name : goal.invariant-loop-name
 invariant-loop-name l = record {
   left : filter is_alive_at l.catalog.entries ≡ filter is_alive_at l.fn.catalog.entries;
   before : AllLeftBefore l.last l.catalog.entries;
-  ends : AreEnds (map record_at l.catalog.entries) l.ends;
+  ends : AreEnds l.catalog l.ends;
   numbered : l.jobs.tubes ≡ l.catalog.numbers;
   tallies : map tally_kept l.catalog.entries ≡ tallies_of l.jobs.jobs (map record_at l.catalog.entries);
   jobs : l.jobs ≡ record l.fn.jobs { tubes = l.jobs.tubes };

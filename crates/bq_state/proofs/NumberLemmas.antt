@@ -1,0 +1,112 @@
+-- The numbers of tubes, as the ends of their pauses have them.
+use Rattle.std.proofs.Common.{List, None, Option, Some, [], ap, arith, false, inl, inr, is_some, map, refl, sym, true, ℕ, ◌∙◌, ◌∷◌, ◌≡◌}
+use Rattle.std.proofs.lemmas.{Bool.cases_Bool, Cmp.nat_list_eq_equiv, Grind.common_steps}
+use Rattle.std.specs.{BTreeMap.insert_entry, Cmp.Lexicographic.slice_cmp, List.AllByRecursion as All}
+use Rattle.std.specs.{Map.{keys_of, lookup, remove_entry}, Ordering.{match_ordering, nat_cmp}}
+use Rattle.std.specs.declared.cmp.Ordering.{Ordering, TheVariants.{Equal, Greater, Less}}
+use Rattle.bq_job.proofs.ListLemmas.{all_from_members, all_weaker, list_any_with}
+use Rattle.bq_job.specs.{machine.TubeRecord, reading.TubeName.is_same_name}
+use Rattle.bq_jobs.specs.{Names.number_in, Numbering.{IsPaired, Numbering, name_of}, Table.Tabled}
+use Rattle.bq_state.proofs.{NamedLemmas.{have_numbers, ties}, TubeLemmas.{same_itself, same_name}}
+use Rattle.bq_state.specs.{KeptTubes.{KeptTube, is_named_at, record_at}, PauseEnds.{AreTold, as_number, is_end_in, number_at}}
+use Rattle.bq_state.specs.declared.tubes.pauses.PauseEnd.{PauseEnd}
+
+-- another tube keeps its number if this one is removed or added
+module _ (name k : List ℕ) (other : is_same_name name k ≡ false) where
+  found_left : (ns : List (List ℕ × ℕ)) → lookup (is_named_at k) (remove_entry (is_named_at name) ns) ≡ lookup (is_named_at k) ns
+  found_left [] = refl
+  found_left (p ∷ ns) =
+      grind (arith, common_steps, ties k p.0, ties name p.0, same_name name p.0, nat_list_eq_equiv.symm name k, found_left ns)
+
+  pub number_left : (ns : List (List ℕ × ℕ)) → number_at k (remove_entry (is_named_at name) ns) ≡ number_at k ns
+  unfolding number_at
+  number_left ns = ap as_number (found_left ns)
+
+  inserted_at : (n : ℕ) (p : List ℕ × ℕ) (ns rest : List (List ℕ × ℕ)) (a : Ordering) → slice_cmp nat_cmp name p.0 ≡ a
+      → lookup (is_named_at k) rest ≡ lookup (is_named_at k) ns
+      → lookup (is_named_at k) (match_ordering a ((name, n) ∷ p ∷ ns) ((p.0, n) ∷ ns) (p ∷ rest)) ≡ lookup (is_named_at k) (p ∷ ns)
+  inserted_at n p ns rest Less is h = grind (arith, ties k name, nat_list_eq_equiv.symm name k)
+  inserted_at n p ns rest Equal is h =
+      grind (arith, ties k p.0, ties name p.0, same_name name p.0, nat_list_eq_equiv.symm name k)
+  inserted_at n p ns rest Greater is h = grind (arith)
+
+  found_inserted : (n : ℕ) (ns : List (List ℕ × ℕ))
+      → lookup (is_named_at k) (insert_entry (slice_cmp nat_cmp) ns name n) ≡ lookup (is_named_at k) ns
+  found_inserted n [] = grind (arith, ties k name, nat_list_eq_equiv.symm name k)
+  found_inserted n (p ∷ ns) = inserted_at n p ns _ (slice_cmp nat_cmp name p.0) refl (found_inserted n ns)
+
+  pub number_inserted : (n : ℕ) (ns : List (List ℕ × ℕ)) → number_at k (insert_entry (slice_cmp nat_cmp) ns name n) ≡ number_at k ns
+  unfolding number_at
+  number_inserted n ns = ap as_number (found_inserted n ns)
+
+-- the numbers of the tubes of a table
+module _ (k : Numbering) (kept : Tabled KeptTube) (paired : IsPaired k) (same : k.numbers ≡ kept.numbers)
+    (keys : keys_of kept.entries ≡ keys_of kept.numbers) where
+  has_name : (name : List ℕ) (n : ℕ) → lookup (is_named_at name) kept.numbers ≡ Some n → name_of n k ≡ Some name
+  has_name name n found = paired.there name n (ap (lookup (is_named_at name)) same ∙ found)
+
+  found_alike : (a b : List ℕ) → is_same_name a b ≡ true → lookup (is_named_at a) kept.numbers ≡ lookup (is_named_at b) kept.numbers
+  found_alike a b h = ap (λ name. lookup (is_named_at name) kept.numbers) (same_name a b h)
+
+  told_by : (name other : List ℕ) (a b : Option ℕ) → lookup (is_named_at name) kept.numbers ≡ a
+      → lookup (is_named_at other) kept.numbers ≡ b → is_some b ≡ true
+      → is_same_name (as_number a) (as_number b) ≡ is_same_name name other
+  told_by name other a None is has some = absurd cc
+  told_by name other None (Some n) is has some = elim (cases_Bool (is_same_name name other)) [
+    | inl e ↦ absurd (let g : None ≡ Some n = sym is ∙ found_alike name other e ∙ has in cc)
+    | inr e ↦ sym e
+  ]
+  told_by name other (Some m) (Some n) is has some = elim (cases_Bool (is_same_name name other)) [
+    | inl e ↦
+        let g : Some m ≡ Some n = sym is ∙ found_alike name other e ∙ has in
+        let h : n ≡ m = (cc) in
+        ap (λ i. is_same_name (m ∷ []) (i ∷ [])) h ∙ same_itself (m ∷ []) ∙ sym e
+    | inr e ↦ elim (cases_Bool (is_same_name (m ∷ []) (n ∷ []))) [
+      | inl f ↦
+          let g = same_name (m ∷ []) (n ∷ []) f in
+          let first = has_name name m is in
+          let second = has_name other n has in
+          let h : other ≡ name = (cc) in
+          absurd (let t : is_same_name name other ≡ true = ap (is_same_name name) h ∙ same_itself name in cc)
+      | inr f ↦ f ∙ sym e
+    ]
+  ]
+
+  all_numbered : All (λ t. is_some (lookup (is_named_at t.name) kept.numbers) ≡ true) (map record_at kept.entries)
+  all_numbered = all_from_members _ (map record_at kept.entries) (λ t here.
+      have_numbers kept.entries kept.numbers keys t.name
+      ∙ list_any_with (λ (u : TubeRecord). is_same_name t.name u.name) (map record_at kept.entries) t here (same_itself t.name))
+
+  -- Each tube has a number of its own.
+  pub told : AreTold kept
+  unfolding number_at
+  told name = all_weaker _ _ (map record_at kept.entries)
+      (λ t some. told_by name t.name (lookup (is_named_at name) kept.numbers) (lookup (is_named_at t.name) kept.numbers) refl refl some)
+      all_numbered
+
+  end_there : (e : PauseEnd) (ts : List TubeRecord) → All (λ t. is_some (lookup (is_named_at t.name) kept.numbers) ≡ true) ts
+      → is_end_in kept.numbers e ts ≡ true → (is_some (name_of (number_in e.number) k) ≡ true) × (e.number ≡ number_in e.number ∷ [])
+  unfolding number_at
+  end_there e [] all held = absurd cc
+  end_there e (t ∷ ts) all held =
+      let same = same_name e.number (as_number (lookup (is_named_at t.name) kept.numbers)) in
+      grind (arith, common_steps, same, has_name t.name, end_there e ts all.1)
+
+  -- The number of an end is that of a tube,
+  pub end_numbered : (e : PauseEnd) → is_end_in kept.numbers e (map record_at kept.entries) ≡ true
+      → is_some (name_of (number_in e.number) k) ≡ true
+  end_numbered e held = (end_there e (map record_at kept.entries) all_numbered held).0
+
+  -- whose name is found by it.
+  pub number_is : (e : PauseEnd) (name : List ℕ) → is_end_in kept.numbers e (map record_at kept.entries) ≡ true
+      → name_of (number_in e.number) k ≡ Some name → e.number ≡ number_at name kept.numbers
+  unfolding number_at
+  number_is e name held of =
+      let there = end_there e (map record_at kept.entries) all_numbered held in
+      there.1 ∙ sym (ap as_number (ap (lookup (is_named_at name)) (sym same) ∙ paired.back (number_in e.number) name of))
+
+-- the number of a tube that was looked up
+pub number_read : (name : List ℕ) (numbers : List (List ℕ × ℕ)) (n : List ℕ) → n ≡ number_in n ∷ []
+    → Some (number_in n) ≡ lookup (is_named_at name) numbers → n ≡ number_at name numbers
+unfolding number_at
+number_read name numbers n alone found = alone ∙ ap as_number found
