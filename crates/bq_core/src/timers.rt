@@ -89,7 +89,7 @@ fn fire_one(state: &mut CoreParts, due: Due)
         Due::Ripe(id) => changes::change_job(state, id, &change),
         Due::Expired(id) => {
             changes::change_job(state, id, &change);
-            changes::count_timeout_if(state, true);
+            changes::count_timeout(state);
         }
     }
 }

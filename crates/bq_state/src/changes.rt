@@ -476,19 +476,11 @@ pub fn give_burial_number(state: &mut CoreParts) -> u64
     state.burials
 }
 
-// Returns 1 if something happened, otherwise 0.
-fn times(happened: bool) -> u64
-    ensures { result ≡ (if happened then 1 else 0) }
+/// Counts an expired reservation.
+pub fn count_timeout(state: &mut CoreParts)
+    ensures { held state.new ≡ record (held state.old) { timeouts = grown 1 state.old.timeouts } }
 {
-    if happened { 1 } else { 0 }
-}
-
-/// Counts an expired reservation, if one has expired.
-pub fn count_timeout_if(state: &mut CoreParts, has_expired: bool)
-    ensures { held state.new ≡ record (held state.old)
-        { timeouts = grown (if has_expired then 1 else 0) state.old.timeouts } }
-{
-    state.timeouts = state.timeouts.saturating_add(times(has_expired));
+    state.timeouts = state.timeouts.saturating_add(1);
 }
 
 /// Sets the current moment. A moment below the last one counts as the last one.
