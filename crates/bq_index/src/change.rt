@@ -11,7 +11,7 @@ ghost use Rattle.bq_index.specs.Edited.{value_of};
 ghost use Rattle.bq_index.specs.Order.{InOrder, LacksKeyOf, with_entry};
 ghost use Rattle.bq_index.specs.Removed.{lookup_if, passing, removed_if, value_of_top};
 ghost use Rattle.bq_index.specs.Tree.{entries, entries_in, entries_of, entry_in, entry_of_top, height, height_in, height_of};
-ghost use Rattle.bq_index.specs.Tree.{left_in, right_in};
+ghost use Rattle.bq_index.specs.Tree.{IsAlone, IsKeyOf, left_in, right_in};
 ghost use Rattle.bq_index.specs.declared.tree.Node.TheVariants.{Spare};
 ghost use Rattle.bq_index.specs.declared.tree.Tree.TheVariants.{Leaf};
 ghost use Rattle.bq_index.specs.Tree.{HasParts, IsBalanced, IsBalancedFrom, IsLevel, IsLevelWithSide, IsLowered, IsWithoutFirst};
@@ -112,6 +112,19 @@ where
     }
 }
 
+// Returns the key of a box with nothing below it. It needs fewer tests than `key`, and an insertion
+// asks for it at each level.
+fn key_alone<K, V>(node: &Node<K, V>) -> &K
+    requires level { IsLevel node.now }
+    requires alone { height_in node.now ≡ 1 }
+    ensures { IsKeyOf (entry_in node.now) result.now }
+{
+    match node {
+        Node::Alone { key, .. } => key,
+        _ => unreachable!(),
+    }
+}
+
 // Inserts a box with a single entry below another box. Returns whether the height of that box has
 // changed.
 fn insert_below<K: Ord, V>(here: &mut Node<K, V>, node: Box<Node<K, V>>, count: &mut u64) -> bool
@@ -128,7 +141,7 @@ where
     ensures raised { IsRaised here.old here.new result }
     ensures counted { RaisedByAtMost (height_in here.old) count.old count.new }
 {
-    match compare_to(node.key(), here, count) {
+    match compare_to(key_alone(&node), here, count) {
         Ordering::Less => match here {
             Node::Both { left, .. } => {
                 let grown = insert_below(left, node, count);
@@ -657,7 +670,8 @@ where
     }
 }
 
-// Takes the value out of the box of a removed entry. The box is spare then.
+// Takes the value out of the box of a removed entry. The box is spare then. Such a box has nothing
+// below it, so the code for others is in a function of its own.
 #[inline(always)]
 fn taken<K, V>(found: Tree<K, V>) -> Option<(Box<Node<K, V>>, V)>
 where
@@ -668,13 +682,44 @@ where
 {
     match found {
         Tree::Leaf => None,
-        Tree::Fork(mut node) => match mem::replace(&mut *node, Node::Spare) {
-            Node::Alone { value, .. } => Some((node, value)),
-            Node::OnLeft { value, .. } => Some((node, value)),
-            Node::OnRight { value, .. } => Some((node, value)),
-            Node::Both { value, .. } => Some((node, value)),
-            Node::Spare | Node::SpareBefore(_) => None,
+        Tree::Fork(node) => match &*node {
+            Node::Alone { .. } => taken_alone(node),
+            _ => taken_from(node),
         },
+    }
+}
+
+// Takes the value out of a box with nothing below it.
+#[inline(always)]
+fn taken_alone<K, V>(mut node: Box<Node<K, V>>) -> Option<(Box<Node<K, V>>, V)>
+where
+    K: Drop,
+    V: Drop,
+    requires alone { IsAlone node.value }
+    ensures value { option_map (λ p. p.1) result ≡ value_of node.value }
+    ensures spare { IfSome result (λ p. p.0.value ≡ Spare) }
+{
+    match mem::replace(&mut *node, Node::Spare) {
+        Node::Alone { value, .. } => Some((node, value)),
+        _ => unreachable!(),
+    }
+}
+
+// Takes the value out of a box.
+#[inline(never)]
+fn taken_from<K, V>(mut node: Box<Node<K, V>>) -> Option<(Box<Node<K, V>>, V)>
+where
+    K: Drop,
+    V: Drop,
+    ensures value { option_map (λ p. p.1) result ≡ value_of node.value }
+    ensures spare { IfSome result (λ p. p.0.value ≡ Spare) }
+{
+    match mem::replace(&mut *node, Node::Spare) {
+        Node::Alone { value, .. } => Some((node, value)),
+        Node::OnLeft { value, .. } => Some((node, value)),
+        Node::OnRight { value, .. } => Some((node, value)),
+        Node::Both { value, .. } => Some((node, value)),
+        Node::Spare | Node::SpareBefore(_) => None,
     }
 }
 
@@ -730,7 +775,7 @@ where
 {
     match tree {
         Tree::Leaf => (Tree::Leaf, None),
-        Tree::Fork(mut top) => if top.height() > 1 {
+        Tree::Fork(mut top) => if top.is_high() {
             let mut found = Tree::Leaf;
             let _changed = remove_below(&mut top, key, count, &mut found, test);
             let removed = taken(found);

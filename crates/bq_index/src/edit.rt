@@ -7,8 +7,9 @@ ghost use Rattle.bq_index.specs.Order.{InOrder};
 ghost use Rattle.bq_index.specs.Tree.{entries, height, height_in, IsBalanced, IsLevel, RaisedByAtMost};
 
 use super::find::compare_to;
-use super::tree::{Node, Tree, put};
+use super::tree::{Node, Tree};
 use std::cmp::Ordering;
+use std::mem;
 
 /// A change of a value, which also returns something.
 pub trait Edit<V, T> {
@@ -129,8 +130,10 @@ fn edit_here<K, V, T: Drop, E: TryEdit<V, T>>(node: &mut Node<K, V>, edit: &E, t
 // descent would reserve and initialize room for it.
 #[inline(never)]
 fn edit_value<V, T: Drop, E: TryEdit<V, T>>(value: &mut V, edit: &E, told: &mut Option<T>)
+    requires { told.old ≡ None }
     ensures is { value.new ≡ edited_by (E.edited edit.now) told.new value.old }
     ensures told { MayReturn (E.MayTell edit.now) (Some value.old) told.new }
 {
-    put(told, Some(edit.try_edit(value)));
+    // There was nothing in `told`, so there is nothing to drop.
+    mem::forget(mem::replace(told, Some(edit.try_edit(value))));
 }

@@ -25,7 +25,9 @@ pub(crate) fn compare<K: Ord>(key: &K, other: &K, count: &mut u64) -> Ordering
     ensures counts_one { count.new ≡ min (count.old + 1) (2 ^ 64 - 1) }
     ensures counted { RaisedByAtMost 1 count.old count.new }
 {
-    *count = count.saturating_add(1);
+    if *count < u64::MAX {
+        *count += 1;
+    }
     key.cmp(other)
 }
 

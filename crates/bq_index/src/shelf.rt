@@ -144,7 +144,8 @@ impl<K: Ord + Drop, V: Drop> Shelf<K, V> {
             return Err(NoMemory);
         }
         let node = tree::spare_box(source)?;
-        self.spares = tree::link(node, mem::replace(&mut self.spares, Tree::Leaf));
+        let spares = mem::replace(&mut self.spares, Tree::Leaf);
+        tree::keep(&mut self.spares, tree::link(node, spares));
         self.spare += 1;
         Ok(())
     }
@@ -163,7 +164,7 @@ impl<K: Ord + Drop, V: Drop> Shelf<K, V> {
         }
         let (node, spares) = tree::unlink(mem::replace(&mut self.spares, Tree::Leaf));
         drop(node);
-        self.spares = spares;
+        tree::keep(&mut self.spares, spares);
         self.spare -= 1;
     }
 
@@ -176,7 +177,7 @@ impl<K: Ord + Drop, V: Drop> Shelf<K, V> {
         ensures comparisons { ComparesFew self.old self.new }
     {
         let (mut node, spares) = tree::unlink(mem::replace(&mut self.spares, Tree::Leaf));
-        self.spares = spares;
+        tree::keep(&mut self.spares, spares);
         self.spare -= 1; // the box of the entry to come
         tree::fill(&mut *node, Node::Alone { key, value });
         let tree = mem::replace(&mut self.tree, Tree::Leaf);
@@ -215,7 +216,7 @@ impl<K: Ord + Drop, V: Drop> Shelf<K, V> {
         let (node, value) = found?;
         self.len -= 1;
         let spares = mem::replace(&mut self.spares, Tree::Leaf);
-        self.spares = tree::link(node, spares);
+        tree::keep(&mut self.spares, tree::link(node, spares));
         self.spare += 1; // the box of the entry
         Some(value)
     }
@@ -330,7 +331,7 @@ impl<K: Ord + Drop, V: Drop> Shelf<K, V> {
         ensures comparisons { ComparesFewIn (entries tree) self.old self.new }
     {
         let (mut node, spares) = tree::unlink(mem::replace(&mut self.spares, Tree::Leaf));
-        self.spares = spares;
+        tree::keep(&mut self.spares, spares);
         self.spare -= 1; // the box for the tree
         tree::fill(&mut *node, Node::Alone { key, value });
         change::insert(tree, node, &mut self.comparisons)
@@ -354,7 +355,7 @@ impl<K: Ord + Drop, V: Drop> Shelf<K, V> {
             return (tree, None);
         };
         let spares = mem::replace(&mut self.spares, Tree::Leaf);
-        self.spares = tree::link(node, spares);
+        tree::keep(&mut self.spares, tree::link(node, spares));
         self.spare += 1; // the box from the tree
         (tree, Some(value))
     }

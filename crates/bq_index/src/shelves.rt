@@ -95,7 +95,9 @@ fn insert_at<K: Parted + Drop, V: Drop>(
 {
     let tree = exchange(trees, at, Tree::Leaf);
     let tree = rest.insert_into(tree, key, value);
-    let _leaf = exchange(trees, at, tree);
+    // Nothing is there, so there is nothing to drop.
+    let leaf = exchange(trees, at, tree);
+    mem::forget(leaf);
 }
 
 // Removes the entry of a key from the tree of its part and returns its value, if there is one.
@@ -121,7 +123,9 @@ fn remove_at<K: Parted + Drop, V: Drop>(
 {
     let tree = exchange(trees, at, Tree::Leaf);
     let (tree, value) = rest.remove_from(tree, key);
-    let _leaf = exchange(trees, at, tree);
+    // Nothing is there, so there is nothing to drop.
+    let leaf = exchange(trees, at, tree);
+    mem::forget(leaf);
     value
 }
 

@@ -86,7 +86,7 @@ impl<K, V> Node<K, V> {
 
     // Returns whether a box has something below it.
     #[tactic(auto, using(crate::proofs::Parts::high_with_both))]
-    fn is_high(&self) -> bool
+    pub(crate) fn is_high(&self) -> bool
         requires { IsLevel self.now }
         ensures high { result ≡ true → 1 < height_in self.now }
         ensures low { result ≡ false → height_in self.now ≤ 1 }
@@ -425,7 +425,10 @@ where
 {
     match node {
         Node::SpareBefore(next) => Tree::Fork(next),
-        _ => Tree::Leaf,
+        last => {
+            mem::forget(last);
+            Tree::Leaf
+        }
     }
 }
 

@@ -7,7 +7,7 @@ use Rattle.bq_index.proofs.change.+insert_below.Goals as goal
 
 pub insert_below-grown-requires : goal.insert_below-grown-requires
 insert_below-grown-requires g t c κs within =
-    let h = by_key g.K.Ord.cmp _ _ _ _ (rw c.deref.ensures at c.key.ensures) c.compare_to.ensures.answer in
+    let h = by_key g.K.Ord.cmp _ _ _ _ (rw c.deref.ensures at c.key_alone.ensures) c.compare_to.ensures.answer in
     let p = come_apart c.args.here.now c.requires.here_level in
     let w = goes_left g.met.K.Ord.total _ c.requires.alone.filled p c.requires.in_order c.requires.absent h c.in-Less.is in
     let same : left_in c.args.here.now ≡ Some c.in-Both.left.value = ap left_in c.in-Both.is in
@@ -22,7 +22,7 @@ insert_below-grown-requires g t c κs within =
 
 pub insert_below-grown-requires-in-OnLeft : goal.insert_below-grown-requires-in-OnLeft
 insert_below-grown-requires-in-OnLeft g t c κs within =
-    let h = by_key g.K.Ord.cmp _ _ _ _ (rw c.deref.ensures at c.key.ensures) c.compare_to.ensures.answer in
+    let h = by_key g.K.Ord.cmp _ _ _ _ (rw c.deref.ensures at c.key_alone.ensures) c.compare_to.ensures.answer in
     let p = come_apart c.args.here.now c.requires.here_level in
     let w = goes_left g.met.K.Ord.total _ c.requires.alone.filled p c.requires.in_order c.requires.absent h c.in-Less.is in
     let same : left_in c.args.here.now ≡ Some c.in-OnLeft.left.value = ap left_in c.in-OnLeft.is in
@@ -37,7 +37,7 @@ insert_below-grown-requires-in-OnLeft g t c κs within =
 
 pub insert_below-grown-requires-in-Both-here : goal.insert_below-grown-requires-in-Both-here
 insert_below-grown-requires-in-Both-here g t c κs within =
-    let h = by_key g.K.Ord.cmp _ _ _ _ (rw c.deref.ensures at c.key.ensures) c.compare_to.ensures.answer in
+    let h = by_key g.K.Ord.cmp _ _ _ _ (rw c.deref.ensures at c.key_alone.ensures) c.compare_to.ensures.answer in
     let p = come_apart c.args.here.now c.requires.here_level in
     let w = goes_right g.met.K.Ord.total _ c.requires.alone.filled p c.requires.in_order c.requires.absent h c.in-Greater.is in
     let same : right_in c.args.here.now ≡ Some c.in-Both-here.right.value = ap right_in c.in-Both-here.is in
@@ -52,7 +52,7 @@ insert_below-grown-requires-in-Both-here g t c κs within =
 
 pub insert_below-grown-requires-in-OnRight : goal.insert_below-grown-requires-in-OnRight
 insert_below-grown-requires-in-OnRight g t c κs within =
-    let h = by_key g.K.Ord.cmp _ _ _ _ (rw c.deref.ensures at c.key.ensures) c.compare_to.ensures.answer in
+    let h = by_key g.K.Ord.cmp _ _ _ _ (rw c.deref.ensures at c.key_alone.ensures) c.compare_to.ensures.answer in
     let p = come_apart c.args.here.now c.requires.here_level in
     let w = goes_right g.met.K.Ord.total _ c.requires.alone.filled p c.requires.in_order c.requires.absent h c.in-Greater.is in
     let same : right_in c.args.here.now ≡ Some c.in-OnRight.right.value = ap right_in c.in-OnRight.is in
@@ -67,13 +67,13 @@ insert_below-grown-requires-in-OnRight g t c κs within =
 
 pub unreachable-requires : goal.unreachable-requires
 unreachable-requires g t c =
-    let h = by_key g.K.Ord.cmp _ _ _ _ (rw c.deref.ensures at c.key.ensures) c.compare_to.ensures.answer in
+    let h = by_key g.K.Ord.cmp _ _ _ _ (rw c.deref.ensures at c.key_alone.ensures) c.compare_to.ensures.answer in
     let p = come_apart c.args.here.now c.requires.here_level in
     goes_nowhere g.met.K.Ord.total _ c.requires.alone.filled p c.requires.in_order c.requires.absent h c.in-Equal.is
 
 pub returns-in-Both-clause-is : goal.returns-in-Both-clause-is
 returns-in-Both-clause-is g t c =
-    let h = by_key g.K.Ord.cmp _ _ _ _ (rw c.deref.ensures at c.key.ensures) c.compare_to.ensures.answer in
+    let h = by_key g.K.Ord.cmp _ _ _ _ (rw c.deref.ensures at c.key_alone.ensures) c.compare_to.ensures.answer in
     let p = come_apart c.args.here.now c.requires.here_level in
     let w = goes_left g.met.K.Ord.total _ c.requires.alone.filled p c.requires.in_order c.requires.absent h c.in-Less.is in
     let e : c.deref_mut.result.now ≡ c.in-Both.left.value = search rules in
@@ -84,7 +84,7 @@ returns-in-Both-clause-is g t c =
 
 pub returns-in-Both-here-clause-is : goal.returns-in-Both-here-clause-is
 returns-in-Both-here-clause-is g t c =
-    let h = by_key g.K.Ord.cmp _ _ _ _ (rw c.deref.ensures at c.key.ensures) c.compare_to.ensures.answer in
+    let h = by_key g.K.Ord.cmp _ _ _ _ (rw c.deref.ensures at c.key_alone.ensures) c.compare_to.ensures.answer in
     let p = come_apart c.args.here.now c.requires.here_level in
     let w = goes_right g.met.K.Ord.total _ c.requires.alone.filled p c.requires.in_order c.requires.absent h c.in-Greater.is in
     let e : c.deref_mut-in-Both-here.result.now ≡ c.in-Both-here.right.value = search rules in
@@ -97,7 +97,7 @@ returns-in-Both-here-clause-is g t c =
 
 pub returns-in_default : goal.returns-in_default
 returns-in_default g t c =
-    let h = by_key g.K.Ord.cmp _ _ _ _ (rw c.deref.ensures at c.key.ensures) c.compare_to.ensures.answer in
+    let h = by_key g.K.Ord.cmp _ _ _ _ (rw c.deref.ensures at c.key_alone.ensures) c.compare_to.ensures.answer in
     let p = come_apart c.args.here.now c.requires.here_level in
     let w = goes_left g.met.K.Ord.total _ c.requires.alone.filled p c.requires.in_order c.requires.absent h c.in-Less.is in
     let none : left_in c.args.here.now ≡ None = search rules in
@@ -109,7 +109,7 @@ returns-in_default g t c =
 
 pub returns-in_default-here : goal.returns-in_default-here
 returns-in_default-here g t c =
-    let h = by_key g.K.Ord.cmp _ _ _ _ (rw c.deref.ensures at c.key.ensures) c.compare_to.ensures.answer in
+    let h = by_key g.K.Ord.cmp _ _ _ _ (rw c.deref.ensures at c.key_alone.ensures) c.compare_to.ensures.answer in
     let p = come_apart c.args.here.now c.requires.here_level in
     let w = goes_right g.met.K.Ord.total _ c.requires.alone.filled p c.requires.in_order c.requires.absent h c.in-Greater.is in
     let none : right_in c.args.here.now ≡ None = search rules in

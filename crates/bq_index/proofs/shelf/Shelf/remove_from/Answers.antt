@@ -1,4 +1,4 @@
-use Rattle.std.proofs.Common.{rules, arith, refl, Some, ◌≡◌, ◌+◌, ◌<◌, ◌^◌, length}
+use Rattle.std.proofs.Common.{ap, rules, arith, refl, Some, ◌≡◌, ◌+◌, ◌<◌, ◌^◌, length}
 use Rattle.std.specs.BTreeMap.{is_at}
 use Rattle.bq_index.proofs.Bound.{height_bound, height_small}
 use Rattle.bq_index.proofs.Order.{length_removed}
@@ -28,7 +28,7 @@ invariant_of-self-2 g c =
       balanced = w.balanced;
       in_order = w.in_order;
       counted = w.counted;
-      spares_counted = omega (arith, chain, w.spares_counted);
+      spares_counted = omega (arith, ap chain_length c.keep.ensures, chain, w.spares_counted);
       fits = omega (arith, less, spare, many, w.counted, c.requires.fits);
     }
 

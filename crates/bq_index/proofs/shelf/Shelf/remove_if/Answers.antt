@@ -77,6 +77,6 @@ invariant_of-self-2 g c =
       in_order = subst (InOrder g.K.Ord.cmp) (sym gone)
           (order_remove g.K.Ord.cmp (is_at (g.K.Ord.cmp c.args.key.now)) (entries c.replace-tree.result) order);
       counted = omega (arith, ap length gone, less, same, w.counted);
-      spares_counted = omega (arith, chain, w.spares_counted);
+      spares_counted = omega (arith, ap chain_length c.keep.ensures, chain, w.spares_counted);
       fits = omega (arith, one, w.fits);
     }
