@@ -4,6 +4,7 @@ ghost use Rattle.bq_core.specs.{Acting.Acts, Replying.{RepliesAt, RepliesBy}, Tu
 ghost use Rattle.bq_job.specs.machine.{Asked.{asked, effect, refusal_answer as answer_of_refusal}, Changes.seat_with};
 ghost use Rattle.bq_job.specs.machine.Steps.{step_takes_memory, takes_memory};
 ghost use Rattle.bq_state.specs.{Asking.AsksAsChanged, CoreParts.machine_of, SeatStates.is_asking};
+ghost use Rattle.bq_job.specs.declared.answer.Answer.TheVariants as answers;
 ghost use Rattle.bq_job.specs.declared.step.Step.TheVariants as steps;
 
 use crate::job_acts::{NewJob, NewTurn};
@@ -182,6 +183,37 @@ fn append(outs: &mut Outs, seat: Seat, answer: &mut Answer)
     outs.push(seat, replace(answer, Answer::Closed));
 }
 
+// Appends the answer to a put. Not inlined, like the two functions below: its caller would otherwise
+// initialize room for an answer before it begins, whichever branch it takes.
+#[inline(never)]
+fn append_inserted(outs: &mut Outs, seat: Seat, id: JobId)
+    requires { length outs.old.given < outs.old.most }
+    ensures { outs.new
+        ≡ record outs.old { given = outs.old.given ++ (seat, answers.Inserted id) ∷ [] } }
+{
+    outs.push(seat, Answer::Inserted(id));
+}
+
+// Appends the answer that a job was deleted.
+#[inline(never)]
+fn append_deleted(outs: &mut Outs, seat: Seat)
+    requires { length outs.old.given < outs.old.most }
+    ensures { outs.new
+        ≡ record outs.old { given = outs.old.given ++ (seat, answers.Deleted) ∷ [] } }
+{
+    outs.push(seat, Answer::Deleted);
+}
+
+// Appends the answer that memory was missing.
+#[inline(never)]
+fn append_out_of_memory(outs: &mut Outs, seat: Seat)
+    requires { length outs.old.given < outs.old.most }
+    ensures { outs.new
+        ≡ record outs.old { given = outs.old.given ++ (seat, answers.OutOfMemory) ∷ [] } }
+{
+    outs.push(seat, Answer::OutOfMemory);
+}
+
 // Carries out the command's own effect, and appends its answer. There is room for an answer in
 // `answer`.
 #[tactic(auto, using(crate::proofs::ActLemmas::acts_silent, crate::proofs::ActLemmas::acts_told))]
@@ -201,15 +233,15 @@ fn act_with(
     match reply_to(state, alloc, seat, what, answer) {
         Reply::Silent => {}
         Reply::Told => append(outs, seat, answer),
-        Reply::Inserted(id) => outs.push(seat, Answer::Inserted(id)),
-        Reply::Deleted => outs.push(seat, Answer::Deleted),
+        Reply::Inserted(id) => append_inserted(outs, seat, id),
+        Reply::Deleted => append_deleted(outs, seat),
         Reply::LeftOut => {
             outs.set_left_out();
-            outs.push(seat, Answer::OutOfMemory);
+            append_out_of_memory(outs, seat);
         }
         Reply::Unshared => {
             outs.set_unshared();
-            outs.push(seat, Answer::OutOfMemory);
+            append_out_of_memory(outs, seat);
         }
     }
 }

@@ -423,6 +423,17 @@ fn take_at_once(state: &mut CoreParts, seat: Seat, what: &Step) -> Option<(JobId
     Some((id, body))
 }
 
+// Appends the answer to a reserve that is handed a job. Not inlined, because its caller would
+// otherwise initialize room for an answer in each step.
+#[inline(never)]
+fn append_reserved(outs: &mut Outs, seat: Seat, id: JobId, body: Body)
+    requires { length outs.old.given < outs.old.most }
+    ensures { outs.new
+        ≡ record outs.old { given = outs.old.given ++ (seat, answers.Reserved id body) ∷ [] } }
+{
+    outs.push(seat, Answer::Reserved(id, body));
+}
+
 /// Carries out the command's own effect and drops tubes that are gone. If the command is a reserve
 /// and its client may have a job, the client is handed the job: by the rules it begins to wait, and
 /// dispatch then hands it the job and ends its wait. Here it is not entered among the clients that
@@ -439,7 +450,7 @@ pub(crate) fn act_or_hand_out(
     ensures { ActsOrGives (machine_of state.old) seat what.now outs.old outs.new (machine_of state.new) state.old.jobs state.new.jobs }
 {
     match take_at_once(state, seat, what) {
-        Some((id, body)) => outs.push(seat, Answer::Reserved(id, body)),
+        Some((id, body)) => append_reserved(outs, seat, id, body),
         None => {
             acts::act(state, alloc, seat, what, outs);
             changes::forget_tubes(state);
