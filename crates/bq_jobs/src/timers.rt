@@ -1,5 +1,5 @@
 //! The places of jobs among all delays and leases.
-ghost use Rattle.std.specs.Prelude.{◌≡◌, ◌==◌, ◌&&◌, ◌+◌, ◌-◌, ◌<◌, ◌≤◌, [], length, is_some, if◌then◌else◌, IsSome, OnOk, None};
+ghost use Rattle.std.specs.Prelude.{◌≡◌, ◌==◌, ◌&&◌, ◌+◌, ◌-◌, ◌<◌, ◌≤◌, [], length, is_some, if◌then◌else◌, IsSome, OnOk, None, Some};
 ghost use Rattle.std.specs.Option.{ForSome};
 ghost use Rattle.bq_index.specs.Shelf.{ComparesFew};
 ghost use Rattle.bq_job.specs.machine.Changes.{is_pair_before};
@@ -81,7 +81,9 @@ impl Timers {
         places::make_room(&mut self.places, source, places)
     }
 
-    /// Adds a place, if there is one.
+    /// Adds a place, if there is one. Most jobs that are put have none, so the test is made where it is
+    /// called.
+    #[inline(always)]
     pub(crate) fn enter(&mut self, place: Option<ShelfPlace<Timer>>)
         requires spare { ForSome place (λ _. 0 < self.old.spare) }
         requires absent { ForSome place
@@ -92,12 +94,12 @@ impl Timers {
         ensures comparisons { ComparesFew self.old self.new }
     {
         if let Some(place) = place {
-            note_added(&mut self.lease, &place);
-            self.places.insert(place, ());
+            self.add(place);
         }
     }
 
     /// Removes a place, if there is one.
+    #[inline(always)]
     pub(crate) fn leave(&mut self, place: Option<ShelfPlace<Timer>>)
         requires held { ForSome place
             (λ p. IsSome (holds_place ⟦<Timer as Ord>⟧.cmp p self.old.entries)) }
@@ -107,9 +109,35 @@ impl Timers {
         ensures comparisons { ComparesFew self.old self.new }
     {
         if let Some(place) = place {
-            note_removed(&mut self.lease, &place);
-            let _held = self.places.remove(&place);
+            self.take(place);
         }
+    }
+
+    // Adds a place.
+    #[inline(never)]
+    fn add(&mut self, place: ShelfPlace<Timer>)
+        requires spare { 0 < self.old.spare }
+        requires absent { holds_place ⟦<Timer as Ord>⟧.cmp place self.old.entries ≡ None }
+        ensures entries { self.new.entries
+            ≡ with_place ⟦<Timer as Ord>⟧.cmp (Some place) self.old.entries }
+        ensures spare { self.new.spare + 1 ≡ self.old.spare }
+        ensures comparisons { ComparesFew self.old self.new }
+    {
+        note_added(&mut self.lease, &place);
+        self.places.insert(place, ());
+    }
+
+    // Removes a place.
+    #[inline(never)]
+    fn take(&mut self, place: ShelfPlace<Timer>)
+        requires held { IsSome (holds_place ⟦<Timer as Ord>⟧.cmp place self.old.entries) }
+        ensures entries { self.new.entries
+            ≡ without_place ⟦<Timer as Ord>⟧.cmp (Some place) self.old.entries }
+        ensures spare { self.new.spare ≡ self.old.spare + 1 }
+        ensures comparisons { ComparesFew self.old self.new }
+    {
+        note_removed(&mut self.lease, &place);
+        let _held = self.places.remove(&place);
     }
 
     /// Removes one place, if there is one, and adds another, if there is one.
