@@ -9,7 +9,7 @@ use crate::turns::Stands;
 use bq_host::Mail;
 use bq_line::attendant::{Attendant, LinePlace};
 use bq_line::line::Line;
-use bq_seat::{Action, SeatMachine};
+use bq_seat::{Does, NextAction, SeatMachine};
 use std::alloc::Global;
 
 /// Returns true if the next action of a seat would move nothing, and so would the one after it.
@@ -24,14 +24,19 @@ pub fn is_still<L: Line + Drop>(seat: &Attendant<L>, has_none: bool) -> bool
     }
 }
 
-fn is_still_on<L: Line>(action: &Action, machine: &SeatMachine, line: &L, has_none: bool) -> bool
+fn is_still_on<L: Line>(
+    action: &NextAction,
+    machine: &SeatMachine,
+    line: &L,
+    has_none: bool,
+) -> bool
     ensures { result ≡ true → (mail : List Answer) → (has_none ≡ true → mail ≡ [])
         → IsStillOn action.now machine.now (L.may_give line.now) (L.may_take line.now) mail }
 {
-    match action {
-        Action::Read => reads_nothing(machine, line, has_none),
-        Action::PollMail => polls_nothing(machine, line, has_none),
-        Action::Write(_) => !line.may_take(),
+    match action.does() {
+        Does::Read => reads_nothing(machine, line, has_none),
+        Does::PollMail => polls_nothing(machine, line, has_none),
+        Does::Write => !line.may_take(),
         _ => false,
     }
 }
@@ -81,14 +86,14 @@ pub fn stands_of<L: Line + Drop>(seat: &Attendant<L>) -> Stands
     }
 }
 
-fn stands_on<L: Line>(line: &L, action: &Action, machine: &SeatMachine) -> Stands
+fn stands_on<L: Line>(line: &L, action: &NextAction, machine: &SeatMachine) -> Stands
     ensures between { result ≡ Stands.Between → ⊥ }
     ensures done { result ≡ Stands.Done → ⊥ }
 {
-    match action {
-        Action::Read => read_stands(line, machine),
-        Action::Submit(_) => Stands::Submits,
-        Action::Write(_) => Stands::Writes,
+    match action.does() {
+        Does::Read => read_stands(line, machine),
+        Does::Submit => Stands::Submits,
+        Does::Write => Stands::Writes,
         _ => Stands::Other,
     }
 }

@@ -18,7 +18,7 @@ use crate::woken::Woken;
 use bq_core_api::{Config, QueueCore};
 use bq_job::{Answer, Seat, Step};
 use bq_line::clock::Clock;
-use bq_seat::Action;
+use bq_seat::NextAction;
 use std::alloc::Global;
 
 /// The core with its clock, and the answers that no seat has taken yet. Seats are served one at a
@@ -123,7 +123,7 @@ impl<C: Clock + Drop, K: QueueCore + Drop> Hub<C, K> {
 
     /// Takes the oldest answer to the seat, if there is one, and puts it into `place` as an action
     /// that writes it. Returns false and leaves `place` as it was if there is none.
-    pub fn take_to(&mut self, seat: Seat, place: &mut Action) -> bool
+    pub fn take_to(&mut self, seat: Seat, place: &mut NextAction) -> bool
         requires ready { IsInOrderFor K.machine K.comparisons seat self.old }
         ensures order { IsInOrder (state_of K.machine K.comparisons self.new) }
         ensures went { TakesInPlace (WentAt K.machine K.comparisons C.given seat) self.old place.old result place.new self.new }
@@ -144,7 +144,7 @@ impl<C: Clock + Drop, K: QueueCore + Drop> Hub<C, K> {
     // The same, wherever the answer is. Not inlined, because it reserves and initializes room for
     // answers.
     #[inline(never)]
-    fn take_kept(&mut self, seat: Seat, place: &mut Action) -> bool
+    fn take_kept(&mut self, seat: Seat, place: &mut NextAction) -> bool
         requires ready { IsInOrderFor K.machine K.comparisons seat self.old }
         ensures order { IsInOrder (state_of K.machine K.comparisons self.new) }
         ensures went { TakesInPlace (WentAt K.machine K.comparisons C.given seat) self.old place.old result place.new self.new }
@@ -152,7 +152,7 @@ impl<C: Clock + Drop, K: QueueCore + Drop> Hub<C, K> {
         let _all = self.sort(seat);
         match self.take_mail(seat) {
             Some(answer) => {
-                *place = Action::Write(answer);
+                place.write(answer);
                 true
             }
             None => false,
@@ -161,7 +161,7 @@ impl<C: Clock + Drop, K: QueueCore + Drop> Hub<C, K> {
 
     // The same if no earlier answer waits: mostly the core's only answer is for this seat. It goes
     // from where the core put it right to its place.
-    fn take_new(&mut self, seat: Seat, place: &mut Action) -> bool
+    fn take_new(&mut self, seat: Seat, place: &mut NextAction) -> bool
         requires ready { IsInOrderFor K.machine K.comparisons seat self.old }
         requires empty { slice_index_or self.old.mails.items seat [] ≡ [] }
         requires none_held { self.old.held ≡ None }
@@ -172,7 +172,7 @@ impl<C: Clock + Drop, K: QueueCore + Drop> Hub<C, K> {
             return false;
         };
         if seat == first {
-            *place = Action::Write(answer);
+            place.write(answer);
             self.note_none_pending();
             return true;
         }

@@ -17,7 +17,7 @@ use bq_line::attendant::{Attendant, Link, Progress, carry_out};
 use bq_line::buffers::Buffers;
 use bq_line::clock::Clock;
 use bq_line::line::Line;
-use bq_seat::{Action, SeatMachine};
+use bq_seat::{NextAction, SeatMachine};
 
 /// A seat's link to the hub at which it is served.
 #[derive(Drop)]
@@ -37,12 +37,12 @@ impl<'a, C: Clock + Drop, K: QueueCore + Drop> Link for HubSeat<'a, C, K> {
         self.hub.submit(self.seat, step)
     }
 
-    fn mail(&mut self, place: &mut Action) -> bool {
+    fn mail(&mut self, place: &mut NextAction) -> bool {
         self.hub.take_to(self.seat, place)
     }
 
     // The hub's mail never sleeps.
-    fn mail_at_once(&mut self, place: &mut Action) -> bool {
+    fn mail_at_once(&mut self, place: &mut NextAction) -> bool {
         self.hub.take_to(self.seat, place)
     }
 }
@@ -77,7 +77,7 @@ pub fn attend<L: Line + Drop, D: Door<Line = L>, C: Clock + Drop, K: QueueCore +
 /// what moved or what was missing.
 pub fn act<L: Line, C: Clock + Drop, K: QueueCore + Drop>(
     machine: &mut SeatMachine,
-    action: &mut Action,
+    action: &mut NextAction,
     sent: &mut usize,
     line: &mut L,
     hub: &mut Hub<C, K>,

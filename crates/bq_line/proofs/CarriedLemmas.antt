@@ -206,6 +206,11 @@ rests_submission went result first last step old new next submitted taken w (inl
     inl (subst (λ x. went first x [] last) still.0 (subst (λ t. went first submitted t last) still.1 w))
 rests_submission went result first last step old new next submitted taken w (inr s) moved = absurd (moved s.0)
 
+-- The answer that the place for the next action lends is the one that the action writes.
+pub writes_this : {action : Action} {lent : Answer} (writes : (answer : Answer) × (action ≡ actions.Write answer))
+    → ((answer : Answer) → action ≡ actions.Write answer → lent ≡ answer) → action ≡ actions.Write lent
+writes_this writes same = writes.1 ∙ ap actions.Write (sym (same writes.0 writes.1))
+
 -- A step was submitted, and then the seat waits for its answer or took it.
 pub submits_on : {K : Type 0} (went : K → List Step → List Answer → K → Type 0) (first middle last : K) (old new : SeatMachine)
     (step : Step) (next : Action) → went first (as_submitted step) [] middle → TakesOrWaits went middle last old new next

@@ -20,7 +20,7 @@ use crate::buffers::{Buffers, Wrote, read, write_answer};
 use crate::door::{Door, Opening};
 use crate::line::{Line, ReadBuffer, Readiness, Watcher};
 use bq_job::{LARGEST_BODY, LineEnd, NoMemory, Step};
-use bq_seat::{Action, Event, SeatMachine};
+use bq_seat::{Action, Does, NextAction, SeatMachine};
 use std::alloc::Global;
 use std::mem;
 
@@ -43,14 +43,14 @@ pub trait Link {
     /// Takes the oldest waiting answer, puts it into `place` as an action that writes it, and
     /// returns true. If there is none, leaves `place` as it was and returns false. A link between
     /// threads may sleep here for up to a second, until an answer comes.
-    fn mail(&mut self, place: &mut Action) -> bool
+    fn mail(&mut self, place: &mut NextAction) -> bool
         requires ready { is_ready self.old }
         ensures ready { is_ready self.new }
         ensures went { TakesInPlace went self.old place.old result place.new self.new };
 
     /// Takes the oldest waiting answer as `mail` does, but never sleeps. By default it takes none:
     /// the seat then calls `mail` for it.
-    fn mail_at_once(&mut self, place: &mut Action) -> bool
+    fn mail_at_once(&mut self, place: &mut NextAction) -> bool
         requires ready { is_ready self.old }
         ensures ready { is_ready self.new }
         ensures went { TakesFurther went self.old place.old result place.new self.new }
@@ -96,7 +96,7 @@ pub enum LinePlace<L> {
     Between,
     /// This connection is open, and the action is its next one. If the action writes an answer, the
     /// number says how many bytes of it were written already.
-    On(L, Action, usize),
+    On(L, NextAction, usize),
     /// No more connections come, which has to be submitted.
     Leaving,
     /// It was submitted that no more connections come.
@@ -154,35 +154,47 @@ impl<L: Line + Drop> Attendant<L> {
         ensures outstanding { (line : L) (sent : ℕ) → self.now.place ≡ LinePlace.On line Action.Read sent
             → ReadsWith (not result) self.now.machine }
     {
-        matches!(self.place, LinePlace::On(_, Action::Read, _)) && !self.machine.has_outstanding()
+        self.reads() && !self.machine.has_outstanding()
     }
 
     /// Returns true if it wants to read while an answer is outstanding.
     pub fn reads_on(&self) -> bool {
-        matches!(self.place, LinePlace::On(_, Action::Read, _)) && self.machine.has_outstanding()
+        self.reads() && self.machine.has_outstanding()
     }
 
     /// Returns true if it wants to read its connection.
-    pub fn reads(&self) -> bool {
-        matches!(self.place, LinePlace::On(_, Action::Read, _))
+    pub fn reads(&self) -> bool
+        ensures { IsTrue result ↔ ((line : L) × (sent : ℕ) × (self.now.place ≡ LinePlace.On line Action.Read sent)) }
+    {
+        match &self.place {
+            LinePlace::On(_, next, _) => next.is_read(),
+            _ => false,
+        }
     }
 
     /// Returns true if it wants to submit a step, possibly again.
     pub fn submits(&self) -> bool {
-        matches!(
-            self.place,
-            LinePlace::On(_, Action::Submit(_), _) | LinePlace::Leaving
-        )
+        match &self.place {
+            LinePlace::On(_, next, _) => matches!(next.does(), Does::Submit),
+            LinePlace::Leaving => true,
+            _ => false,
+        }
     }
 
     /// Returns true if it wants to check its mail for an answer.
     pub fn polls_mail(&self) -> bool {
-        matches!(self.place, LinePlace::On(_, Action::PollMail, _))
+        match &self.place {
+            LinePlace::On(_, next, _) => matches!(next.does(), Does::PollMail),
+            _ => false,
+        }
     }
 
     /// Returns true if it wants to write an answer.
     pub fn writes(&self) -> bool {
-        matches!(self.place, LinePlace::On(_, Action::Write(_), _))
+        match &self.place {
+            LinePlace::On(_, next, _) => matches!(next.does(), Does::Write),
+            _ => false,
+        }
     }
 
     /// Returns true if it has to read or write again although nothing moved and no event will
@@ -190,11 +202,12 @@ impl<L: Line + Drop> Attendant<L> {
     /// polls its mail before it reads again.
     pub fn tries_again(&self) -> bool {
         match &self.place {
-            LinePlace::On(line, Action::Read, _) => line.may_give(),
-            LinePlace::On(line, Action::PollMail, _) => {
-                line.may_give() && self.machine.would_read()
-            }
-            LinePlace::On(line, Action::Write(_), _) => line.may_take(),
+            LinePlace::On(line, next, _) => match next.does() {
+                Does::Read => line.may_give(),
+                Does::PollMail => line.may_give() && self.machine.would_read(),
+                Does::Write => line.may_take(),
+                _ => false,
+            },
             _ => false,
         }
     }
@@ -255,7 +268,7 @@ impl<L: Line + Drop> Attendant<L> {
     {
         match door.look(may_have_come, watcher) {
             Ok(Opening::Line(line)) => {
-                let action = self.machine.on(alloc, Event::Opened);
+                let action = self.machine.open();
                 put_place(&mut self.place, LinePlace::On(line, action, 0));
                 Looked::Opened
             }
@@ -302,14 +315,13 @@ impl<L: Line + Drop> Attendant<L> {
     {
         // An open connection stays in place until it ends.
         match &mut self.place {
-            LinePlace::On(line, action, sent) => match action {
-                Action::LineOver(end) => {
-                    let end = *end;
+            LinePlace::On(line, action, sent) => match action.does() {
+                Does::LineOver(end) => {
                     shut_line(&mut self.place, door, end);
                     Progress::Moved
                 }
-                Action::Submit(_) => submit_and_take(alloc, &mut self.machine, action, sent, link),
-                other => carry_out(alloc, &mut self.machine, other, sent, line, link, buffers),
+                Does::Submit => submit_and_take(alloc, &mut self.machine, action, sent, link),
+                _ => carry_out(alloc, &mut self.machine, action, sent, line, link, buffers),
             },
             LinePlace::Between => {
                 open_in_place(alloc, &mut self.machine, &mut self.place, door);
@@ -339,7 +351,7 @@ fn open_in_place<L: Line + Drop, D: Door<Line = L>>(
 {
     match door.open() {
         Ok(Some(line)) => {
-            let action = machine.on(alloc, Event::Opened);
+            let action = machine.open();
             put_place(place, LinePlace::On(line, action, 0));
         }
         Ok(None) => put_place(place, LinePlace::Leaving),
@@ -411,7 +423,7 @@ fn leave<L: Line + Drop, K: Link>(place: &mut LinePlace<L>, link: &mut K) -> Pro
 pub fn carry_out<L: Line, K: Link>(
     alloc: Global,
     machine: &mut SeatMachine,
-    action: &mut Action,
+    action: &mut NextAction,
     sent: &mut usize,
     line: &mut L,
     link: &mut K,
@@ -423,10 +435,10 @@ pub fn carry_out<L: Line, K: Link>(
         × CarriedPart result machine.old (L.seen line.old) action.old sent.old machine.new (L.seen line.new) action.new sent.new submitted taken }
     ensures stays { StaysOver L.lies_over line.old line.new }
 {
-    match action {
-        Action::Write(answer) => {
+    match action.does() {
+        Does::Write => {
             expect_answers(machine, line);
-            match write_answer(line, answer, sent, buffers) {
+            match write_answer(line, action.answer(), sent, buffers) {
                 Wrote::Whole => {
                     *sent = 0;
                     machine.write_done(alloc, action);
@@ -441,9 +453,9 @@ pub fn carry_out<L: Line, K: Link>(
                 }
             }
         }
-        other => {
+        _ => {
             *sent = 0;
-            act(alloc, machine, other, line, link, buffers)
+            act(alloc, machine, action, line, link, buffers)
         }
     }
 }
@@ -452,7 +464,7 @@ pub fn carry_out<L: Line, K: Link>(
 fn act<L: Line, K: Link>(
     alloc: Global,
     machine: &mut SeatMachine,
-    action: &mut Action,
+    action: &mut NextAction,
     line: &mut L,
     link: &mut K,
     buffers: &mut Buffers,
@@ -463,10 +475,10 @@ fn act<L: Line, K: Link>(
         Carried result machine.old (L.seen line.old) action.old machine.new (L.seen line.new) action.new submitted taken }
     ensures stays { StaysOver L.lies_over line.old line.new }
 {
-    match action {
-        Action::Submit(_) => submit(alloc, machine, action, link),
-        Action::Read => read(alloc, machine, action, line, &mut buffers.piece),
-        Action::PollMail => {
+    match action.does() {
+        Does::Submit => submit(alloc, machine, action, link),
+        Does::Read => read(alloc, machine, action, line, &mut buffers.piece),
+        Does::PollMail => {
             if link.mail(action) {
                 machine.mail(action);
                 Progress::Moved
@@ -477,9 +489,9 @@ fn act<L: Line, K: Link>(
                 Progress::NoMail
             }
         }
-        Action::Write(_) => Progress::NoRoom,
-        Action::LineOver(_) => Progress::NothingToDo,
-        Action::Stray => Progress::NothingToDo,
+        Does::Write => Progress::NoRoom,
+        Does::LineOver(_) => Progress::NothingToDo,
+        Does::Stray => Progress::NothingToDo,
     }
 }
 
@@ -487,7 +499,7 @@ fn act<L: Line, K: Link>(
 fn submit<K: Link>(
     alloc: Global,
     machine: &mut SeatMachine,
-    action: &mut Action,
+    action: &mut NextAction,
     link: &mut K,
 ) -> Progress
     requires ready { K.is_ready link.old }
@@ -495,9 +507,9 @@ fn submit<K: Link>(
     ensures submitted { (step : Step) → action.old ≡ Action.Submit step
         → HasSubmitted K.went link.old link.new result machine.old step machine.new action.new }
 {
-    match action {
-        Action::Submit(step) => {
-            if link.submit(step) {
+    match action.does() {
+        Does::Submit => {
+            if link.submit(action.step_mut()) {
                 machine.submitted(alloc, action);
                 Progress::Moved
             } else {
@@ -513,7 +525,7 @@ fn submit<K: Link>(
 fn submit_and_take<K: Link>(
     alloc: Global,
     machine: &mut SeatMachine,
-    action: &mut Action,
+    action: &mut NextAction,
     sent: &mut usize,
     link: &mut K,
 ) -> Progress
@@ -524,9 +536,9 @@ fn submit_and_take<K: Link>(
         → HasSubmittedOn K.went link.old link.new result machine.old step machine.new action.new }
 {
     *sent = 0;
-    match action {
-        Action::Submit(step) => {
-            if !link.submit(step) {
+    match action.does() {
+        Does::Submit => {
+            if !link.submit(action.step_mut()) {
                 return Progress::NotAccepted;
             }
             take_or_wait(alloc, machine, action, link);
@@ -541,7 +553,7 @@ fn submit_and_take<K: Link>(
 fn take_or_wait<K: Link>(
     alloc: Global,
     machine: &mut SeatMachine,
-    action: &mut Action,
+    action: &mut NextAction,
     link: &mut K,
 )
     requires ready { K.is_ready link.old }

@@ -13,7 +13,7 @@ ghost use Rattle.bq_line.specs.Writing.{Resumes, WritesOn, with_written};
 use crate::attendant::Progress;
 use crate::line::{Line, StreamError};
 use bq_job::Answer;
-use bq_seat::{Action, PIECE_ROOM, SeatMachine};
+use bq_seat::{Action, NextAction, PIECE_ROOM, SeatMachine};
 use bq_wire::{HeadBuf, answer_body, answer_head, answer_tail};
 use std::alloc::Global;
 
@@ -392,7 +392,7 @@ fn after_error(e: StreamError) -> Wrote
 pub fn read<L: Line>(
     alloc: Global,
     machine: &mut SeatMachine,
-    next: &mut Action,
+    next: &mut NextAction,
     line: &mut L,
     piece: &mut [u8],
 ) -> Progress
@@ -411,7 +411,7 @@ pub fn read<L: Line>(
 fn read_buffered<L: Line>(
     alloc: Global,
     machine: &mut SeatMachine,
-    next: &mut Action,
+    next: &mut NextAction,
     line: &mut L,
     piece: &mut [u8],
 ) -> Progress
@@ -429,7 +429,7 @@ fn read_buffered<L: Line>(
 fn hand_on<L: Line>(
     alloc: Global,
     machine: &mut SeatMachine,
-    next: &mut Action,
+    next: &mut NextAction,
     line: &mut L,
     piece: &mut [u8],
 ) -> Progress
@@ -453,7 +453,7 @@ fn hand_on<L: Line>(
 fn hand_on_body<L: Line>(
     alloc: Global,
     machine: &mut SeatMachine,
-    next: &mut Action,
+    next: &mut NextAction,
     line: &mut L,
 ) -> Progress
     requires some { 0 < missing_in machine.old }
@@ -482,7 +482,7 @@ fn body_at_hand<L: Line>(machine: &SeatMachine, line: &L) -> usize
 fn read_piece<L: Line>(
     alloc: Global,
     machine: &mut SeatMachine,
-    next: &mut Action,
+    next: &mut NextAction,
     line: &mut L,
     piece: &mut [u8],
 ) -> Progress
@@ -506,7 +506,7 @@ fn read_piece<L: Line>(
 fn tell_error(
     alloc: Global,
     machine: &mut SeatMachine,
-    next: &mut Action,
+    next: &mut NextAction,
     e: StreamError,
 ) -> Progress
     ensures { (seen : LineSeen)

@@ -5,7 +5,7 @@ use crate::bells::{Bells, Rings};
 use bq_job::{Answer, Seat, Step};
 use bq_line::attendant::Link;
 use bq_line::control::ControlLink;
-use bq_seat::Action;
+use bq_seat::NextAction;
 use std::mem;
 use std::sync::{Mutex, Wait};
 use std::time::Duration;
@@ -154,10 +154,10 @@ impl<'a, R: Wait, K: SharedDesk> Link for SharedSeat<'a, R, K> {
         true
     }
 
-    fn mail(&mut self, place: &mut Action) -> bool {
+    fn mail(&mut self, place: &mut NextAction) -> bool {
         match self.next_answer() {
             Some(answer) => {
-                drop(mem::replace(place, Action::Write(answer)));
+                place.write(answer);
                 true
             }
             None => false,

@@ -18,7 +18,7 @@ use bq_line::attendant::Progress;
 use bq_line::buffers::Buffers;
 use bq_line::clock::Clock;
 use bq_line::line::Line;
-use bq_seat::{Action, Event, SeatMachine};
+use bq_seat::{Does, NextAction, SeatMachine};
 use std::alloc::Global;
 use std::sync::Wait;
 use std::thread::Parker;
@@ -102,10 +102,10 @@ fn serve_line<R: Wait, L: Line + Drop, C: Clock + Drop, K: QueueCore + Drop>(
     let mut machine = machine;
     let mut buffers = Buffers::new();
     let bell = Parker::new();
-    let mut action = machine.on(hub.timed.alloc, Event::Opened);
+    let mut action = machine.open();
     let mut sent = 0;
     for _ in rt.forever() {
-        if let Action::LineOver(end) = action {
+        if let Does::LineOver(end) = action.does() {
             drop(action);
             drop(machine);
             return One {
@@ -138,20 +138,20 @@ fn into_clock<C: Clock + Drop, K: QueueCore + Drop>(hub: Hub<C, K>) -> C
 }
 
 // Lets time pass if the next action checks the mail.
-fn pass_time_before<C: Clock + Drop, K: QueueCore + Drop>(next: &Action, hub: &mut Hub<C, K>)
+fn pass_time_before<C: Clock + Drop, K: QueueCore + Drop>(next: &NextAction, hub: &mut Hub<C, K>)
     requires ready { IsInOrderFor K.machine K.comparisons 0 hub.old }
     ensures ready { IsInOrderFor K.machine K.comparisons 0 hub.new }
     ensures went { WentAt K.machine K.comparisons C.given 0 hub.old [] [] hub.new }
 {
-    if matches!(next, Action::PollMail) {
+    if matches!(next.does(), Does::PollMail) {
         let _due = hub.pass_time();
     }
 }
 
 // Sleeps for a moment if no answer has come and the next action checks the mail again: nothing can
 // happen before time has passed.
-fn rest_after<R: Wait>(rt: &R, bell: &Parker, progress: Progress, next: &Action) {
-    if progress == Progress::NoMail && matches!(next, Action::PollMail) {
+fn rest_after<R: Wait>(rt: &R, bell: &Parker, progress: Progress, next: &NextAction) {
+    if progress == Progress::NoMail && matches!(next.does(), Does::PollMail) {
         bell.park_timeout(rt, Duration::from_millis(REST));
     }
 }

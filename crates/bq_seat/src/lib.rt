@@ -7,8 +7,10 @@ pub use bq_job::LineEnd;
 pub use byte_buffer::ByteBuffer;
 pub use laws::pasts_are_orderly;
 pub use machine::{Action, Event, PIECE_ROOM, SeatMachine};
+pub use next_action::{Does, NextAction};
 
 mod by_value;
 mod byte_buffer;
 mod laws;
 mod machine;
+mod next_action;

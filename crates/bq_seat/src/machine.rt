@@ -5,6 +5,7 @@ ghost use Rattle.bq_seat.specs.SeatParts.{AsksOrReads, IsTaken, asking_stage, re
 ghost use Rattle.bq_wire.specs.Standing.{Stands};
 
 use crate::byte_buffer::ByteBuffer;
+use crate::next_action::{Does, NextAction};
 use bq_job::{Answer, LARGEST_BODY, LineEnd, NoMemory, Request, Step};
 use bq_wire::{RequestReader, Taken};
 use std::alloc::Global;
@@ -165,7 +166,7 @@ impl SeatMachine {
     /// content of `next`, which may be the last action, is ignored.
     ///
     /// An event that does not answer the last action changes nothing, and `next` becomes `Stray`.
-    pub fn opened(&mut self, next: &mut Action)
+    pub fn opened(&mut self, next: &mut NextAction)
         ensures { IsMove self.old Event.Opened next.new self.new }
     {
         match self.stage {
@@ -174,14 +175,14 @@ impl SeatMachine {
                 self.kept.clear();
                 self.end_told = false;
                 self.stage = Stage::Connecting;
-                give(next, Action::Submit(Step::Connect));
+                next.submit(Step::Connect);
             }
             _ => stray(next),
         }
     }
 
     /// The step was submitted. Like `bytes` and `write_done` it allocates only the body of a put.
-    pub fn submitted(&mut self, alloc: Global, next: &mut Action)
+    pub fn submitted(&mut self, alloc: Global, next: &mut NextAction)
         ensures { IsMove self.old Event.Submitted next.new self.new }
     {
         match self.stage {
@@ -195,7 +196,7 @@ impl SeatMachine {
     }
 
     /// These bytes were read, at most 4,096.
-    pub fn bytes(&mut self, alloc: Global, bytes: &[u8], next: &mut Action)
+    pub fn bytes(&mut self, alloc: Global, bytes: &[u8], next: &mut NextAction)
         requires { length bytes.now ≤ PIECE_ROOM }
         ensures { IsMove self.old (Event.Bytes bytes.entry) next.new self.new }
     {
@@ -204,7 +205,7 @@ impl SeatMachine {
 
     /// These bytes were read, at most as many as the put that is being read still lacks. So a long
     /// body need not be passed in piece by piece.
-    pub fn body_bytes(&mut self, alloc: Global, bytes: &[u8], next: &mut Action)
+    pub fn body_bytes(&mut self, alloc: Global, bytes: &[u8], next: &mut NextAction)
         requires { length bytes.now ≤ missing_in self.old }
         ensures { IsMove self.old (Event.Bytes bytes.entry) next.new self.new }
     {
@@ -213,7 +214,7 @@ impl SeatMachine {
 
     // These bytes were read.
     #[inline(always)]
-    fn came(&mut self, alloc: Global, bytes: &[u8], next: &mut Action)
+    fn came(&mut self, alloc: Global, bytes: &[u8], next: &mut NextAction)
         requires { HasRoomFor self.old (length bytes.now) }
         ensures { IsMove self.old (Event.Bytes bytes.entry) next.new self.new }
     {
@@ -227,7 +228,7 @@ impl SeatMachine {
     // These bytes came while a reserve waits. A separate function, so that its caller needs no room
     // on the stack.
     #[inline(never)]
-    fn keep(&mut self, bytes: &[u8], next: &mut Action)
+    fn keep(&mut self, bytes: &[u8], next: &mut NextAction)
         requires { length bytes.now ≤ PIECE_ROOM }
         ensures action { next.new ≡ Action.PollMail }
         ensures after { self.new ≡ in_stage (Stage.Polling true) (holding bytes.now self.old) }
@@ -237,20 +238,20 @@ impl SeatMachine {
     }
 
     /// There was nothing to read, or no mail.
-    pub fn nothing_yet(&mut self, next: &mut Action)
+    pub fn nothing_yet(&mut self, next: &mut NextAction)
         ensures { IsMove self.old Event.NothingYet next.new self.new }
     {
         match self.stage {
-            Stage::Reading => give(next, Action::Read),
+            Stage::Reading => next.set(Does::Read),
             Stage::ReadingOn => self.poll(true, next),
             Stage::Polling { waits } => self.no_mail_yet(waits, next),
-            Stage::Leaving(_) => give(next, Action::PollMail),
+            Stage::Leaving(_) => next.set(Does::PollMail),
             _ => stray(next),
         }
     }
 
     /// The client sends no more.
-    pub fn end_of_input(&mut self, next: &mut Action)
+    pub fn end_of_input(&mut self, next: &mut NextAction)
         ensures { IsMove self.old Event.EndOfInput next.new self.new }
     {
         match self.stage {
@@ -258,14 +259,14 @@ impl SeatMachine {
             Stage::ReadingOn => {
                 self.end_told = true;
                 self.stage = Stage::TellingEnd;
-                give(next, Action::Submit(Step::End));
+                next.submit(Step::End);
             }
             _ => stray(next),
         }
     }
 
     /// A read of the connection failed.
-    pub fn read_fault(&mut self, next: &mut Action)
+    pub fn read_fault(&mut self, next: &mut NextAction)
         ensures { IsMove self.old Event.ReadFault next.new self.new }
     {
         match self.stage {
@@ -277,7 +278,7 @@ impl SeatMachine {
 
     /// An answer came. It must already be in `next` as a `Write`; if it is to be written, it stays
     /// there. If it ends the connection, the memory for a body that did not come whole is freed.
-    pub fn mail(&mut self, next: &mut Action)
+    pub fn mail(&mut self, next: &mut NextAction)
         ensures moved { (answer : Answer) → next.old ≡ Action.Write answer
             → IsMove self.old (Event.Mail answer) next.new self.new }
         ensures freed { (answer : Answer) (end : LineEnd) → next.old ≡ Action.Write answer
@@ -299,7 +300,7 @@ impl SeatMachine {
 
     /// The request was submitted, and then its answer came: `submitted` and `mail` in one call. The
     /// answer must already be in `next` as a `Write`, and stays there.
-    pub fn answered(&mut self, next: &mut Action)
+    pub fn answered(&mut self, next: &mut NextAction)
         requires asking { is_asking self.old.stage ≡ true }
         ensures moved { (answer : Answer) → next.old ≡ Action.Write answer → IsAnswered self.old answer next.new self.new }
     {
@@ -307,7 +308,7 @@ impl SeatMachine {
     }
 
     /// The whole answer was written.
-    pub fn write_done(&mut self, alloc: Global, next: &mut Action)
+    pub fn write_done(&mut self, alloc: Global, next: &mut NextAction)
         ensures { IsMove self.old Event.WriteDone next.new self.new }
     {
         match self.stage {
@@ -317,7 +318,7 @@ impl SeatMachine {
     }
 
     /// A write to the connection failed.
-    pub fn write_fault(&mut self, next: &mut Action)
+    pub fn write_fault(&mut self, next: &mut NextAction)
         ensures { IsMove self.old Event.WriteFault next.new self.new }
     {
         match self.stage {
@@ -328,7 +329,7 @@ impl SeatMachine {
 
     // No answer is outstanding: submits the next request in the kept bytes. If they contain none,
     // it reads more, or closes the connection if the client sends no more.
-    fn go_on(&mut self, alloc: Global, next: &mut Action)
+    fn go_on(&mut self, alloc: Global, next: &mut NextAction)
         ensures { GoesOn self.old next.new self.new }
     {
         if self.end_told {
@@ -343,7 +344,7 @@ impl SeatMachine {
     // Does the same if bytes are kept. A separate function, because its caller would otherwise
     // initialize room for a request on every path.
     #[inline(never)]
-    fn go_on_with_kept(&mut self, alloc: Global, next: &mut Action)
+    fn go_on_with_kept(&mut self, alloc: Global, next: &mut NextAction)
         requires { self.old.end_told ≡ false }
         ensures { GoesOn self.old next.new self.new }
     {
@@ -355,7 +356,7 @@ impl SeatMachine {
     // Does the same if no bytes are kept and these bytes came. It parses the request directly from
     // `bytes`, and keeps only the bytes after it.
     #[tactic(auto, using(crate::proofs::PieceLemmas::room_for_rest))]
-    fn take_in(&mut self, alloc: Global, bytes: &[u8], next: &mut Action)
+    fn take_in(&mut self, alloc: Global, bytes: &[u8], next: &mut NextAction)
         requires { HasRoomIn self.old.reader.place (length bytes.now) }
         ensures { GoesOn (holding bytes.now self.old) next.new self.new }
     {
@@ -369,32 +370,32 @@ impl SeatMachine {
 
     // Submits the request in `next`, or reads the connection if there is none.
     #[inline(always)]
-    fn ask_or_read(&mut self, is_request: bool, next: &mut Action)
+    fn ask_or_read(&mut self, is_request: bool, next: &mut NextAction)
         ensures { (request : Request) → next.old ≡ Action.Submit (Step.Ask request)
             → AsksOrReads is_request request self.old next.new self.new }
     {
         if !is_request {
             return self.read(next);
         }
-        if let Action::Submit(Step::Ask(request)) = next {
+        if let Step::Ask(request) = next.step() {
             self.stage = stage_of(request);
         }
     }
 
-    fn read(&mut self, next: &mut Action)
+    fn read(&mut self, next: &mut NextAction)
         ensures action { next.new ≡ Action.Read }
         ensures after { self.new ≡ in_stage Stage.Reading self.old }
     {
         self.stage = Stage::Reading;
-        give(next, Action::Read);
+        next.set(Does::Read);
     }
 
-    fn poll(&mut self, waits: bool, next: &mut Action)
+    fn poll(&mut self, waits: bool, next: &mut NextAction)
         ensures action { next.new ≡ Action.PollMail }
         ensures after { self.new ≡ in_stage (Stage.Polling waits) self.old }
     {
         self.stage = Stage::Polling { waits };
-        give(next, Action::PollMail);
+        next.set(Does::PollMail);
     }
 
     // Returns true if the connection is read while an answer is outstanding.
@@ -405,7 +406,7 @@ impl SeatMachine {
     }
 
     // No answer has come yet. While a reserve waits, the connection is read if no bytes are kept.
-    fn no_mail_yet(&mut self, waits: bool, next: &mut Action)
+    fn no_mail_yet(&mut self, waits: bool, next: &mut NextAction)
         ensures action { next.new
             ≡ (if reads_on waits self.old then Action.Read else Action.PollMail) }
         ensures after { self.new
@@ -413,32 +414,32 @@ impl SeatMachine {
     {
         if self.reads_on(waits) {
             self.stage = Stage::ReadingOn;
-            give(next, Action::Read);
+            next.set(Does::Read);
         } else {
-            give(next, Action::PollMail);
+            next.set(Does::PollMail);
         }
     }
 
-    fn close(&mut self, end: LineEnd, next: &mut Action)
+    fn close(&mut self, end: LineEnd, next: &mut NextAction)
         ensures action { next.new ≡ Action.Submit Step.Close }
         ensures after { self.new ≡ in_stage (Stage.Closing end) self.old }
     {
         self.stage = Stage::Closing(end);
-        give(next, Action::Submit(Step::Close));
+        next.submit(Step::Close);
     }
 
-    fn leave(&mut self, end: LineEnd, next: &mut Action)
+    fn leave(&mut self, end: LineEnd, next: &mut NextAction)
         ensures action { next.new ≡ Action.PollMail }
         ensures after { self.new ≡ in_stage (Stage.Leaving end) self.old }
     {
         self.stage = Stage::Leaving(end);
-        give(next, Action::PollMail);
+        next.set(Does::PollMail);
     }
 
     // The answer to the close ends the connection. Other mail is dropped. A body that did not come
     // whole is freed here, since the next connection may come much later.
     #[inline(never)]
-    fn mail_after_close(&mut self, end: LineEnd, next: &mut Action)
+    fn mail_after_close(&mut self, end: LineEnd, next: &mut NextAction)
         ensures action { (answer : Answer) → next.old ≡ Action.Write answer
             → next.new ≡ (if is_closed_answer answer then Action.LineOver end else Action.PollMail) }
         ensures after { (answer : Answer) → next.old ≡ Action.Write answer
@@ -446,13 +447,13 @@ impl SeatMachine {
         ensures limit { self.new.reader.max_job_size ≡ self.old.reader.max_job_size }
         ensures freed { (over : LineEnd) → next.new ≡ Action.LineOver over → Stands self.new.reader [] }
     {
-        match next {
-            Action::Write(Answer::Closed) => {
+        match next.answer() {
+            Answer::Closed => {
                 self.reader.restart();
                 self.stage = Stage::Between;
-                give(next, Action::LineOver(end));
+                next.set(Does::LineOver(end));
             }
-            _ => give(next, Action::PollMail),
+            _ => next.set(Does::PollMail),
         }
     }
 }
@@ -460,43 +461,21 @@ impl SeatMachine {
 // The event does not answer the last action. A separate function, so that its
 // callers save no registers for it: the last action has to be dropped.
 #[inline(never)]
-fn stray(next: &mut Action)
+fn stray(next: &mut NextAction)
     ensures { next.new ≡ Action.Stray }
 {
-    give(next, Action::Stray);
-}
-
-// Replaces the last action. A function of its own, so that the code that frees the last action is
-// proved once, and inlined, so that the next one is made in place.
-#[inline(always)]
-pub(crate) fn give(next: &mut Action, action: Action)
-    ensures { next.new ≡ action }
-{
-    *next = action;
+    next.set(Does::Stray);
 }
 
 // Reads the next request from these bytes. It is made in `next`, as the step that submits it, so that
 // it is not copied.
 #[inline(always)]
-fn take_to(alloc: Global, reader: &mut RequestReader, bytes: &[u8], next: &mut Action) -> Taken
+fn take_to(alloc: Global, reader: &mut RequestReader, bytes: &[u8], next: &mut NextAction) -> Taken
     ensures asks { next.new ≡ Action.Submit (Step.Ask (request_of next.new)) }
     ensures taken { IsTaken reader.old reader.new bytes.now result (request_of next.new) }
 {
-    give(next, Action::Submit(Step::Ask(Request::Quit)));
-    take_into(alloc, reader, bytes, next)
-}
-
-// Does the same if `next` has the place for a request.
-#[inline(always)]
-fn take_into(alloc: Global, reader: &mut RequestReader, bytes: &[u8], next: &mut Action) -> Taken
-    requires { next.old ≡ Action.Submit (Step.Ask Request.Quit) }
-    ensures asks { next.new ≡ Action.Submit (Step.Ask (request_of next.new)) }
-    ensures taken { IsTaken reader.old reader.new bytes.now result (request_of next.new) }
-{
-    match next {
-        Action::Submit(Step::Ask(place)) => reader.take(alloc, bytes, place),
-        _ => unreachable!(),
-    }
+    next.submit_request();
+    next.take_request(alloc, reader, bytes)
 }
 
 fn stage_of(request: &Request) -> Stage

@@ -21,7 +21,7 @@ use bq_line::control::{ControlLink, submit_control};
 use bq_line::control_line::ControlInput;
 use bq_line::line::Line;
 use bq_link::{Intake, IntakeInvariant, NoTicks, SeatEnd};
-use bq_seat::{Action, SeatMachine};
+use bq_seat::{NextAction, SeatMachine};
 use std::alloc::Global;
 use std::hint::spin_loop;
 use std::sync::Wait;
@@ -255,7 +255,7 @@ impl<'a, R: Wait> Link for SeatLink<'a, R> {
     }
 
     // It may sleep for up to a second, and wakes when an answer arrives.
-    fn mail(&mut self, place: &mut Action) -> bool
+    fn mail(&mut self, place: &mut NextAction) -> bool
         requires ready { self.old.end.now.intake ≡ self.old.intake.now.id }
         ensures ready { self.new.end.now.intake ≡ self.new.intake.now.id }
         ensures went { TakesInPlace LinkWent self.old place.old result place.new self.new }
@@ -312,7 +312,7 @@ fn mail_at<R: Wait>(
     intake: &Intake<NoTicks>,
     end: &mut SeatEnd,
     pace: &mut Pace,
-    place: &mut Action,
+    place: &mut NextAction,
 ) -> bool
     ensures { Looks end.old place.old result place.new end.new }
 {
@@ -353,7 +353,7 @@ fn look_after_yield(
     end: &mut SeatEnd,
     looks: u32,
     pace: &mut Pace,
-    place: &mut Action,
+    place: &mut NextAction,
 ) -> bool
     ensures { Looks end.old place.old result place.new end.new }
 {
@@ -368,7 +368,7 @@ fn look_after_yield(
 }
 
 // Polls up to this many times, and notes it if that found an answer.
-fn look_for_long(end: &mut SeatEnd, looks: u32, pace: &mut Pace, place: &mut Action) -> bool
+fn look_for_long(end: &mut SeatEnd, looks: u32, pace: &mut Pace, place: &mut NextAction) -> bool
     ensures { Looks end.old place.old result place.new end.new }
 {
     let found = look_often(end, looks, place);
@@ -385,7 +385,7 @@ fn look_again<R: Wait>(
     intake: &Intake<NoTicks>,
     end: &mut SeatEnd,
     sleeps: bool,
-    place: &mut Action,
+    place: &mut NextAction,
 ) -> bool
     ensures { Looks end.old place.old result place.new end.new }
 {
@@ -395,7 +395,7 @@ fn look_again<R: Wait>(
 }
 
 // Polls an end up to this many times, and at least once.
-fn look_often(end: &mut SeatEnd, looks: u32, place: &mut Action) -> bool
+fn look_often(end: &mut SeatEnd, looks: u32, place: &mut NextAction) -> bool
     ensures { Looks end.old place.old result place.new end.new }
 {
     for _ in 1..looks {
@@ -409,7 +409,7 @@ fn look_often(end: &mut SeatEnd, looks: u32, place: &mut Action) -> bool
 }
 
 // Polls an end once.
-fn look(end: &mut SeatEnd, place: &mut Action) -> bool
+fn look(end: &mut SeatEnd, place: &mut NextAction) -> bool
     ensures { Looks end.old place.old result place.new end.new }
 {
     if !end.has_mail() {
@@ -422,20 +422,11 @@ fn look(end: &mut SeatEnd, place: &mut Action) -> bool
 // Takes the oldest answer, which is known to wait, as an action that writes it. Not inlined, because
 // it reserves and initializes room for answers, which a poll that finds none does not need.
 #[inline(never)]
-fn take_mail_to(end: &mut SeatEnd, place: &mut Action)
+fn take_mail_to(end: &mut SeatEnd, place: &mut NextAction)
     requires { 0 < length end.old.waiting }
     ensures { TakesInPlace EndWent end.old place.old true place.new end.new }
 {
-    put(place, Action::Write(end.take_mail()));
-}
-
-// Stores a value in a place. An assignment would do the same, but a proof about it has to consider
-// every value that the place may have held.
-#[inline(always)]
-fn put<T: Drop>(place: &mut T, value: T)
-    ensures { place.new ≡ value }
-{
-    *place = value;
+    place.write(end.take_mail());
 }
 
 /// Does one action of a seat that attends to a door, at its end of the links. Returns what moved or

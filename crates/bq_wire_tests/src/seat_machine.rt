@@ -7,7 +7,7 @@ ghost use Rattle.bq_seat.specs.SeatMoves.{FitsPiece};
 
 use crate::pieces::push_text;
 use bq_job::{Answer, LineEnd, Request, Step};
-use bq_seat::{Action, Event, PIECE_ROOM, SeatMachine};
+use bq_seat::{Action, Does, Event, NextAction, PIECE_ROOM, SeatMachine};
 use std::alloc::Global;
 
 // All events, as the tables write them. Bytes follow the word; in them `~` is CR LF, `^` CR and `%`
@@ -243,4 +243,37 @@ const FAULTS: &str = "opened|connect\n\
 fn whole_lines(rt: HostRuntime) {
     let alloc = rt.alloc();
     assert!(rt; play(alloc, WAITS) && play(alloc, ENDS) && play(alloc, FAULTS));
+}
+
+// Passes a machine the events of a delete in place. Returns true if each next action has what it
+// should carry.
+fn deletes_in_place(alloc: Global, machine: &mut SeatMachine) -> bool {
+    let mut next = machine.open();
+    let connects = matches!(next.does(), Does::Submit);
+    machine.submitted(alloc, &mut next);
+    let reads = next.is_read();
+    machine.bytes(alloc, b"delete 7\r\n", &mut next);
+    connects && reads && takes_answer(alloc, machine, next)
+}
+
+// Passes a machine that submits a delete its answer.
+fn takes_answer(alloc: Global, machine: &mut SeatMachine, mut next: NextAction) -> bool {
+    let asks = matches!(next.does(), Does::Submit) && machine.is_asking();
+    machine.submitted(alloc, &mut next);
+    let polls = matches!(next.does(), Does::PollMail);
+    next.write(Answer::Deleted);
+    machine.mail(&mut next);
+    let writes = matches!(next.does(), Does::Write) && matches!(next.answer(), Answer::Deleted);
+    machine.write_done(alloc, &mut next);
+    asks && polls && writes && next.is_read()
+}
+
+#[test]
+fn actions_in_place(rt: HostRuntime) {
+    let alloc = rt.alloc();
+    let Ok(mut machine) = SeatMachine::new(alloc, 65535) else {
+        assert!(rt; false);
+        return;
+    };
+    assert!(rt; deletes_in_place(alloc, &mut machine));
 }

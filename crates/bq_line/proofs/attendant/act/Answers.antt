@@ -3,32 +3,32 @@ use Rattle.bq_line.proofs.attendant.act.Goals as goal
 
 pub returns-in-Submit-clause-carried : goal.returns-in-Submit-clause-carried
 returns-in-Submit-clause-carried g c =
-    let h = c.submit.ensures.submitted c.in-Submit.field-0 c.in-Submit.is in
-    rw c.in-Submit.is (h.0, [], h.1, (refl, refl, h.2))
+    let h = c.submit.ensures.submitted c.in-Submit.ensures.action.0 c.in-Submit.ensures.action.1 in
+    rw c.in-Submit.ensures.action.1 (h.0, [], h.1, (refl, refl, h.2))
 
 pub returns-in-Read-clause-carried : goal.returns-in-Read-clause-carried
-returns-in-Read-clause-carried g c = rw c.in-Read.is ([], [], refl, c.read.ensures.0)
+returns-in-Read-clause-carried g c = rw c.in-Read.ensures.action ([], [], refl, c.read.ensures.0)
 
 pub returns-in-Read-clause-stays : goal.returns-in-Read-clause-stays
 returns-in-Read-clause-stays g c = c.read.ensures.1
 
 pub returns-in-Write-clause-carried : goal.returns-in-Write-clause-carried
-returns-in-Write-clause-carried g c = rw c.in-Write.is ([], [], refl, (refl, refl, (refl, refl, refl)))
+returns-in-Write-clause-carried g c = rw c.in-Write.ensures.action.1 ([], [], refl, (refl, refl, (refl, refl, refl)))
 
 pub returns-then-mail-clause-carried : goal.returns-then-mail-clause-carried
 returns-then-mail-clause-carried g c =
     let came = rw c.if-mail.true at c.mail.ensures.went in
-    rw c.in-PollMail.is
+    rw c.in-PollMail.ensures.action
     ([], came.0 ∷ [], came.2, (refl, refl, (came.0, refl, c.mail-then-mail.ensures.moved came.0 came.1)))
 
 pub returns-else-mail-clause-carried : goal.returns-else-mail-clause-carried
 returns-else-mail-clause-carried g c =
     let none = rw c.if-mail.false at c.mail.ensures.went in
-    rw c.in-PollMail.is ([], [], none.1, (c.expect_more.ensures.seen, refl, (refl, c.nothing_yet.ensures)))
+    rw c.in-PollMail.ensures.action ([], [], none.1, (c.expect_more.ensures.seen, refl, (refl, c.nothing_yet.ensures)))
 
 pub returns-in-LineOver-clause-carried : goal.returns-in-LineOver-clause-carried
 returns-in-LineOver-clause-carried g c =
-    rw c.in-LineOver.is (
+    rw c.in-LineOver.ensures.action (
       [],
       [],
       refl,
@@ -37,7 +37,7 @@ returns-in-LineOver-clause-carried g c =
 
 pub returns-in-Stray-clause-carried : goal.returns-in-Stray-clause-carried
 returns-in-Stray-clause-carried g c =
-    rw c.in-Stray.is (
+    rw c.in-Stray.ensures.action (
       [],
       [],
       refl,

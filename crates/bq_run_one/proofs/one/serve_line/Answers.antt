@@ -20,9 +20,9 @@ loop-init g c =
       serves = (
         [],
         g.met.C.Clock.none_given c.args.hub.timed.time.clock,
-        begins_alone settings 0 state c.on-action.new.self (g.L.Line.seen c.args.line) c.on-action.result made
-            (opened_on settings.max_job_size _ c.on-action.new.self c.on-action.result
-            (g.L.Line.seen c.args.line) c.requires.awaits c.requires.limit c.on-action.ensures c.requires.new),
+        begins_alone settings 0 state c.open-action.new.self (g.L.Line.seen c.args.line) c.open-action.result made
+            (opened_on settings.max_job_size _ c.open-action.new.self c.open-action.result
+            (g.L.Line.seen c.args.line) c.requires.awaits c.requires.limit c.open-action.ensures c.requires.new),
       );
       stays = λ first over. over;
       ready = (order_new settings state made, omega (arith, many, seats));
@@ -62,7 +62,7 @@ returns-in-LineOver-clause-served g c =
     let end = c.in-LineOver.end in
     let s : IsServingAlone settings 0 i.0 state c.loop.machine (g.L.Line.seen c.loop.line) (actions.LineOver end) c.loop.sent =
     subst (λ (a : Action). IsServingAlone settings 0 i.0 state c.loop.machine (g.L.Line.seen c.loop.line) a c.loop.sent)
-    c.in-LineOver.is i.2 in
+    c.in-LineOver.ensures.action i.2 in
     let seats = c.requires.lone in (
       i.0,
       subst (λ clock. g.C.Clock.given c.args.hub.timed.time.clock i.0 clock) (sym c.into_clock.ensures) i.1,

@@ -5,7 +5,7 @@ use Rattle.bq_host.proofs.hub.Hub.take_kept.Goals as goal
 pub returns-in-Some-clause-went : goal.returns-in-Some-clause-went
 returns-in-Some-clause-went g c = (
   c.in-Some.answer,
-  refl,
+  c.write.ensures,
   went_then g.K.QueueCore.machine g.K.QueueCore.comparisons g.C.Clock.given c.args.seat c.args.seat c.args.self.now c.sort-all.new.self
       c.take_mail.new.self [] [] [] (c.in-Some.answer ∷ []) refl c.sort-all.ensures.went.1 c.in-Some.ensures.went.1,
 )

@@ -24,7 +24,7 @@ returns-then-seat-first-clause-went g c =
     c.note_none_pending.ensures.rest ∙ ap (λ (h : Hub _ _). record h { is_sorted = last.is_sorted }) c.next_new.ensures.rest in
     let same : pending popped ≡ pending last = sym (ap pending c.note_none_pending.ensures.rest) in (
       c.in-Some.answer,
-      refl,
+      c.write.ensures,
       went_taken machine compared g.C.Clock.given c.args.seat c.in-Some.answer old last None _ _ moved c.requires.empty
           (subst (λ (n : ℕ). pending old ≡ (n, c.in-Some.answer) ∷ pending popped) (sym c.if-seat-first.true) c.in-Some.ensures.pending
           ∙ ap (λ xs. (c.args.seat, c.in-Some.answer) ∷ xs) same),

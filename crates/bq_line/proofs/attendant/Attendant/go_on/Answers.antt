@@ -1,4 +1,5 @@
-use Rattle.std.proofs.Common.{[], refl, inl, inr}
+use Rattle.std.proofs.Common.{[], ◌∙◌, ap, refl, inl, inr}
+use Rattle.bq_seat.specs.NextActions.{does_of}
 use Rattle.bq_line.specs.Tending.{door_seen}
 use Rattle.bq_line.proofs.CarriedLemmas.{ends_on, ends_submission, rests, rests_submission}
 use Rattle.bq_line.proofs.TendingLemmas.{from_place, on_action, tends_acted, tends_still, tends_submitted}
@@ -11,7 +12,7 @@ returns-in-Between-clause-went g c =
 
 pub returns-in-LineOver-clause-went : goal.returns-in-LineOver-clause-went
 returns-in-LineOver-clause-went g c =
-    from_place g.K.Link.went _ _ (on_action c.in-On.is c.in-LineOver.is)
+    from_place g.K.Link.went _ _ c.in-On.is
     ([], [], inr (refl, refl, refl), c.shut_line.ensures.went c.args.self.now.machine)
 
 pub returns-in-Submit-clause-went : goal.returns-in-Submit-clause-went
@@ -19,12 +20,12 @@ returns-in-Submit-clause-went g c =
     let at = door_seen g.D.Door.is_out g.D.Door.is_at_end g.D.Door.lines_over c.args.door.now in
     let m = c.args.self.now.machine in
     let new = c.submit_and_take.new in
-    let h = c.submit_and_take.ensures.submitted c.in-Submit.field-0 c.in-Submit.is in
-    from_place g.K.Link.went _ _ (on_action c.in-On.is c.in-Submit.is) (
+    let h = c.submit_and_take.ensures.submitted c.in-Submit.ensures.action.0 c.in-Submit.ensures.action.1 in
+    from_place g.K.Link.went _ _ (on_action c.in-On.is c.in-Submit.ensures.action.1) (
       h.0,
       h.1,
       inl h.2,
-      tends_submitted c.submit_and_take.result g.L.Line.seen m new.machine c.in-On.line c.in-Submit.field-0 new.action c.in-On.sent
+      tends_submitted c.submit_and_take.result g.L.Line.seen m new.machine c.in-On.line c.in-Submit.ensures.action.0 new.action c.in-On.sent
           new.sent h.0 h.1 at c.submit_and_take.ensures.none_sent h.3,
     )
 
@@ -48,7 +49,8 @@ returns-in-Leaving-clause-went g c =
 
 pub returns-in_default-clause-progress : goal.returns-in_default-clause-progress
 returns-in_default-clause-progress g c =
-    ends_on _ _ c.in-On.line c.in-On.action c.in-On.sent c.in-On.is c.in_default.not-LineOver c.carry_out.ensures.carried.3.0.can_end
+    ends_on _ _ c.in-On.line c.in-On.action c.in-On.sent c.in-On.is
+    (λ end is. c.in_default.not-LineOver end (c.does.ensures.does ∙ ap does_of is)) c.carry_out.ensures.carried.3.0.can_end
 
 pub returns-in_default-clause-still : goal.returns-in_default-clause-still
 returns-in_default-clause-still g c = λ moved.
@@ -57,16 +59,17 @@ returns-in_default-clause-still g c = λ moved.
 
 pub returns-in-Submit-clause-progress : goal.returns-in-Submit-clause-progress
 returns-in-Submit-clause-progress g c =
-    let h = c.submit_and_take.ensures.submitted c.in-Submit.field-0 c.in-Submit.is in
-    ends_submission _ _ c.in-On.line c.in-Submit.field-0 c.in-On.sent _ _ _ h.0 h.1 (on_action c.in-On.is c.in-Submit.is) h.3
+    let h = c.submit_and_take.ensures.submitted c.in-Submit.ensures.action.0 c.in-Submit.ensures.action.1 in
+    ends_submission _ _ c.in-On.line c.in-Submit.ensures.action.0 c.in-On.sent _ _ _ h.0 h.1
+    (on_action c.in-On.is c.in-Submit.ensures.action.1) h.3
 
 pub returns-in-Submit-clause-still : goal.returns-in-Submit-clause-still
 returns-in-Submit-clause-still g c = λ moved.
-    let h = c.submit_and_take.ensures.submitted c.in-Submit.field-0 c.in-Submit.is in
+    let h = c.submit_and_take.ensures.submitted c.in-Submit.ensures.action.0 c.in-Submit.ensures.action.1 in
     rests_submission g.K.Link.went _ _ _ _ _ _ _ h.0 h.1 h.2 h.3 moved
 
 pub returns-in-LineOver-clause-progress : goal.returns-in-LineOver-clause-progress
-returns-in-LineOver-clause-progress g c = rw (on_action c.in-On.is c.in-LineOver.is) refl
+returns-in-LineOver-clause-progress g c = rw (on_action c.in-On.is c.in-LineOver.ensures.action) refl
 
 pub returns-in-Between-clause-progress : goal.returns-in-Between-clause-progress
 returns-in-Between-clause-progress g c = rw c.in-Between.is refl
@@ -86,7 +89,7 @@ returns-in-Between-clause-sure g c = λ never sure.
 
 pub returns-in-LineOver-clause-sure : goal.returns-in-LineOver-clause-sure
 returns-in-LineOver-clause-sure g c = λ never sure.
-    c.shut_line.ensures.sure never (rw (on_action c.in-On.is c.in-LineOver.is) at sure)
+    c.shut_line.ensures.sure never (rw c.in-On.is at sure)
 
 pub returns-in_default-clause-sure : goal.returns-in_default-clause-sure
 returns-in_default-clause-sure g c = λ never sure.

@@ -6,8 +6,8 @@ pub returns-in-Ok-Line-clause-went : goal.returns-in-Ok-Line-clause-went
 returns-in-Ok-Line-clause-went g c =
     let opened = rw c.in-Ok-Line.field-0-is at c.in-Ok-Line.ensures.opened in
     rw c.put_place.ensures (tends_from c.requires.between
-    (tends_opened g.L.Line.seen c.args.self.now.machine c.on-action.new.self c.in-Ok-Line.line c.on-action.result _ _
-    c.on-action.ensures c.in-Ok-Line.ensures.over opened.0 opened.1 opened.2))
+    (tends_opened g.L.Line.seen c.args.self.now.machine c.open-action.new.self c.in-Ok-Line.line c.open-action.result _ _
+    c.open-action.ensures c.in-Ok-Line.ensures.over opened.0 opened.1 opened.2))
 
 pub returns-in-Ok-Line-clause-sure : goal.returns-in-Ok-Line-clause-sure
 returns-in-Ok-Line-clause-sure g c = λ never sure.

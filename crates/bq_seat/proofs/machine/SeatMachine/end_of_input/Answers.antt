@@ -9,5 +9,5 @@ returns-in-Reading c = turn c.in-Reading.is c.close.ensures.action c.close.ensur
     (λ p h. ends_line h.0 true refl h.1 refl) (λ p h. rw (answered_all h.0) refl)
 
 pub returns-in-ReadingOn : goal.returns-in-ReadingOn
-returns-in-ReadingOn c = turn c.in-ReadingOn.is c.give.ensures refl (refl, refl, refl, tt, tt)
+returns-in-ReadingOn c = turn c.in-ReadingOn.is c.submit.ensures refl (refl, refl, refl, tt, tt)
     (λ p h. (tells_end h.0 h.1 h.2, refl)) (λ p h. rw (one_unanswered h.0.0) refl)

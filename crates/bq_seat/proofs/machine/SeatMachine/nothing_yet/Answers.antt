@@ -4,7 +4,7 @@ use Rattle.bq_seat.proofs.MoveLemmas.{nothing_in_polling, stays, turn}
 use Rattle.bq_seat.proofs.machine.SeatMachine.nothing_yet.Goals as goal
 
 pub returns-in-Reading : goal.returns-in-Reading
-returns-in-Reading c = turn c.in-Reading.is c.give.ensures (stays c.in-Reading.is refl) (refl, refl, refl, tt, tt) (λ p h. h)
+returns-in-Reading c = turn c.in-Reading.is c.set.ensures (stays c.in-Reading.is refl) (refl, refl, refl, tt, tt) (λ p h. h)
     (λ p h. rw (answered_all h.0) refl)
 
 pub returns-in-ReadingOn : goal.returns-in-ReadingOn
@@ -15,5 +15,5 @@ pub returns-in-Polling : goal.returns-in-Polling
 returns-in-Polling c = search nothing_in_polling
 
 pub returns-in-Leaving : goal.returns-in-Leaving
-returns-in-Leaving c = turn c.in-Leaving.is c.give-in-Leaving.ensures (stays c.in-Leaving.is refl) (refl, refl, refl, tt, tt) (λ p h. h)
+returns-in-Leaving c = turn c.in-Leaving.is c.set-in-Leaving.ensures (stays c.in-Leaving.is refl) (refl, refl, refl, tt, tt) (λ p h. h)
     (λ p h. rw h.closing_is refl)
