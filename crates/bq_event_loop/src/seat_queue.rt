@@ -111,7 +111,7 @@ impl SeatQueue {
         ensures { self.new ≡ enqueued seat self.old }
     {
         if mark(&mut self.listed, seat, Listed::Queued) {
-            self.queue.push_back(seat).unwrap();
+            self.queue.push_back_reserved(seat);
         }
     }
 
@@ -121,7 +121,7 @@ impl SeatQueue {
         ensures { self.new ≡ freed seat self.old }
     {
         if mark(&mut self.listed, seat, Listed::Free) {
-            self.free.push(seat).unwrap();
+            self.free.push_reserved(seat);
         }
     }
 
@@ -153,6 +153,7 @@ impl SeatQueue {
 
     /// Puts this many seats at the front of the queue at its end, in their order. If it has no more
     /// than these, it stays as it is.
+    #[inline(always)]
     pub fn put_last(&mut self, many: usize)
         ensures queue { self.new ≡ record self.old { queue = drop many self.old.queue ++ take many self.old.queue } }
         ensures same { (seat : ℕ) → times seat self.new.queue ≡ times seat self.old.queue }
@@ -161,6 +162,15 @@ impl SeatQueue {
         if many == 0 {
             return;
         }
+        self.rotate(many);
+    }
+
+    // The same if there may be some.
+    #[inline(never)]
+    fn rotate(&mut self, many: usize)
+        ensures queue { self.new ≡ record self.old { queue = drop many self.old.queue ++ take many self.old.queue } }
+        ensures same { (seat : ℕ) → times seat self.new.queue ≡ times seat self.old.queue }
+    {
         if many < self.queue.len() {
             self.queue.rotate_left(many);
         }

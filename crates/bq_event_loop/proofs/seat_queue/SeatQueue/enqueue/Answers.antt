@@ -5,8 +5,8 @@ use Rattle.bq_event_loop.specs.Listings.{is_queued}
 use Rattle.bq_event_loop.specs.declared.seat_queue.Listed.TheVariants as lists
 use Rattle.bq_event_loop.proofs.seat_queue.SeatQueue.enqueue.Goals as goal
 
-pub unwrap-requires : goal.unwrap-requires
-unwrap-requires c =
+pub push_back_reserved-requires : goal.push_back_reserved-requires
+push_back_reserved-requires c =
     let m = c.mark.ensures.marked c.if-mark.true in
     let less = room is_queued lists.Nowhere _ _ _ lists.Queued c.self.invariant.0.0 m.0 (ap is_queued m.1) refl in
-    c.push_back.ensures.succeeds (grind (arith, common_steps, less, c.self.invariant.1))
+    grind (arith, common_steps, less, c.self.invariant.1)

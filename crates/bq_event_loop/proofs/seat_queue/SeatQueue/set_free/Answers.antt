@@ -5,8 +5,8 @@ use Rattle.bq_event_loop.specs.Listings.{is_free}
 use Rattle.bq_event_loop.specs.declared.seat_queue.Listed.TheVariants as lists
 use Rattle.bq_event_loop.proofs.seat_queue.SeatQueue.set_free.Goals as goal
 
-pub unwrap-requires : goal.unwrap-requires
-unwrap-requires c =
+pub push_reserved-requires : goal.push_reserved-requires
+push_reserved-requires c =
     let m = c.mark.ensures.marked c.if-mark.true in
     let less = room is_free lists.Nowhere _ _ _ lists.Free c.self.invariant.0.1 m.0 (ap is_free m.1) refl in
-    c.push.ensures.succeeds (grind (arith, common_steps, less, c.self.invariant.2))
+    grind (arith, common_steps, less, c.self.invariant.2)
