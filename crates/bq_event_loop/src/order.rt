@@ -11,7 +11,7 @@ ghost use Rattle.bq_event_loop.specs.Known.{is_looking};
 ghost use Rattle.bq_event_loop.specs.Sleeping.{visited_by};
 
 use crate::seat_queue::SeatQueue;
-use crate::turns::{Began, News, SoFar, Turn, Turns, TurnsFault};
+use crate::turns::{Began, News, SoFar, Stands, Turn, Turns, TurnsFault};
 use bq_core_api::QueueCore;
 use bq_host::Mail;
 use bq_line::Door;
@@ -229,7 +229,13 @@ impl Order {
         ensures acts { IsListedIn (is_listed self.new.queue (visited_by self.new.stage self.new.visit)) result }
         ensures seats { self.new.queue.seats ≡ self.old.queue.seats }
     {
-        let took = self.pace.note(part, self.visit.seat(), self.reading);
+        let seat = self.visit.seat();
+        let took = self.pace.note(part, seat, self.reading);
+        // Mostly the visit ends so, and what it had left makes no difference.
+        if rests(part, news.stands) {
+            self.let_rest(seats, mails, seat, news.still);
+            return self.begin_next(seats, mails, part);
+        }
         self.visit.note(news.progress, took);
         match self.goes_on(seats, mails, part, news) {
             Some(turn) => turn,
@@ -239,6 +245,7 @@ impl Order {
 
     // Returns the first action of the next visit of this part. After the last one the next part
     // begins, or the core's time passes.
+    #[inline(always)]
     fn begin_next<L: Line>(
         &mut self,
         seats: &Snapshot<Vec<Attendant<L>, Global>>,
@@ -295,6 +302,7 @@ impl Order {
     }
 
     // Begins the next part of the round, or the time passes.
+    #[inline(always)]
     fn end_part(&mut self, part: Part) -> Turn
         ensures lists { AreSameLists self.old.queue self.new.queue }
         ensures idle { visited_by self.new.stage self.new.visit ≡ None }
@@ -487,4 +495,9 @@ fn is_this(some: Option<usize>, seat: usize) -> bool
         Some(some) => some == seat,
         None => false,
     }
+}
+
+// Returns true if a visit ends in this part because no bytes have come.
+fn rests(part: Part, stands: Stands) -> bool {
+    matches!(part, Part::Answers) && matches!(stands, Stands::Awaits)
 }

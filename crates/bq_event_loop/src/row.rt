@@ -52,6 +52,16 @@ impl<L: Line + Drop, D: Door<Line = L>> Row<L, D> {
         }
     }
 
+    /// Returns true if a seat reads a command, and no bytes have come as far as its connection knows.
+    pub fn awaits(&self, seat: usize) -> bool
+        ensures { result ≡ true → (mail : List Answer) (a : Attendant L) → IsStill L.Line (slice_index_or self.now.seats.items seat a) mail }
+    {
+        match self.seats.get(seat) {
+            Some(seat) => awaits(seat),
+            None => false,
+        }
+    }
+
     /// Returns true if every seat is done.
     pub fn are_done(&self) -> bool
         ensures { result ≡ true → AreDone self.now.seats.items }
@@ -187,5 +197,15 @@ fn exchange_at<L: Line + Drop, D: Door<Line = L>>(
         door.exchange(buffer);
     } else {
         seat.exchange(buffer);
+    }
+}
+
+// Returns true if a seat reads a command, and no bytes have come as far as its connection knows.
+fn awaits<L: Line + Drop>(seat: &Attendant<L>) -> bool
+    ensures { result ≡ true → (mail : List Answer) → IsStill L.Line seat.now mail }
+{
+    match &seat.place {
+        LinePlace::On(line, _, _) => !line.may_give() && seat.awaits_line(),
+        _ => false,
     }
 }

@@ -87,9 +87,7 @@ pub fn end_turn<
     }
 }
 
-// Notes what a seat does next after its turn. If nothing moves, its connection sends what it holds
-// back.
-// Otherwise the last answers of a batch would wait for the client's acknowledgement.
+// Notes what a seat does next after its turn. Mostly it waits for the next command.
 fn note_seat<L: Line + Drop, D: Door<Line = L>>(
     row: &mut Row<L, D>,
     mails: &Vec<Mail, Global>,
@@ -102,14 +100,56 @@ fn note_seat<L: Line + Drop, D: Door<Line = L>>(
     ensures still { IsStillSeat L.Line news.new.still row.new.seats.items mails.now.items }
     ensures rest { news.new ≡ record news.old { stands = news.new.stands; tries_again = news.new.tries_again; still = news.new.still } }
 {
-    news.stands = row.stands(seat);
-    news.tries_again = row.tries_again(seat);
-    news.still = if may_rest(news.stands, news.progress) {
+    if row.awaits(seat) {
         row.hand_on(seat);
-        still_seat(row, mails, seat)
+        news.stands = Stands::Awaits;
+        news.tries_again = false;
+        news.still = awaiting_seat(row, mails, seat);
     } else {
-        None
-    };
+        note_other(row, mails, seat, news);
+    }
+}
+
+// The same for a seat that does something else next.
+fn note_other<L: Line + Drop, D: Door<Line = L>>(
+    row: &mut Row<L, D>,
+    mails: &Vec<Mail, Global>,
+    seat: usize,
+    news: &mut News,
+)
+    requires tended { AreTended L.Line D.Door row.old }
+    ensures keeps { KeepsRow L.Line D.Door row.old row.new }
+    ensures only { ChangesOnly seat row.old.seats.items row.new.seats.items }
+    ensures still { IsStillSeat L.Line news.new.still row.new.seats.items mails.now.items }
+    ensures rest { news.new ≡ record news.old { stands = news.new.stands; tries_again = news.new.tries_again; still = news.new.still } }
+{
+    news.stands = row.stands(seat);
+    if may_rest(news.stands, news.progress) {
+        note_rest(row, mails, seat, news);
+    } else {
+        news.tries_again = false;
+        news.still = None;
+    }
+}
+
+// Notes whether a seat rests that has nothing to do, or moved nothing. Its connection sends what it
+// holds back. Otherwise the last answers of a batch would wait for the client's acknowledgement.
+#[inline(never)]
+fn note_rest<L: Line + Drop, D: Door<Line = L>>(
+    row: &mut Row<L, D>,
+    mails: &Vec<Mail, Global>,
+    seat: usize,
+    news: &mut News,
+)
+    requires tended { AreTended L.Line D.Door row.old }
+    ensures keeps { KeepsRow L.Line D.Door row.old row.new }
+    ensures only { ChangesOnly seat row.old.seats.items row.new.seats.items }
+    ensures still { IsStillSeat L.Line news.new.still row.new.seats.items mails.now.items }
+    ensures rest { news.new ≡ record news.old { tries_again = news.new.tries_again; still = news.new.still } }
+{
+    news.tries_again = row.tries_again(seat);
+    row.hand_on(seat);
+    news.still = still_seat(row, mails, seat);
 }
 
 // Returns true if a seat that stands so may rest: it has nothing to do, or nothing moved.
@@ -118,6 +158,17 @@ fn may_rest(stands: Stands, progress: Progress) -> bool {
         Stands::Done | Stands::Awaits => true,
         _ => !progress.has_moved(),
     }
+}
+
+// Returns this seat if it still waits for a command. The mail is passed for the contract alone.
+fn awaiting_seat<L: Line + Drop, D: Door<Line = L>>(
+    row: &Row<L, D>,
+    mails: &Vec<Mail, Global>,
+    seat: usize,
+) -> Option<usize>
+    ensures { IsStillSeat L.Line result row.now.seats.items mails.now.items }
+{
+    if row.awaits(seat) { Some(seat) } else { None }
 }
 
 // Returns this seat if nothing moves at it until its connection is ready or it has mail.
