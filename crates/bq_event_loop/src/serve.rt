@@ -361,17 +361,14 @@ fn goes_on<L: Line + Drop, D: Door<Line = L>>(
     extent: Extent,
     done: u32,
     progress: Progress,
-) -> bool {
+) -> bool
+    requires within { seat < length row.now.seats.items }
+{
     if !progress.has_moved() {
         return false;
     }
-    match row.seats.get(seat) {
-        Some(seat) => {
-            seat.polls_mail()
-                || extent == Extent::Command && (seat.writes() || done == 0 && seat.submits())
-        }
-        None => false,
-    }
+    let seat = &row.seats[seat];
+    seat.polls_mail() || extent == Extent::Command && (seat.writes() || done == 0 && seat.submits())
 }
 
 fn act<L: Line + Drop, D: Door<Line = L>, C: Clock + Drop, K: QueueCore + Drop>(
