@@ -141,8 +141,8 @@ impl<C: Clock + Drop, K: QueueCore + Drop> TimedCore<C, K> {
         ensures told { (result, self.new.notices) ≡ told_after (concern_of what.now) self.new.outs self.new.time.moment
             self.old.notices }
     {
-        let concern = concern_of(what);
         self.step(seat, what);
+        let concern = concern_of(what);
         self.notices.after(concern, &self.outs, self.time.moment)
     }
 
