@@ -12,7 +12,6 @@ use boxcar::tag::{Names, Tag};
 use bq_job::Moment;
 use std::marker::Model;
 use std::rt;
-use std::time::Instant;
 
 /// A clock that a run reads. Its readings are described by a relation between the clock before
 /// them, the readings in order, and the clock after them.
@@ -55,8 +54,8 @@ pub fn moment_heard(last: Moment, reading: Option<Moment>) -> Moment
 #[derive(Drop)]
 pub struct MachineClock<R> {
     rt: R,
-    // `None` if the system's clock couldn't be read.
-    start: Option<Instant>,
+    // The microseconds that the system's clock showed at the start; `None` if it couldn't be read.
+    start: Option<u64>,
     // The microseconds from the start to the last reading that did not fail.
     elapsed: u64,
     given: ReadingRecord,
@@ -68,7 +67,7 @@ impl<R: rt::Clock> MachineClock<R> {
     pub fn new(rt: R) -> MachineClock<R>
         ensures { result.given ≡ [] }
     {
-        let start = Instant::now(&rt).ok();
+        let start = micros_now(&rt);
         MachineClock {
             rt,
             start,
@@ -79,8 +78,8 @@ impl<R: rt::Clock> MachineClock<R> {
 
     // Returns the microseconds since the clock was made.
     fn reading(&self) -> Option<u64> {
-        let now = Instant::now(&self.rt).ok()?;
-        u64::try_from(now.duration_since(self.start?).as_micros()).ok()
+        let now = micros_now(&self.rt)?;
+        Some(now.saturating_sub(self.start?))
     }
 
     // Reads the clock once. Returns the milliseconds since it was made, and keeps the microseconds.
@@ -91,6 +90,13 @@ impl<R: rt::Clock> MachineClock<R> {
         self.elapsed = elapsed;
         Some(elapsed / 1000)
     }
+}
+
+// Returns the microseconds that the system's clock shows, or `None` if it can't be read.
+fn micros_now<R: rt::Clock>(rt: &R) -> Option<u64> {
+    let now = rt.monotonic().ok()?;
+    let seconds = now.as_secs().checked_mul(1_000_000)?;
+    seconds.checked_add(u64::from(now.subsec_micros()))
 }
 
 impl<R: rt::Clock> Clock for MachineClock<R> {
