@@ -157,6 +157,7 @@ fn append(head: &mut HeadBuf, body: &[u8], tail: &[u8])
 
 // Most other texts are joined in the room. A longer one is written from where its parts are, since
 // copying a large body costs more than a gathered write.
+#[inline(never)]
 fn write_long<L: Line>(
     line: &mut L,
     room: &mut [u8],

@@ -197,6 +197,7 @@ impl<S: Socket> Duplex for Connection<S> {
 
     ghost may_take = { λ connection. may_take connection.ready };
 
+    #[inline(always)]
     fn read(&mut self, buf: &mut [u8]) -> Result<usize, StreamError>
         ensures bytes { ReadsFrom (S.remaining self.old.stream) (S.remaining self.new.stream) result buf.new }
         ensures apart { Keeps (S.contents self.old.stream) (S.contents self.new.stream) }

@@ -116,6 +116,7 @@ pub trait Duplex {
 }
 
 /// Reads a stream once; `waits` says whether that may wait for bytes.
+#[inline(always)]
 pub fn read_by<S: Duplex>(stream: &mut S, buf: &mut [u8], waits: bool) -> Result<usize, StreamError>
     ensures bytes { ReadsFrom (S.remaining stream.old) (S.remaining stream.new) result buf.new }
     ensures apart { Keeps (S.contents stream.old) (S.contents stream.new) }
