@@ -7,8 +7,9 @@ use Rattle.bq_jobs.{proofs.Changes.found_id, specs.Seen.but_for_tube}
 use Rattle.bq_state.specs.Names.{names_of}
 
 -- The record found by an id belongs to the job with that id.
-pub id_of_row : (id : ℕ) (row : Job) (jobs : List Job) → Some (but_for_tube row) ≡ option_map but_for_tube (job_with id jobs) → id ≡ row.id
-id_of_row id row jobs same = grind (arith, common_steps, found_id)
+pub id_of_packed : (id : ℕ) (row : Job) (jobs : List Job) → Some (but_for_tube row) ≡ option_map but_for_tube (job_with id jobs)
+    → id ≡ row.id
+id_of_packed id row jobs same = grind (arith, common_steps, found_id)
 
 lines_of : (names : List (Bor (List ℕ)))
     → flat_map (λ (name : Bor (List ℕ)). name_line name.now) names ≡ flat_map name_line (names_of names)

@@ -18,7 +18,7 @@ use std::alloc::Global;
 
 // Returns the text of the job with this id, or `NoMemory` if its allocation fails; None if there is
 // no job.
-#[tactic(auto, using(crate::proofs::TextLemmas::id_of_row))]
+#[tactic(auto, using(crate::proofs::TextLemmas::id_of_packed))]
 fn text_of_job(
     jobs: &mut NumberedJobs,
     tubes: &NumberedTubes,

@@ -17,7 +17,7 @@ use Rattle.bq_job.proofs.KeptLemmas.{ids_of_map}
 use Rattle.bq_job.proofs.LookupLemmas.{job_in_map}
 use Rattle.bq_index.specs.Digits.{binary_digits}
 use Rattle.bq_jobs.specs.Kept.{ComparesAtMost, Kept, with_added, without}
-use Rattle.bq_jobs.specs.Changed.{IgnoresTube, moved_by, removed_from, row_moved_by, row_removed, standing, with_changed}
+use Rattle.bq_jobs.specs.Changed.{IgnoresTube, moved_by, removed_from, numbered_move, numbered_removal, standing, with_changed}
 use Rattle.bq_jobs.specs.Numbering.{AreNumbered, AreRegistered, Extends, HasNumber, IsNumbered, IsPaired, Numbering, kept_named}
 use Rattle.bq_jobs.specs.Numbering.{name_of, named, number_of}
 use Rattle.bq_jobs.specs.Names.{number_in}
@@ -25,8 +25,8 @@ use Rattle.bq_jobs.specs.Searching.{FindsById}
 use Rattle.bq_jobs.specs.Told.{moved_told, removed_told, shared_told}
 use Rattle.bq_jobs.specs.Seen.{IsBodyOf, IsTubeOf, but_for_tube}
 use Rattle.bq_jobs.specs.Sharing.{ChangesShared, SharesAndChanges}
-use Rattle.bq_jobs.specs.declared.rows.Moved.{Moved}
-use Rattle.bq_jobs.specs.declared.rows.MovedRow.{MovedRow}
+use Rattle.bq_jobs.specs.declared.job_orders.Moved.{Moved}
+use Rattle.bq_jobs.specs.declared.job_orders.NumberedMove.{NumberedMove}
 use Rattle.bq_jobs.proofs.Changes.{stays_in}
 use Rattle.bq_jobs.proofs.NumberingLemmas.{name_kept, number_other, same_names}
 
@@ -210,17 +210,17 @@ row_added k rows h j n own = ap (λ i. with_added i (map (named k) rows)) (sym (
     ∙ added_named k (record j { tube = n }) rows
 
 -- the report about a record is the report about its job,
-pub told_removed : (k : Numbering) (o : Option Job) → option_map (λ r. r.1) (option_map (removed_told k) (option_map row_removed o))
+pub told_removed : (k : Numbering) (o : Option Job) → option_map (λ r. r.1) (option_map (removed_told k) (option_map numbered_removal o))
     ≡ option_map removed_from (option_map (named k) o)
 told_removed k None = refl
 told_removed k (Some j) = refl
 
 pub told_moved : (k : Numbering) (id : ℕ) (f : Job → Job) → IgnoresTube f → (rows : List Job)
-    → option_map (λ r. r.1) (option_map (moved_told k) (option_map (row_moved_by f) (job_with id rows)))
+    → option_map (λ r. r.1) (option_map (moved_told k) (option_map (numbered_move f) (job_with id rows)))
     ≡ option_map (moved_by f) (job_with id (map (named k) rows))
 told_moved k id f ignores rows = of (job_with id rows) ∙ ap (option_map (moved_by f)) (sym (job_named k id rows))
   where
-    of : (o : Option Job) → option_map (λ r. r.1) (option_map (moved_told k) (option_map (row_moved_by f) o))
+    of : (o : Option Job) → option_map (λ r. r.1) (option_map (moved_told k) (option_map (numbered_move f) o))
         ≡ option_map (moved_by f) (option_map (named k) o)
     of None = refl
     of (Some j) = ap (λ i. Some (record { tube = (named k j).tube; from = standing j; to = standing i }))
@@ -231,16 +231,16 @@ has_number : (k : Numbering) → IsPaired k → (j : Job) → IsNumbered k j →
 has_number k h j is = h.back (number_in j.tube) (named k j).tube (named_is (name_of (number_in j.tube) k) is.1)
 
 pub number_removed : (k : Numbering) → IsPaired k → (o : Option Job) → IfSome o (IsNumbered k)
-    → IfSome (option_map (removed_told k) (option_map row_removed o)) (λ r. HasNumber r.1.tube r.0 k.numbers)
+    → IfSome (option_map (removed_told k) (option_map numbered_removal o)) (λ r. HasNumber r.1.tube r.0 k.numbers)
 number_removed k h None is = tt
 number_removed k h (Some j) is = has_number k h j is
 
 pub number_moved : (k : Numbering) (f : Job → Job) (id : ℕ) (rows : List Job) → AreRegistered k rows
-    → IfSome (option_map (moved_told k) (option_map (row_moved_by f) (job_with id rows))) (λ r. HasNumber r.1.tube r.0 k.numbers)
+    → IfSome (option_map (moved_told k) (option_map (numbered_move f) (job_with id rows))) (λ r. HasNumber r.1.tube r.0 k.numbers)
 number_moved k f id rows h = of (job_with id rows) (numbered_found k id rows h.numbered)
   where
     of : (o : Option Job) → IfSome o (IsNumbered k)
-        → IfSome (option_map (moved_told k) (option_map (row_moved_by f) o)) (λ r. HasNumber r.1.tube r.0 k.numbers)
+        → IfSome (option_map (moved_told k) (option_map (numbered_move f) o)) (λ r. HasNumber r.1.tube r.0 k.numbers)
     of None is = tt
     of (Some j) is = has_number k h.paired j is
 
@@ -416,8 +416,8 @@ body_told k id rows (Err e) is = tt
 -- A change of a record that also returns its body is the same change of its job.
 module _ (k : Numbering) (id : ℕ) (f : Job → Job) (ignores : IgnoresTube f) (rows new old : Kept) (is : kept_named rows k ≡ old)
     (h : AreRegistered k rows.jobs) where
-  abbrev IsReported : MovedRow → Type 0
-  IsReported m = Some m ≡ option_map (row_moved_by f) (job_with id rows.jobs)
+  abbrev IsReported : NumberedMove → Type 0
+  IsReported m = Some m ≡ option_map (numbered_move f) (job_with id rows.jobs)
 
   named_shared : (body : List ℕ) → ChangesShared id f body rows new → ChangesShared id f body old (kept_named new k)
   named_shared body c = subst (λ i. ChangesShared id f body i (kept_named new k)) is (record {
@@ -432,7 +432,7 @@ module _ (k : Numbering) (id : ℕ) (f : Job → Job) (ignores : IgnoresTube f) 
   abbrev IsReportedOf : List ℕ × Moved → Type 0
   IsReportedOf r = (Some r.1 ≡ option_map (moved_by f) (job_with id old.jobs)) × HasNumber r.1.tube r.0 old.tubes
 
-  named_report : (m : MovedRow) → IsReported m → IsReportedOf (moved_told k m)
+  named_report : (m : NumberedMove) → IsReported m → IsReportedOf (moved_told k m)
   named_report m told = (
     ap (λ o. option_map (λ r. r.1) (option_map (moved_told k) o)) told ∙ told_moved k id f ignores rows.jobs
         ∙ ap (λ (i : Kept). option_map (moved_by f) (job_with id i.jobs)) is,
@@ -441,13 +441,13 @@ module _ (k : Numbering) (id : ℕ) (f : Job → Job) (ignores : IgnoresTube f) 
         (number_moved k f id rows.jobs h)),
   )
 
-  pub shares_named : {E : Type 0} (r : Option (Result (MovedRow × List ℕ) E)) → SharesAndChanges IsReported id f r rows new
+  pub shares_named : {E : Type 0} (r : Option (Result (NumberedMove × List ℕ) E)) → SharesAndChanges IsReported id f r rows new
       → SharesAndChanges IsReportedOf id f (shared_told k r) old (kept_named new k)
-  shares_named None c = let none : Option MovedRow = None in finds_named k id rows new old none none is refl c
+  shares_named None c = let none : Option NumberedMove = None in finds_named k id rows new old none none is refl c
   shares_named (Some (Err e)) c = finds_named k id rows new old (Some e) (Some e) is refl c
   shares_named (Some (Ok s)) c = (named_report s.0 c.0, named_shared s.1 c.1)
 
-  pub shared_registered : {E : Type 0} (r : Option (Result (MovedRow × List ℕ) E)) → SharesAndChanges IsReported id f r rows new
+  pub shared_registered : {E : Type 0} (r : Option (Result (NumberedMove × List ℕ) E)) → SharesAndChanges IsReported id f r rows new
       → AreRegistered k new.jobs
   shared_registered None c = subst (AreRegistered k) (sym (ap (λ (m : Kept). m.jobs) c.1.same)) h
   shared_registered (Some (Err e)) c = subst (AreRegistered k) (sym (ap (λ (m : Kept). m.jobs) c.1.same)) h

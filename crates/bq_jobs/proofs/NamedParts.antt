@@ -7,7 +7,7 @@ use Rattle.std.specs.BTreeMap.{is_at, insert_entry}
 use Rattle.bq_job.specs.declared.job.Job.{Job}
 use Rattle.bq_job.specs.machine.Changes.{job_with}
 use Rattle.bq_jobs.specs.declared.named_jobs.Jobs.TheInside.{Inside}
-use Rattle.bq_jobs.specs.declared.rows.Rows.TheInside.{Inside as Parts}
+use Rattle.bq_jobs.specs.declared.job_orders.JobOrders.TheInside.{Inside as Parts}
 use Rattle.bq_jobs.specs.Inside.{jobs_of}
 use Rattle.bq_jobs.specs.Kept.{with_added}
 use Rattle.bq_jobs.proofs.Shelved as of_rows

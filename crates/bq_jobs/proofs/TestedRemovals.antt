@@ -6,12 +6,12 @@ use Rattle.bq_index.proofs.Removed.{value_there}
 use Rattle.bq_index.specs.Removed.{passing}
 use Rattle.bq_job.specs.declared.job.Job.{Job}
 use Rattle.bq_job.specs.machine.Changes.{job_with}
-use Rattle.bq_jobs.specs.Changed.{AsksNoTube, entry_at, removed_from, row_removed}
+use Rattle.bq_jobs.specs.Changed.{AsksNoTube, entry_at, removed_from, numbered_removal}
 use Rattle.bq_jobs.specs.Kept.{Kept, without}
 use Rattle.bq_jobs.specs.Numbering.{AreRegistered, HasNumber, IsNumbered, Numbering, kept_named, named}
 use Rattle.bq_jobs.specs.Room.{RemovesIf}
 use Rattle.bq_jobs.specs.Told.{removed_told}
-use Rattle.bq_jobs.specs.declared.rows.Rows.TheInside.{Inside as Parts}
+use Rattle.bq_jobs.specs.declared.job_orders.JobOrders.TheInside.{Inside as Parts}
 use Rattle.bq_jobs.specs.Inside.{jobs_of}
 use Rattle.bq_jobs.proofs.NamedJobs.{counted_as, job_named, number_removed, numbered_found, registered_without, told_removed}
 use Rattle.bq_jobs.proofs.NamedJobs.{without_named}
@@ -54,13 +54,13 @@ passing_numbered k p (Some j) is = of (p j)
 
 module _ (k : Numbering) (id : ℕ) (rows : List Job) (p : Job → Bool) where
   pub told_removed_if : AsksNoTube p
-      → option_map (λ r. r.1) (option_map (removed_told k) (option_map row_removed (passing p (job_with id rows))))
+      → option_map (λ r. r.1) (option_map (removed_told k) (option_map numbered_removal (passing p (job_with id rows))))
       ≡ option_map removed_from (passing p (job_with id (map (named k) rows)))
   told_removed_if no_tube = told_removed k (passing p (job_with id rows))
       ∙ ap (option_map removed_from) (sym (passing_named k p no_tube id rows))
 
   pub number_removed_if : AreRegistered k rows
-      → IfSome (option_map (removed_told k) (option_map row_removed (passing p (job_with id rows)))) (λ r. HasNumber r.1.tube r.0 k.numbers)
+      → IfSome (option_map (removed_told k) (option_map numbered_removal (passing p (job_with id rows)))) (λ r. HasNumber r.1.tube r.0 k.numbers)
   number_removed_if h =
       number_removed k h.paired (passing p (job_with id rows)) (passing_numbered k p (job_with id rows)
       (numbered_found k id rows h.numbered))

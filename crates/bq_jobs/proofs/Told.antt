@@ -14,9 +14,9 @@ use Rattle.bq_job.specs.declared.job.Job.{Job}
 use Rattle.bq_job.specs.machine.Changes.{job_with}
 use Rattle.bq_jobs.specs.contracts.places.GroupOrd.TheImpl.Laws as group_laws
 use Rattle.bq_jobs.specs.contracts.places.TimerOrd.TheImpl.Laws as timer_laws
-use Rattle.bq_jobs.specs.declared.rows.MovedRow.{MovedRow}
-use Rattle.bq_jobs.specs.declared.rows.Rows.TheInside.{Inside as Parts}
-use Rattle.bq_jobs.specs.Changed.{IgnoresTube, KeepsId, entry_at, row_moved_by, with_changed, with_edited}
+use Rattle.bq_jobs.specs.declared.job_orders.NumberedMove.{NumberedMove}
+use Rattle.bq_jobs.specs.declared.job_orders.JobOrders.TheInside.{Inside as Parts}
+use Rattle.bq_jobs.specs.Changed.{IgnoresTube, KeepsId, entry_at, numbered_move, with_changed, with_edited}
 use Rattle.bq_jobs.specs.Inside.{ById, jobs_of, kept_in}
 use Rattle.bq_jobs.specs.Kept.{Kept}
 use Rattle.bq_jobs.specs.Moves.{CanMove, CanMoveIf, Moves, MovesIf, group_at, timer_at}
@@ -42,10 +42,10 @@ pub told_of : {M : Type 0} (tells : Job → M) (o : Option Job) (m : M) → opti
 told_of tells None m e = absurd cc
 told_of tells (Some j) m e = record { job = j; there = refl; is = cc }
 
-module _ (id : ℕ) (f : Job → Job) (keeps : KeepsId f) (ignores : IgnoresTube f) (s : Parts) (h : AreShelved s) (m : MovedRow)
-    (told : option_map (row_moved_by f) (entry_at id s.by_id.entries) ≡ Some m) where
-  of : IsOf (row_moved_by f) (entry_at id s.by_id.entries) m
-  of = told_of (row_moved_by f) (entry_at id s.by_id.entries) m told
+module _ (id : ℕ) (f : Job → Job) (keeps : KeepsId f) (ignores : IgnoresTube f) (s : Parts) (h : AreShelved s) (m : NumberedMove)
+    (told : option_map (numbered_move f) (entry_at id s.by_id.entries) ≡ Some m) where
+  of : IsOf (numbered_move f) (entry_at id s.by_id.entries) m
+  of = told_of (numbered_move f) (entry_at id s.by_id.entries) m told
 
   pub job_then : Job
   job_then = of.job
@@ -54,7 +54,7 @@ module _ (id : ℕ) (f : Job → Job) (keeps : KeepsId f) (ignores : IgnoresTube
   unfolding job_then
   entry_then = of.there
 
-  pub told_is : m ≡ row_moved_by f job_then
+  pub told_is : m ≡ numbered_move f job_then
   unfolding job_then
   told_is = of.is
 
@@ -68,19 +68,19 @@ module _ (id : ℕ) (f : Job → Job) (keeps : KeepsId f) (ignores : IgnoresTube
   id_after = keeps job_then ∙ sym its_id
 
   pub left_group : group_at id m.tube m.from ≡ group_place job_then
-  left_group = ap (λ (n : MovedRow). group_at id n.tube n.from) told_is
+  left_group = ap (λ (n : NumberedMove). group_at id n.tube n.from) told_is
       ∙ ap (in_groups_at job_then.state job_then.pri job_then.tube) its_id
 
   pub entered_group : group_at id m.tube m.to ≡ group_place (f job_then)
-  entered_group = ap (λ (n : MovedRow). group_at id n.tube n.to) told_is
+  entered_group = ap (λ (n : NumberedMove). group_at id n.tube n.to) told_is
       ∙ ap (λ t. in_groups_at (f job_then).state (f job_then).pri t id) (sym (stays_in f ignores job_then))
       ∙ ap (in_groups_at (f job_then).state (f job_then).pri (f job_then).tube) (sym id_after)
 
   pub left_timer : timer_at id m.from ≡ timer_place job_then
-  left_timer = ap (λ (n : MovedRow). timer_at id n.from) told_is ∙ ap (in_timers_at job_then.state) its_id
+  left_timer = ap (λ (n : NumberedMove). timer_at id n.from) told_is ∙ ap (in_timers_at job_then.state) its_id
 
   pub entered_timer : timer_at id m.to ≡ timer_place (f job_then)
-  entered_timer = ap (λ (n : MovedRow). timer_at id n.to) told_is ∙ ap (in_timers_at (f job_then).state) (sym id_after)
+  entered_timer = ap (λ (n : NumberedMove). timer_at id n.to) told_is ∙ ap (in_timers_at (f job_then).state) (sym id_after)
 
   -- It can move in both orders.
   pub can_move_group : CanMove group_cmp (group_at id m.tube m.from) (group_at id m.tube m.to) s.groups
@@ -123,9 +123,9 @@ pub nothing_told_of : {M : Type 0} (tells : Job → M) (o : Option Job) → opti
 nothing_told_of tells None e = refl
 nothing_told_of tells (Some j) e = absurd cc
 
-pub nothing_told : (id : ℕ) (f : Job → Job) (es : List (ℕ × Job)) → option_map (row_moved_by f) (entry_at id es) ≡ None
+pub nothing_told : (id : ℕ) (f : Job → Job) (es : List (ℕ × Job)) → option_map (numbered_move f) (entry_at id es) ≡ None
     → entry_at id es ≡ None
-nothing_told id f es e = nothing_told_of (row_moved_by f) (entry_at id es) e
+nothing_told id f es e = nothing_told_of (numbered_move f) (entry_at id es) e
 
 pub unchanged : (id : ℕ) (f : Job → Job) (s : Parts) → AreShelved s → entry_at id s.by_id.entries ≡ None
     → jobs_of s.by_id.entries ≡ with_changed id f (jobs_of s.by_id.entries)
@@ -133,21 +133,21 @@ unchanged id f s h none =
     sym (none_changed id f (jobs_of s.by_id.entries) (none_has id (jobs_of s.by_id.entries) (sym (found_in id s h) ∙ none)))
 
 -- what a change that may be refused returns
-abbrev Told : {E : Type 0} → (Job → Job) → Option Job → Option (Result (MovedRow × List ℕ) E) → Type 0
+abbrev Told : {E : Type 0} → (Job → Job) → Option Job → Option (Result (NumberedMove × List ℕ) E) → Type 0
 Told f o r = MayReturn (MayShare f) o r
 
 -- If it was made, the report and the body are those of the job that was there.
-shared_report : (E : Type 0) (f : Job → Job) (o : Option Job) (s : MovedRow × List ℕ) → Told {E = E} f o (Some (Ok s))
-    → option_map (row_moved_by f) o ≡ Some s.0
+shared_report : (E : Type 0) (f : Job → Job) (o : Option Job) (s : NumberedMove × List ℕ) → Told {E = E} f o (Some (Ok s))
+    → option_map (numbered_move f) o ≡ Some s.0
 shared_report E f None s h = absurd h
 shared_report E f (Some j) s h = ap Some (sym h.0)
 
-shared_body : (E : Type 0) (f : Job → Job) (o : Option Job) (s : MovedRow × List ℕ) → Told {E = E} f o (Some (Ok s)) → IsBodyOf o s.1
+shared_body : (E : Type 0) (f : Job → Job) (o : Option Job) (s : NumberedMove × List ℕ) → Told {E = E} f o (Some (Ok s)) → IsBodyOf o s.1
 shared_body E f None s h j e = absurd h
 shared_body E f (Some k) s h j e = let is : k ≡ j = (cc) in h.1 ∙ ap (λ (i : Job). i.body) is
 
 -- whether there is a job
-some_told : {E : Type 0} (f : Job → Job) (o : Option Job) (r : Option (Result (MovedRow × List ℕ) E)) → Told f o r → is_some r ≡ is_some o
+some_told : {E : Type 0} (f : Job → Job) (o : Option Job) (r : Option (Result (NumberedMove × List ℕ) E)) → Told f o r → is_some r ≡ is_some o
 some_told f None None h = refl
 some_told f None (Some r) h = absurd h
 some_told f (Some j) None h = absurd h
@@ -191,7 +191,7 @@ module _ (id : ℕ) (s : Parts) (h : AreShelved s) (old : Kept) (is : kept_in s.
 
   module _ (f : Job → Job) (keeps : KeepsId f) (ignores : IgnoresTube f) where
     -- A job that was changed can move.
-    pub can_move_if : {E : Type 0} (r : Option (Result (MovedRow × List ℕ) E)) → Told f (entry_at id s.by_id.entries) r
+    pub can_move_if : {E : Type 0} (r : Option (Result (NumberedMove × List ℕ) E)) → Told f (entry_at id s.by_id.entries) r
         → CanMoveIf group_cmp timer_cmp id r s.groups s.timers
     can_move_if None told = tt
     can_move_if (Some (Err e)) told = tt
@@ -199,11 +199,11 @@ module _ (id : ℕ) (s : Parts) (h : AreShelved s) (old : Kept) (is : kept_in s.
         (can_move_group id f keeps ignores s h t.0 report, can_move_timer id f keeps ignores s h t.0 report)
 
     -- After its moves, if it was changed, this is kept.
-    abbrev IsKept : {E : Type 0} → Option (Result (MovedRow × List ℕ) E) → Parts → Type 0
-    IsKept r n = AreShelved n × SharesAndChanges (λ m. Some m ≡ option_map (row_moved_by f) (job_with id old.jobs)) id f r old
+    abbrev IsKept : {E : Type 0} → Option (Result (NumberedMove × List ℕ) E) → Parts → Type 0
+    IsKept r n = AreShelved n × SharesAndChanges (λ m. Some m ≡ option_map (numbered_move f) (job_with id old.jobs)) id f r old
         (kept_in n.by_id n.groups n.timers)
 
-    pub shared_then : {E : Type 0} (r : Option (Result (MovedRow × List ℕ) E)) (n : Parts) → Told f (entry_at id s.by_id.entries) r
+    pub shared_then : {E : Type 0} (r : Option (Result (NumberedMove × List ℕ) E)) (n : Parts) → Told f (entry_at id s.by_id.entries) r
         → n.by_id.entries ≡ with_edited id (edited_by (if_shared f) r) (entry_at id s.by_id.entries) s.by_id.entries
         → n.by_id.spare ≡ s.by_id.spare → ComparesFew s.by_id n.by_id
         → MovesIf group_cmp timer_cmp id r s.groups n.groups s.timers n.timers → IsKept r n
@@ -223,7 +223,7 @@ module _ (id : ℕ) (s : Parts) (h : AreShelved s) (old : Kept) (is : kept_in s.
         let timers = moves.1.comparisons in (
           shelved_then id f keeps ignores s h t.0 report n made spare moves.0 moves.1,
           (
-            sym report ∙ ap (option_map (row_moved_by f)) found_old,
+            sym report ∙ ap (option_map (numbered_move f)) found_old,
             record {
               body_is = subst (λ o. IsBodyOf o t.1) found_old (shared_body E f (entry_at id s.by_id.entries) t told);
               jobs = jobs_then id f keeps ignores s h t.0 report n made ∙ ap (λ (k : Kept). with_changed id f k.jobs) is;

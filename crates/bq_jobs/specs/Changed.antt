@@ -5,10 +5,10 @@ use Rattle.std.specs.Map.{lookup, set_value}
 use Rattle.std.specs.BTreeMap.{is_at}
 use Rattle.bq_job.specs.declared.job.Job.{Job}
 use Rattle.bq_index.specs.Edited.{edited_if}
-use Rattle.bq_jobs.specs.declared.rows.Moved.{Moved}
-use Rattle.bq_jobs.specs.declared.rows.MovedRow.{MovedRow}
-use Rattle.bq_jobs.specs.declared.rows.Removed.{Removed}
-use Rattle.bq_jobs.specs.declared.rows.Standing.{Standing}
+use Rattle.bq_jobs.specs.declared.job_orders.Moved.{Moved}
+use Rattle.bq_jobs.specs.declared.job_orders.NumberedMove.{NumberedMove}
+use Rattle.bq_jobs.specs.declared.job_orders.Removed.{Removed}
+use Rattle.bq_jobs.specs.declared.job_orders.Standing.{Standing}
 
 abbrev pub standing : Job → Standing
 standing j = record { pri = j.pri; state = j.state }
@@ -22,12 +22,12 @@ abbrev pub moved_by : (Job → Job) → Job → Moved
 moved_by f j = record { tube = j.tube; from = standing j; to = standing (f j) }
 
 -- the same for a record
-abbrev pub row_moved_by : (Job → Job) → Job → MovedRow
-row_moved_by f j = record { tube = j.tube; from = standing j; to = standing (f j) }
+abbrev pub numbered_move : (Job → Job) → Job → NumberedMove
+numbered_move f j = record { tube = j.tube; from = standing j; to = standing (f j) }
 
 -- the tube and the standing of a record that was removed
-abbrev pub row_removed : Job → List ℕ × Standing
-row_removed j = (j.tube, standing j)
+abbrev pub numbered_removal : Job → List ℕ × Standing
+numbered_removal j = (j.tube, standing j)
 
 -- the report about a job that was removed
 abbrev pub removed_from : Job → Removed

@@ -4,8 +4,8 @@ use Rattle.std.specs.declared.cmp.Ordering.{Ordering}
 use Rattle.bq_jobs.specs.declared.places.Holder.{Holder}
 use Rattle.bq_jobs.specs.declared.places.ShelfPlace.{ShelfPlace}
 use Rattle.bq_jobs.specs.declared.places.Timer.{Timer}
-use Rattle.bq_jobs.specs.declared.rows.MovedRow.{MovedRow}
-use Rattle.bq_jobs.specs.declared.rows.Standing.{Standing}
+use Rattle.bq_jobs.specs.declared.job_orders.NumberedMove.{NumberedMove}
+use Rattle.bq_jobs.specs.declared.job_orders.Standing.{Standing}
 use Rattle.bq_jobs.specs.Inside.{Order}
 use Rattle.bq_jobs.specs.PlaceOrder.{ComparesTwice, holds_place, with_place, without_place}
 use Rattle.bq_jobs.specs.Places.{in_groups_at, in_timers_at}
@@ -32,13 +32,13 @@ pub record Moves {G : Type 0} (C : G → G → Ordering) (from to : Option (Shel
 
 -- Both moves of a job, which was changed if `told` has a report about that.
 module _ {E : Type 0} (group_cmp : Holder → Holder → Ordering) (timer_cmp : Timer → Timer → Ordering) (id : ℕ) where
-  abbrev pub CanMoveIf : Option (Result (MovedRow × List ℕ) E) → Order Holder → Order Timer → Type 0
+  abbrev pub CanMoveIf : Option (Result (NumberedMove × List ℕ) E) → Order Holder → Order Timer → Type 0
   CanMoveIf None groups timers = Unit {0}
   CanMoveIf (Some (Err e)) groups timers = Unit {0}
   CanMoveIf (Some (Ok s)) groups timers = CanMove group_cmp (group_at id s.0.tube s.0.from) (group_at id s.0.tube s.0.to) groups
       × CanMove timer_cmp (timer_at id s.0.from) (timer_at id s.0.to) timers
 
-  abbrev pub MovesIf : Option (Result (MovedRow × List ℕ) E) → Order Holder → Order Holder → Order Timer → Order Timer → Type 0
+  abbrev pub MovesIf : Option (Result (NumberedMove × List ℕ) E) → Order Holder → Order Holder → Order Timer → Order Timer → Type 0
   MovesIf None groups new timers later = (new ≡ groups) × (later ≡ timers)
   MovesIf (Some (Err e)) groups new timers later = (new ≡ groups) × (later ≡ timers)
   MovesIf (Some (Ok s)) groups new timers later =

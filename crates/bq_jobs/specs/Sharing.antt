@@ -3,15 +3,15 @@ use Rattle.std.specs.Prelude.{◌≡◌, ℕ, ◌^◌, false, true, is_some, Lis
 use Rattle.bq_job.specs.beside.Lawful.{AreIdsWithin}
 use Rattle.bq_job.specs.declared.job.Job.{Job}
 use Rattle.bq_job.specs.machine.Changes.{job_with}
-use Rattle.bq_jobs.specs.Changed.{row_moved_by, with_changed}
+use Rattle.bq_jobs.specs.Changed.{numbered_move, with_changed}
 use Rattle.bq_jobs.specs.Kept.{ComparesAtMost, Kept}
 use Rattle.bq_jobs.specs.Searching.{Searches}
 use Rattle.bq_jobs.specs.Seen.{IsBodyOf}
-use Rattle.bq_jobs.specs.declared.rows.MovedRow.{MovedRow}
+use Rattle.bq_jobs.specs.declared.job_orders.NumberedMove.{NumberedMove}
 
 -- what a record may return: the report about its change, and its body
-abbrev pub MayShare : {E : Type 0} → (Job → Job) → Job → Result (MovedRow × List ℕ) E → Type 0
-MayShare f j told = IfOk told (λ s. (s.0 ≡ row_moved_by f j) × (s.1 ≡ j.body))
+abbrev pub MayShare : {E : Type 0} → (Job → Job) → Job → Result (NumberedMove × List ℕ) E → Type 0
+MayShare f j told = IfOk told (λ s. (s.0 ≡ numbered_move f j) × (s.1 ≡ j.body))
 
 -- the job, changed by f if the reference was not refused
 abbrev pub if_shared : {A E : Type 0} → (Job → Job) → Result A E → Job → Job

@@ -31,8 +31,10 @@ ghost use Rattle.bq_jobs.specs.Searching.{FindsById, Searches};
 ghost use Rattle.bq_jobs.specs.Sharing.{SharesAndChanges};
 
 use super::ghost_name::GhostName;
+use super::job_orders::{
+    self, JobEdit, JobOrders, Moved, NumberedMove, PackedJob, PackedTest, Removed, Standing,
+};
 use super::places::{Group, JobList, Timer};
-use super::rows::{self, JobEdit, Moved, MovedRow, Removed, Row, RowTest, Rows, Standing};
 use super::tube::Tube;
 use super::tubes::{NumberedTubes, TubeNumber};
 use bq_index::BoxSource;
@@ -53,7 +55,7 @@ use std::snapshot::Snapshot;
 /// room for the next one.
 #[derive(Drop)]
 pub struct NumberedJobs {
-    rows: Rows,
+    orders: JobOrders,
     // The table of names as the jobs know it, for contracts only: it takes no memory.
     tubes: Snapshot<NumberedTubes>,
 }
@@ -64,9 +66,9 @@ impl Model for NumberedJobs {
 
     ghost Value = { Kept };
 
-    ghost view = { λ s. kept_named s.rows s.tubes.value };
+    ghost view = { λ s. kept_named s.orders s.tubes.value };
 
-    ghost invariant = { λ s. AreRegistered s.tubes.value s.rows.jobs };
+    ghost invariant = { λ s. AreRegistered s.tubes.value s.orders.jobs };
 }
 
 impl NumberedJobs {
@@ -84,9 +86,9 @@ impl NumberedJobs {
             ≡ record { jobs = []; room = 0; comparisons = 0; tubes = tubes.now.numbers }) }
     {
         tubes.paired();
-        let rows = Rows::new(alloc)?;
+        let orders = JobOrders::new(alloc)?;
         Ok(NumberedJobs {
-            rows,
+            orders,
             tubes: Snapshot::of(tubes),
         })
     }
@@ -97,21 +99,21 @@ impl NumberedJobs {
         ensures len { result ≡ length self.now.jobs }
         ensures ordered { AreIdsWithin 0 self.now.jobs (2 ^ 64) }
     {
-        self.rows.len()
+        self.orders.len()
     }
 
     /// Returns how many more jobs can be added.
     pub fn room(&self) -> usize
         ensures { result ≡ self.now.room }
     {
-        self.rows.room()
+        self.orders.room()
     }
 
     /// Returns how often two keys were compared so far. The count stops at 2^64 - 1.
     pub fn comparisons(&self) -> u64
         ensures { result ≡ self.now.comparisons }
     {
-        self.rows.comparisons()
+        self.orders.comparisons()
     }
 
     /// Makes room for a job, if there is none. What was allocated before a failure is kept for the
@@ -128,7 +130,7 @@ impl NumberedJobs {
     pub fn reserve_one_from<S: BoxSource>(&mut self, source: &mut S) -> Result<(), NoMemory>
         ensures { MakesRoom result self.old self.new }
     {
-        self.rows.reserve_one_from(source)
+        self.orders.reserve_one_from(source)
     }
 
     /// Returns the room of one job to the allocator, if there is room for more jobs than there are.
@@ -139,7 +141,7 @@ impl NumberedJobs {
               if nat_lt (length self.old.jobs) self.old.room then self.old.room - 1 else self.old.room;
         } }
     {
-        self.rows.give_back();
+        self.orders.give_back();
     }
 
     /// Adds a job, which uses the room of one. Its tube has to be registered under this number.
@@ -154,7 +156,7 @@ impl NumberedJobs {
         ensures room { self.new.room + 1 ≡ self.old.room }
         ensures comparisons { ComparesAtMost 4 self.old self.new }
     {
-        self.rows.add(job.id, rows::row_of(job, number));
+        self.orders.add(job.id, job_orders::packed(job, number));
     }
 
     /// Removes the job with this id, if there is one and it passes a test, and drops it. Its room is
@@ -163,7 +165,11 @@ impl NumberedJobs {
     ///
     /// The job is searched once, and the test runs where the search has found it.
     #[tactic(auto, using(crate::proofs::TestedRemovals::discards_if))]
-    pub fn discard_if<T: RowTest>(&mut self, id: JobId, test: &T) -> Option<(TubeNumber, Removed)>
+    pub fn discard_if<T: PackedTest>(
+        &mut self,
+        id: JobId,
+        test: &T,
+    ) -> Option<(TubeNumber, Removed)>
         requires tube { AsksNoTube (T.passed test.now) }
         ensures removed { option_map (λ r. r.1) result
             ≡ option_map removed_from (passing (T.passed test.now) (job_with id self.old.jobs)) }
@@ -171,7 +177,7 @@ impl NumberedJobs {
         ensures tubes { self.new.tubes ≡ self.old.tubes }
         ensures left { RemovesIf id result self.old self.new }
     {
-        let removed = self.rows.discard_if(id, test);
+        let removed = self.orders.discard_if(id, test);
         removed_of(&self.tubes, removed)
     }
 
@@ -191,7 +197,7 @@ impl NumberedJobs {
         ensures room { self.new.room ≡ self.old.room }
         ensures comparisons { ComparesAtMost 7 self.old self.new }
     {
-        let moved = self.rows.change(id, edit);
+        let moved = self.orders.change(id, edit);
         told_of(&self.tubes, moved)
     }
 
@@ -210,17 +216,17 @@ impl NumberedJobs {
             × HasNumber r.1.tube r.0 self.old.tubes)
             id (E.edited edit.now) result self.old self.new }
     {
-        let shared = self.rows.share_and_change(id, edit);
+        let shared = self.orders.share_and_change(id, edit);
         shared_of(&self.tubes, shared)
     }
 
     /// Returns the record of the job with this id. It has all of the job but the name of its tube.
-    pub fn get(&mut self, id: JobId) -> Option<&Row>
+    pub fn get(&mut self, id: JobId) -> Option<&PackedJob>
         ensures* after { sem 𝓛 (LeavesNumbered self.entry) }
         ensures job { option_map (λ row. but_for_tube row.now) result
             ≡ option_map but_for_tube (job_with id self.old.jobs) }
     {
-        self.rows.get(id)
+        self.orders.get(id)
     }
 
     /// Returns the tube of the job with this id.
@@ -230,7 +236,7 @@ impl NumberedJobs {
         ensures tube { result ≡ option_map (λ j. j.tube) (job_with id self.old.jobs) }
         ensures kept { Searches 1 self.old self.new }
     {
-        let number = self.rows.number_of(id)?;
+        let number = self.orders.number_of(id)?;
         tube_at(tubes, number)
     }
 
@@ -247,7 +253,7 @@ impl NumberedJobs {
         ensures body { IfSome result (λ s. IfOk s.1 (IsBodyOf (job_with id self.old.jobs))) }
         ensures kept { FindsById id result self.old self.new }
     {
-        let (number, body) = self.rows.share(id)?;
+        let (number, body) = self.orders.share(id)?;
         let tube = tube_at(tubes, number)?;
         Some((tube, body))
     }
@@ -259,7 +265,7 @@ impl NumberedJobs {
         ensures body { IfSome result (λ s. IfOk s (IsBodyOf (job_with id self.old.jobs))) }
         ensures kept { FindsById id result self.old self.new }
     {
-        self.rows.share_body(id)
+        self.orders.share_body(id)
     }
 
     /// Returns the id of the most urgent ready job of a tube: by priority, then by id.
@@ -391,9 +397,9 @@ impl NumberedJobs {
         ensures rank { result ≡ first_held (list_of tube.now list) self.old.jobs }
         ensures kept { Searches 1 self.old self.new }
     {
-        let rows = &mut self.rows;
+        let orders = &mut self.orders;
         let number = number_at(tubes, tube.name(), tube.number())?;
-        rows.first_of_group(Group::list(list, number))
+        orders.first_of_group(Group::list(list, number))
     }
 
     // Returns the deadline and the id of the first job of the client at a seat.
@@ -402,7 +408,7 @@ impl NumberedJobs {
         ensures rank { result ≡ first_held (held_by seat) self.old.jobs }
         ensures kept { Searches 1 self.old self.new }
     {
-        self.rows.first_of_group(Group::held(seat))
+        self.orders.first_of_group(Group::held(seat))
     }
 
     // Returns the moment and the id of the first delay or of the first lease.
@@ -411,7 +417,7 @@ impl NumberedJobs {
         ensures rank { result ≡ first_timed timer self.old.jobs }
         ensures kept { Searches 1 self.old self.new }
     {
-        self.rows.first_of_timer(timer)
+        self.orders.first_of_timer(timer)
     }
 
     /// Takes note of a table in which tubes were registered. It does nothing when the program runs:
@@ -482,7 +488,10 @@ fn removed_of(
 }
 
 // Returns the number of the tube of a changed record, and the report about its job.
-fn told_of(tubes: &Snapshot<NumberedTubes>, moved: Option<MovedRow>) -> Option<(TubeNumber, Moved)>
+fn told_of(
+    tubes: &Snapshot<NumberedTubes>,
+    moved: Option<NumberedMove>,
+) -> Option<(TubeNumber, Moved)>
     ensures { result ≡ option_map (moved_told tubes.now.value) moved }
 {
     let moved = moved?;
@@ -490,7 +499,7 @@ fn told_of(tubes: &Snapshot<NumberedTubes>, moved: Option<MovedRow>) -> Option<(
 }
 
 // Returns the same for a record that was found.
-fn report_of(tubes: &Snapshot<NumberedTubes>, moved: MovedRow) -> (TubeNumber, Moved)
+fn report_of(tubes: &Snapshot<NumberedTubes>, moved: NumberedMove) -> (TubeNumber, Moved)
     ensures { result ≡ moved_told tubes.now.value moved }
 {
     let tube = GhostName::of(tubes, moved.tube);
@@ -508,7 +517,7 @@ fn report_of(tubes: &Snapshot<NumberedTubes>, moved: MovedRow) -> (TubeNumber, M
 #[inline(always)]
 fn shared_of(
     tubes: &Snapshot<NumberedTubes>,
-    shared: Option<Result<(MovedRow, Body), NoMemory>>,
+    shared: Option<Result<(NumberedMove, Body), NoMemory>>,
 ) -> Option<Result<((TubeNumber, Moved), Body), NoMemory>>
     ensures { result ≡ shared_told tubes.now.value shared }
 {

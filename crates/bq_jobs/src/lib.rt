@@ -21,20 +21,20 @@
 #![tactic(auto)]
 
 pub use ghost_name::GhostName;
+pub use job_orders::{JobEdit, Moved, PackedJob, PackedTest, Removed, Standing};
 pub use jobs::{NumberedJobs, adds_at_the_end, chosen_has_its_id, next_is_free};
 pub use named_jobs::Jobs;
-pub use rows::{JobEdit, Moved, Removed, Row, RowTest, Standing};
 pub use table::TubeTable;
 pub use tube::Tube;
 pub use tubes::{NumberedTubes, TubeNumber};
 
 mod ghost_name;
 mod groups;
+mod job_orders;
 mod jobs;
 mod named_group;
 mod named_jobs;
 mod places;
-mod rows;
 mod table;
 mod timers;
 mod tube;

@@ -7,8 +7,8 @@ ghost use Rattle.std.specs.Ordering.{as_partial_cmp, eq_by_cmp};
 ghost use Rattle.std.specs.Prelude.{◌≡◌, ◌<◌, ◌^◌};
 ghost use Rattle.bq_jobs.specs.Places.{group_place, held_by, list_of, timer_place};
 
+use super::job_orders::Standing;
 use super::places::{self, JobList, ShelfPlace, Timer};
-use super::rows::Standing;
 use bq_job::{Job, JobId, JobState, Seat, TubeName};
 use std::cmp::Ordering;
 use std::marker::Model;

@@ -10,7 +10,7 @@ ghost use Rattle.bq_index.specs.Shelf.{ComparesFew};
 ghost use Rattle.bq_jobs.specs.PlaceOrder.{ComparesTwice, first_rank, holds_place, with_place, without_place};
 ghost use Rattle.std.specs.Option.{ForSome};
 
-use super::rows::{Row, Standing};
+use super::job_orders::{PackedJob, Standing};
 use super::tubes::TubeNumber;
 use bq_index::{BoxSource, Parted, Shelf};
 use bq_job::{JobId, JobState, NoMemory, Seat};
@@ -323,19 +323,19 @@ impl<G> ShelfPlace<G> {
 }
 
 /// Returns the place of the job with this id in its tube's list or among the jobs of its holder.
-pub(crate) fn group_place(id: JobId, job: &Row) -> Option<ShelfPlace<Group>>
+pub(crate) fn group_place(id: JobId, job: &PackedJob) -> Option<ShelfPlace<Group>>
     requires { job.now.id ≡ id }
     ensures { result ≡ group_place job.now }
 {
-    place_in_groups(id, job.tube, Standing::of_row(job))
+    place_in_groups(id, job.tube, Standing::of_packed(job))
 }
 
 /// Returns the place of the job with this id among all delays and leases, if it has one.
-pub(crate) fn timer_place(id: JobId, job: &Row) -> Option<ShelfPlace<Timer>>
+pub(crate) fn timer_place(id: JobId, job: &PackedJob) -> Option<ShelfPlace<Timer>>
     requires { job.now.id ≡ id }
     ensures { result ≡ timer_place job.now }
 {
-    place_in_timers(id, Standing::of_row(job))
+    place_in_timers(id, Standing::of_packed(job))
 }
 
 /// Returns the place that a job with this id, tube and standing has in its tube's list or among the

@@ -3,7 +3,7 @@ use Rattle.std.proofs.{Common.{List, None, Option, Some, ap, length, subst, sym,
 use Rattle.std.specs.{Option.option_map, Prelude.{Err, Ok, Result, if◌then◌else◌}}
 use Rattle.bq_job.specs.machine.{job_with}
 use Rattle.bq_jobs.specs.{Changed.moved_by, Kept.Kept, Numbering.HasNumber, Searching.{Asks, Searches}, Sharing.SharesAndChanges}
-use Rattle.bq_jobs.specs.declared.rows.Moved.{Moved}
+use Rattle.bq_jobs.specs.declared.job_orders.Moved.{Moved}
 use Rattle.bq_state.proofs.KnowledgeLemmas.{sound_with_moved}
 use Rattle.bq_state.specs.{CoreParts.{Held, held, machine_held, machine_of}, HandOuts.{CountsIf, HandsOutTo, HasNumberIf, body_in}}
 use Rattle.bq_state.specs.{JobChanges.changed, Keeping.Looks, KeptTubes.KeptTubes, Soundness.Soundness}

@@ -7,7 +7,7 @@ use Rattle.bq_job.specs.{declared.job.Job.Job, machine.{SeatRecord, TubeRecord, 
 use Rattle.bq_job.specs.machine.{forgetting, is_seated_at, is_waiting, job_with, next_job, numbers, seat_with, tube_after_timers}
 use Rattle.bq_job.specs.machine.{watches, watching}
 use Rattle.bq_job.specs.reading.TubeName.{is_same_name}
-use Rattle.bq_jobs.specs.{Changed.{moved_by, with_changed}, Kept.{with_added, without}, declared.rows.Moved.Moved}
+use Rattle.bq_jobs.specs.{Changed.{moved_by, with_changed}, Kept.{with_added, without}, declared.job_orders.Moved.Moved}
 use Rattle.bq_state.proofs.{ClientLemmas.{clients_moved, clients_watching}, CrowdLemmas.crowds_moved, CrowdPlaces.crowds_kept}
 use Rattle.bq_state.proofs.{CrowdPlaces.{crowds_of_provided, first_crowds}, CrowdWatching.{crowds_ignoring, crowds_watching}}
 use Rattle.bq_state.proofs.{FirstTimeoutLemmas.{first_timeouts, timeouts_of_seat, timeouts_watching}, LeavingLemmas.alive_left}

@@ -1,7 +1,7 @@
 -- A job that is handed out.
 use Rattle.std.specs.Prelude.{Err, List, None, Ok, Option, Result, Some, false, is_some, true, ℕ, ◌≡◌}
 use Rattle.bq_job.specs.machine.{Changes.{job_with, with_job}, Dispatch.reserved_by, SeatRecord}
-use Rattle.bq_jobs.specs.{Numbering.HasNumber, Searching.Asks, Seen.IsBodyOf, declared.rows.Moved.Moved}
+use Rattle.bq_jobs.specs.{Numbering.HasNumber, Searching.Asks, Seen.IsBodyOf, declared.job_orders.Moved.Moved}
 use Rattle.bq_state.specs.{Counting.with_tallies_at, CoreParts.machine_of, Keeping.Looks, KeptTubes.KeptTubes}
 use Rattle.bq_state.specs.{Knowledge.{is_wanted_by, with_moved}, Tallies.tally_moved, Warnings.has_waiting_holder}
 use Rattle.bq_state.specs.declared.{core_parts.CoreParts.CoreParts, known.Known.Known}

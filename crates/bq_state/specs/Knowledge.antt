@@ -1,7 +1,7 @@
 -- What is known without a search: that it is true, and how it changes.
 use Rattle.std.specs.Prelude.{Bool, List, None, Option, [], if◌then◌else◌, nat_lt, not, ℕ, ◌&&◌, ◌≡◌}
 use Rattle.bq_job.specs.{declared.job.Job.Job, machine.{SeatRecord, TubeRecord, is_ready_state}}
-use Rattle.bq_jobs.specs.declared.rows.{Moved.Moved, Removed.Removed}
+use Rattle.bq_jobs.specs.declared.job_orders.{Moved.Moved, Removed.Removed}
 use Rattle.bq_state.specs.{Clients.{clients_of, clients_with, clients_without}, Crowds.AreCrowds, Dues.{first_pause_end, pause_end_after}}
 use Rattle.bq_state.specs.{Dues.pause_end_left, FirstTimeouts.{AreTimeouts, timeout_after}, KeptTubes.KeptTubes, Leaving.gone_of}
 use Rattle.bq_state.specs.{MaybeGoneTubes.{AreAlive, with_existing, with_gone}, Tallies.{AreCounted, tally_left, tally_moved, tally_of}}

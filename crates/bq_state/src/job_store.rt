@@ -7,7 +7,7 @@ ghost use Rattle.bq_jobs.specs.{Searching.Searches, Seen.IsBodyOf};
 ghost use Rattle.bq_state.specs.{JobChanges.{changed, is_passed_by, passes, ttr_held_by}, JobKinds.first_of_kind, Room.room_left};
 
 use bq_job::{Body, JobId, JobState, Moment, NoMemory, Pri, Seat};
-use bq_jobs::{JobEdit, NumberedJobs, NumberedTubes, Row, RowTest, Tube};
+use bq_jobs::{JobEdit, NumberedJobs, NumberedTubes, PackedJob, PackedTest, Tube};
 
 // How much more room than there are jobs is kept.
 const ROOM_TO_SPARE: usize = 1000;
@@ -46,7 +46,7 @@ pub fn later(moment: Moment, seconds: u32) -> Moment
     moment.saturating_add(u64::from(seconds) * 1000)
 }
 
-fn fire_timers(job: &mut Row, moment: Moment)
+fn fire_timers(job: &mut PackedJob, moment: Moment)
     ensures { job.new ≡ job_after_timers moment job.old }
 {
     match job.state() {
@@ -65,7 +65,7 @@ fn fire_timers(job: &mut Row, moment: Moment)
     }
 }
 
-fn hand_out(job: &mut Row, seat: Seat, moment: Moment)
+fn hand_out(job: &mut PackedJob, seat: Seat, moment: Moment)
     ensures { job.new ≡ reserved_by moment seat job.old }
 {
     job.set_state(JobState::Reserved(seat, later(moment, job.ttr())));
@@ -73,7 +73,7 @@ fn hand_out(job: &mut Row, seat: Seat, moment: Moment)
 }
 
 /// Returns true if the client at the seat holds the job.
-pub(crate) fn is_held_by(job: &Row, seat: Seat) -> bool
+pub(crate) fn is_held_by(job: &PackedJob, seat: Seat) -> bool
     ensures { result ≡ held_by seat job.now }
 {
     match job.state() {
@@ -92,21 +92,21 @@ pub(crate) fn holds_some(jobs: &mut NumberedJobs, seat: Seat) -> bool
 }
 
 /// Returns true if some client holds the job.
-pub(crate) fn is_reserved(job: &Row) -> bool
+pub(crate) fn is_reserved(job: &PackedJob) -> bool
     ensures { result ≡ is_reserved job.now.state }
 {
     matches!(job.state(), JobState::Reserved(_, _))
 }
 
 /// Returns true if no client holds the job, or the client at the seat does.
-pub(crate) fn is_free_for(job: &Row, seat: Seat) -> bool
+pub(crate) fn is_free_for(job: &PackedJob, seat: Seat) -> bool
     ensures { result ≡ (not (is_reserved job.now.state) || held_by seat job.now) }
 {
     !is_reserved(job) || is_held_by(job, seat)
 }
 
 /// Returns true if the job is buried or delayed.
-pub(crate) fn is_kickable(job: &Row) -> bool
+pub(crate) fn is_kickable(job: &PackedJob) -> bool
     ensures { result ≡ (is_buried job.now.state || is_delayed job.now.state) }
 {
     matches!(job.state(), JobState::Buried(_) | JobState::Delayed(_))
@@ -123,7 +123,7 @@ pub fn delayed_by(delay: u32, moment: Moment) -> JobState
     }
 }
 
-fn release(job: &mut Row, pri: Pri, delay: u32, moment: Moment)
+fn release(job: &mut PackedJob, pri: Pri, delay: u32, moment: Moment)
     ensures { job.new ≡ released moment pri delay job.old }
 {
     job.pri = pri;
@@ -132,7 +132,7 @@ fn release(job: &mut Row, pri: Pri, delay: u32, moment: Moment)
     job.counts.releases = job.counts.releases.saturating_add(1);
 }
 
-fn bury(job: &mut Row, number: u64, pri: Pri)
+fn bury(job: &mut PackedJob, number: u64, pri: Pri)
     ensures { job.new ≡ buried number pri job.old }
 {
     job.pri = pri;
@@ -140,7 +140,7 @@ fn bury(job: &mut Row, number: u64, pri: Pri)
     job.counts.buries = job.counts.buries.saturating_add(1);
 }
 
-fn kick(job: &mut Row)
+fn kick(job: &mut PackedJob)
     ensures { job.new ≡ kicked job.old }
 {
     job.set_state(JobState::Ready);
@@ -148,7 +148,7 @@ fn kick(job: &mut Row)
 }
 
 /// Changes a job.
-pub(crate) fn change(job: &mut Row, change: &JobChange)
+pub(crate) fn change(job: &mut PackedJob, change: &JobChange)
     ensures { job.new ≡ changed change.now job.old }
 {
     match *change {
@@ -165,7 +165,7 @@ pub(crate) fn change(job: &mut Row, change: &JobChange)
 impl JobEdit for JobChange {
     ghost edited = { changed };
 
-    fn edit(&self, job: &mut Row) {
+    fn edit(&self, job: &mut PackedJob) {
         change(job, self);
     }
 }
@@ -201,7 +201,7 @@ pub enum JobTest {
     Kickable,
 }
 
-fn passes(job: &Row, test: JobTest) -> bool
+fn passes(job: &PackedJob, test: JobTest) -> bool
     ensures { result ≡ passes test job.now }
 {
     match test {
@@ -212,10 +212,10 @@ fn passes(job: &Row, test: JobTest) -> bool
     }
 }
 
-impl RowTest for JobTest {
+impl PackedTest for JobTest {
     ghost passed = { passes };
 
-    fn passes(&self, job: &Row) -> bool {
+    fn passes(&self, job: &PackedJob) -> bool {
         passes(job, *self)
     }
 }

@@ -6,7 +6,7 @@ ghost use Rattle.bq_jobs.specs.Seen.{in_tube};
 
 use super::key_value::{number, statistics_text, word};
 use bq_job::{JobId, JobState, Moment, NoMemory, Text, TubeName};
-use bq_jobs::Row;
+use bq_jobs::PackedJob;
 use bq_state::known::Tally;
 use bq_state::tubes::Pausing;
 use std::alloc::Global;
@@ -100,7 +100,7 @@ fn bool_word(value: bool) -> &'static [u8]
 pub(crate) fn job_text(
     alloc: Global,
     id: JobId,
-    job: &Row,
+    job: &PackedJob,
     tube: &TubeName,
     moment: Moment,
 ) -> Result<Text, NoMemory>

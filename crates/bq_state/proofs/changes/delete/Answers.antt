@@ -1,7 +1,7 @@
 use Rattle.std.proofs.Common.{Some, ap, not, sym, ◌==◌, ◌∙◌, ◌≡◌}
 use Rattle.bq_job.{proofs.KeptLemmas.ids_of_filter, specs.machine.job_with}
 use Rattle.bq_index.{proofs.Removed.value_there, specs.Removed.passing}
-use Rattle.bq_jobs.{proofs.{Changes.found_id, Told.told_of}, specs.{Changed.removed_from, declared.rows.Removed.Removed}}
+use Rattle.bq_jobs.{proofs.{Changes.found_id, Told.told_of}, specs.{Changed.removed_from, declared.job_orders.Removed.Removed}}
 use Rattle.bq_state.proofs.{CrowdPlaces.seated_by_counts, KnowledgeLemmas.{so_without_job, with_count}, PartsLemmas.entries_of_fewer}
 use Rattle.bq_state.{proofs.PartsLemmas.{has_of_job, recorded}, specs.{Counting.with_removal_counted, JobChanges.passes}}
 use Rattle.bq_state.specs.declared.tubes.entry.TubeChange.TheVariants.{CountDelete}

@@ -10,6 +10,6 @@ pub returns-clause-number : goal.returns-clause-number
 returns-clause-number g c =
     let k = c.self.inside.tubes.value in
     let told = c.told_of.ensures ∙ ap (option_map (moved_told k)) c.change-moved.ensures.moved in
-    let its = number_moved k (g.E.JobEdit.edited c.args.edit.now) c.args.id c.self.inside.rows.jobs c.self.invariant in
+    let its = number_moved k (g.E.JobEdit.edited c.args.edit.now) c.args.id c.self.inside.orders.jobs c.self.invariant in
     subst (λ (m : Kept). IfSome c.told_of.result (λ r. HasNumber r.1.tube r.0 m.tubes)) c.self.view_is
     (subst (λ o. IfSome o (λ r. HasNumber r.1.tube r.0 k.numbers)) (sym told) its)

@@ -11,7 +11,7 @@ use Rattle.bq_jobs.proofs.jobs.NumberedJobs.discard_if.Goals as goal
 pub returns-clause-left : goal.returns-clause-left
 returns-clause-left g c =
     let k = c.self.inside.tubes.value in
-    removes_named_if k c.args.id c.self.inside.rows c.discard_if-removed.new.self c.args.self.now c.discard_if-removed.result
+    removes_named_if k c.args.id c.self.inside.orders c.discard_if-removed.new.self c.args.self.now c.discard_if-removed.result
     c.removed_of.result
     c.self.view_is (ap is_some c.removed_of.ensures ∙ some_mapped (removed_told k) c.discard_if-removed.result)
     c.discard_if-removed.ensures.left
@@ -20,6 +20,6 @@ pub returns-clause-number : goal.returns-clause-number
 returns-clause-number g c =
     let k = c.self.inside.tubes.value in
     let told = c.removed_of.ensures ∙ ap (option_map (removed_told k)) c.discard_if-removed.ensures.removed in
-    let its = number_removed_if k c.args.id c.self.inside.rows.jobs (g.T.RowTest.passed c.args.test.now) c.self.invariant in
+    let its = number_removed_if k c.args.id c.self.inside.orders.jobs (g.T.PackedTest.passed c.args.test.now) c.self.invariant in
     subst (λ (m : Kept). IfSome c.removed_of.result (λ r. HasNumber r.1.tube r.0 m.tubes)) c.self.view_is
     (subst (λ o. IfSome o (λ r. HasNumber r.1.tube r.0 k.numbers)) (sym told) its)

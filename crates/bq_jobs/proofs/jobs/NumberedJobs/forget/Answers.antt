@@ -12,7 +12,7 @@ use Rattle.bq_jobs.proofs.jobs.NumberedJobs.forget.Goals as goal
 pub invariant_of-self : goal.invariant_of-self
 invariant_of-self c =
     let k = c.self.inside.tubes.value in
-    let rows = c.self.inside.rows.jobs in
+    let rows = c.self.inside.orders.jobs in
     let gone = c.args.gone.now in
     let left = c.requires.left ∙ ap (λ (m : Kept). remove_entry (is_at (slice_cmp nat_cmp gone)) m.tubes) (sym c.self.view_is) in
     let none = ap (λ (m : Kept). list_any (λ j. is_same_name gone j.tube) m.jobs) c.self.view_is ∙ c.requires.none in
@@ -22,7 +22,7 @@ invariant_of-self c =
 pub returns : goal.returns
 returns c =
     let k = c.self.inside.tubes.value in
-    let rows = c.self.inside.rows in
+    let rows = c.self.inside.orders in
     let gone = c.args.gone.now in
     let left = c.requires.left ∙ ap (λ (m : Kept). remove_entry (is_at (slice_cmp nat_cmp gone)) m.tubes) (sym c.self.view_is) in
     let none = ap (λ (m : Kept). list_any (λ j. is_same_name gone j.tube) m.jobs) c.self.view_is ∙ c.requires.none in

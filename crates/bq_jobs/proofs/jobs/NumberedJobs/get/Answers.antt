@@ -10,7 +10,7 @@ use Rattle.bq_jobs.proofs.jobs.NumberedJobs.get.Goals as goal
 pub returns : goal.returns
 returns c =
     let k = c.self.inside.tubes.value in
-    let rows = c.self.inside.rows in
+    let rows = c.self.inside.orders in
     let left = c.get.follows.holds-at-none in (
       (
         refl,

@@ -12,7 +12,7 @@ use Rattle.std.specs.Ordering.{nat_cmp}
 use Rattle.bq_index.specs.Removed.{removed_if}
 use Rattle.bq_jobs.proofs.Shelved.{id_search, removes_if, shelved_kept, shelved_removed, timer_search, group_search}
 use Rattle.bq_jobs.proofs.TestedRemovals.{passing_there}
-use Rattle.bq_jobs.proofs.rows.Rows.remove_if.Goals as goal
+use Rattle.bq_jobs.proofs.job_orders.JobOrders.remove_if.Goals as goal
 
 pub invariant_of-self : goal.invariant_of-self
 invariant_of-self g c =
@@ -36,7 +36,7 @@ pub leave-requires : goal.leave-requires
 leave-requires g c =
     let s = c.self.inside in
     let h = c.self.invariant in
-    let found = passing_there (g.T.RowTest.passed c.args.test.now) c.args.id s h c.in_ok-job.job (sym c.remove_at.ensures.job ∙
+    let found = passing_there (g.T.PackedTest.passed c.args.test.now) c.args.id s h c.in_ok-job.job (sym c.remove_at.ensures.job ∙
     c.in_ok-job.was) in
     record {
       held = λ p e. held_place group_laws.total-law group_place group_own c.args.id c.in_ok-job.job
@@ -47,7 +47,7 @@ pub leave-requires-2 : goal.leave-requires-2
 leave-requires-2 g c =
     let s = c.self.inside in
     let h = c.self.invariant in
-    let found = passing_there (g.T.RowTest.passed c.args.test.now) c.args.id s h c.in_ok-job.job (sym c.remove_at.ensures.job ∙
+    let found = passing_there (g.T.PackedTest.passed c.args.test.now) c.args.id s h c.in_ok-job.job (sym c.remove_at.ensures.job ∙
     c.in_ok-job.was) in
     record {
       held = λ p e. held_place timer_laws.total-law timer_place timer_own c.args.id c.in_ok-job.job
@@ -62,7 +62,7 @@ invariant_of-self-2 g c =
     let spare = ap (λ o. s.by_id.spare + cond (is_some o) 1 0) was in
     shelved_removed c.args.id c.in_ok-job.job s
     (record { by_id = c.remove_at.new.by_id; groups = c.leave.new.self; timers = c.leave-2.new.self })
-    h (passing_there (g.T.RowTest.passed c.args.test.now) c.args.id s h c.in_ok-job.job (sym c.remove_at.ensures.job ∙ was)) (record {
+    h (passing_there (g.T.PackedTest.passed c.args.test.now) c.args.id s h c.in_ok-job.job (sym c.remove_at.ensures.job ∙ was)) (record {
       by_id = c.remove_at.ensures.entries ∙ ap (λ o. removed_if (is_at (nat_cmp c.args.id)) o s.by_id.entries) was;
       room = omega (arith, c.remove_at.ensures.spare, spare);
       groups = c.leave.ensures.entries ∙ ap (λ p. without_place group_cmp p s.groups.entries) c.group_place.ensures;

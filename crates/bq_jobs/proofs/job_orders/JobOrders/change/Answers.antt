@@ -1,19 +1,19 @@
 use Rattle.std.proofs.Common.{arith, ◌∙◌, ap, refl, sym}
 use Rattle.std.specs.Prelude.{option_map}
 use Rattle.bq_job.specs.machine.Changes.{job_with}
-use Rattle.bq_jobs.specs.Changed.{row_moved_by, with_changed, with_edited}
+use Rattle.bq_jobs.specs.Changed.{numbered_move, with_changed, with_edited}
 use Rattle.bq_jobs.specs.Inside.{jobs_of, kept_in}
 use Rattle.bq_jobs.specs.Kept.{Kept}
 use Rattle.bq_jobs.proofs.Counting.{few_more}
 use Rattle.bq_jobs.proofs.Shelved.{found_in, group_search, id_search, timer_search}
 use Rattle.bq_jobs.proofs.Told.{can_move_group, can_move_timer, jobs_then, nothing_told, shelved_then, unchanged}
-use Rattle.bq_jobs.proofs.rows.Rows.change.Goals as goal
+use Rattle.bq_jobs.proofs.job_orders.JobOrders.change.Goals as goal
 
 pub returns-in_err-moved-clause-moved : goal.returns-in_err-moved-clause-moved
 returns-in_err-moved-clause-moved g c =
     let f = g.E.JobEdit.edited c.args.edit.now in
     c.from_residual.ensures ∙ sym c.in_err-moved.was ∙ c.edit_at.ensures.moved
-    ∙ ap (option_map (row_moved_by f)) (found_in c.args.id c.self.inside c.self.invariant
+    ∙ ap (option_map (numbered_move f)) (found_in c.args.id c.self.inside c.self.invariant
     ∙ ap (λ (m : Kept). job_with c.args.id m.jobs) c.self.view_is)
 
 pub returns-in_err-moved-clause-jobs : goal.returns-in_err-moved-clause-jobs
@@ -55,7 +55,7 @@ pub returns-clause-moved : goal.returns-clause-moved
 returns-clause-moved g c =
     let f = g.E.JobEdit.edited c.args.edit.now in
     sym c.in_ok-moved.was ∙ c.edit_at.ensures.moved
-    ∙ ap (option_map (row_moved_by f)) (found_in c.args.id c.self.inside c.self.invariant
+    ∙ ap (option_map (numbered_move f)) (found_in c.args.id c.self.inside c.self.invariant
     ∙ ap (λ (m : Kept). job_with c.args.id m.jobs) c.self.view_is)
 
 pub returns-clause-jobs : goal.returns-clause-jobs

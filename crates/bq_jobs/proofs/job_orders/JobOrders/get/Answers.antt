@@ -4,7 +4,7 @@ use Rattle.bq_jobs.specs.Inside.{jobs_of, kept_in}
 use Rattle.bq_jobs.specs.Kept.{Kept}
 use Rattle.bq_jobs.proofs.Counting.{few_more}
 use Rattle.bq_jobs.proofs.Shelved.{found_in, id_search}
-use Rattle.bq_jobs.proofs.rows.Rows.get.Goals as goal
+use Rattle.bq_jobs.proofs.job_orders.JobOrders.get.Goals as goal
 
 pub returns : goal.returns
 returns c =

@@ -2,7 +2,7 @@ use Rattle.std.proofs.Common.{[], sym, subst}
 use Rattle.bq_jobs.specs.Inside.{IsShelved}
 use Rattle.bq_jobs.proofs.Firsts.{group_cmp, timer_cmp}
 use Rattle.bq_jobs.proofs.Shelved.{shelved_none}
-use Rattle.bq_jobs.proofs.rows.Rows.new.Goals as goal
+use Rattle.bq_jobs.proofs.job_orders.JobOrders.new.Goals as goal
 
 pub invariant_of-result : goal.invariant_of-result
 invariant_of-result c =

@@ -10,7 +10,7 @@ ghost use Rattle.std.specs.Ordering.{nat_cmp};
 ghost use Rattle.bq_index.specs.Edited.{MayReturn, edited_by};
 ghost use Rattle.bq_index.specs.Removed.{passing, removed_if};
 ghost use Rattle.bq_index.specs.Shelf.{ComparesFew};
-ghost use Rattle.bq_jobs.specs.Changed.{IgnoresTube, KeepsId, entry_at, row_moved_by, row_removed, standing, with_changed, with_edited};
+ghost use Rattle.bq_jobs.specs.Changed.{IgnoresTube, KeepsId, entry_at, numbered_move, numbered_removal, standing, with_changed, with_edited};
 ghost use Rattle.bq_jobs.specs.Kept.{ComparesAtMost, with_added};
 ghost use Rattle.bq_jobs.specs.Moves.{CanMove, CanMoveIf, Moves, MovesIf, group_at, timer_at};
 ghost use Rattle.bq_jobs.specs.Ranks.{first_held, first_timed};
@@ -48,7 +48,7 @@ pub enum Stage {
 // seat, while here both follow three short numbers. The body has the time to run with it, which
 // would take a word of its own otherwise.
 #[derive(Drop)]
-pub struct Row {
+pub struct PackedJob {
     /// The tube of its put. It never changes.
     pub tube: TubeNumber,
     pub pri: Pri,
@@ -69,9 +69,9 @@ pub struct Row {
     pub id: Snapshot<JobId>,
 }
 
-const _: () = prove!(size_of::<Row>() == 88);
+const _: () = prove!(size_of::<PackedJob>() == 88);
 
-impl Model for Row {
+impl Model for PackedJob {
     ghost use Rattle.bq_job.specs.declared.job.Job.{Job};
     ghost use Rattle.bq_jobs.specs.Stages.{state_of};
 
@@ -90,7 +90,7 @@ impl Model for Row {
     } };
 }
 
-impl Row {
+impl PackedJob {
     /// Returns its state.
     pub fn state(&self) -> JobState
         ensures { result ≡ self.now.state }
@@ -141,12 +141,12 @@ fn parts_of(state: JobState) -> (Stage, Seat, u64)
 }
 
 /// Returns the record of a job whose tube has this number.
-pub(crate) fn row_of(job: Job, number: TubeNumber) -> Row
+pub(crate) fn packed(job: Job, number: TubeNumber) -> PackedJob
     ensures { result ≡ record job { tube = number } }
 {
     let (stage, seat, at) = parts_of(job.state);
     let body = NumberedBody::new(job.body, job.ttr);
-    Row {
+    PackedJob {
         tube: number,
         pri: job.pri,
         delay: job.delay,
@@ -179,7 +179,7 @@ impl Standing {
     }
 
     /// Returns the standing of a record's job.
-    pub(crate) fn of_row(row: &Row) -> Standing
+    pub(crate) fn of_packed(row: &PackedJob) -> Standing
         ensures { result ≡ standing row.now }
     {
         Standing {
@@ -208,7 +208,7 @@ pub struct Removed {
 
 /// The report about a changed record, in which the tube is a number.
 #[derive(Clone, Copy)]
-pub(crate) struct MovedRow {
+pub(crate) struct NumberedMove {
     pub(crate) tube: TubeNumber,
     pub(crate) from: Standing,
     pub(crate) to: Standing,
@@ -222,12 +222,12 @@ pub trait JobEdit {
     ghost edited: { Self → Job → Job };
 
     /// Changes a job.
-    fn edit(&self, job: &mut Row)
+    fn edit(&self, job: &mut PackedJob)
         ensures { job.new ≡ edited self.now job.old };
 }
 
 /// A test of a job.
-pub trait RowTest {
+pub trait PackedTest {
     ghost use Rattle.std.specs.Prelude.{Bool};
     ghost use Rattle.bq_job.specs.declared.job.Job.{Job};
 
@@ -235,20 +235,20 @@ pub trait RowTest {
     ghost passed: { Self → Job → Bool };
 
     /// Whether a job passes.
-    fn passes(&self, job: &Row) -> bool
+    fn passes(&self, job: &PackedJob) -> bool
         ensures { result ≡ passed self.now job.now };
 }
 
 /// The records of the jobs. A record is found by its id, and the first one of each kind without a
 /// search. It is [`super::Jobs`] with numbers in place of names, and knows no names.
 #[derive(Drop)]
-pub(crate) struct Rows {
-    by_id: Shelf<JobId, Row>,
+pub(crate) struct JobOrders {
+    by_id: Shelf<JobId, PackedJob>,
     groups: Groups,
     timers: Timers,
 }
 
-impl Model for Rows {
+impl Model for JobOrders {
     ghost use Rattle.bq_jobs.specs.Inside.{kept_in, IsShelved};
     ghost use Rattle.bq_jobs.specs.Kept.{Kept};
 
@@ -259,18 +259,18 @@ impl Model for Rows {
     ghost invariant = { λ s. IsShelved ⟦<Group as Ord>⟧.cmp ⟦<Timer as Ord>⟧.cmp s.by_id s.groups s.timers };
 }
 
-impl Rows {
+impl JobOrders {
     ghost use Rattle.std.specs.Borrow.{sem};
-    ghost use Rattle.bq_jobs.specs.Lent.{LeavesRows};
+    ghost use Rattle.bq_jobs.specs.Lent.{LeavesOrders};
 
     /// Returns a value with no jobs, and no room for one, or `NoMemory` if the allocation of the
     /// table of groups fails.
-    pub(crate) fn new(alloc: Global) -> Result<Rows, NoMemory>
+    pub(crate) fn new(alloc: Global) -> Result<JobOrders, NoMemory>
         ensures { IfOk result
             (λ rows. rows ≡ record { jobs = []; room = 0; comparisons = 0; tubes = [] }) }
     {
         let groups = Groups::new(alloc)?;
-        Ok(Rows {
+        Ok(JobOrders {
             by_id: Shelf::new(),
             groups,
             timers: Timers::new(),
@@ -338,7 +338,7 @@ impl Rows {
 
     /// Adds the job with this id, which uses the room of one.
     #[tactic(auto, using(crate::proofs::Shelved::found_in, crate::proofs::Shelved::jobs_added))]
-    pub(crate) fn add(&mut self, id: JobId, job: Row)
+    pub(crate) fn add(&mut self, id: JobId, job: PackedJob)
         requires id { job.id ≡ id }
         requires room { 0 < self.old.room }
         requires absent { job_with job.id self.old.jobs ≡ None }
@@ -355,7 +355,7 @@ impl Rows {
     /// Removes the job with this id and returns its record, if there is one and it passes a test. Its
     /// room is free again. Otherwise no job is removed.
     #[tactic(auto, using(crate::proofs::TestedRemovals::passing_in, crate::proofs::TestedRemovals::passing_own))]
-    pub(crate) fn remove_if<T: RowTest>(&mut self, id: JobId, test: &T) -> Option<Row>
+    pub(crate) fn remove_if<T: PackedTest>(&mut self, id: JobId, test: &T) -> Option<PackedJob>
         ensures job { result ≡ passing (T.passed test.now) (job_with id self.old.jobs) }
         ensures id { IfSome result (λ job. job.id ≡ id) }
         ensures left { RemovesIf id result self.old self.new }
@@ -368,26 +368,26 @@ impl Rows {
 
     /// Removes the job with this id, if there is one and it passes a test, and drops its record.
     /// Returns the number of its tube and its standing. Its room is free again.
-    pub(crate) fn discard_if<T: RowTest>(
+    pub(crate) fn discard_if<T: PackedTest>(
         &mut self,
         id: JobId,
         test: &T,
     ) -> Option<(TubeNumber, Standing)>
         ensures removed { result
-            ≡ option_map row_removed (passing (T.passed test.now) (job_with id self.old.jobs)) }
+            ≡ option_map numbered_removal (passing (T.passed test.now) (job_with id self.old.jobs)) }
         ensures left { RemovesIf id result self.old self.new }
     {
         let row = self.remove_if(id, test)?;
-        Some((row.tube, Standing::of_row(&row)))
+        Some((row.tube, Standing::of_packed(&row)))
     }
 
     /// Changes the job with this id, if there is one, and moves it to its new place in each order.
     /// The record itself does not move, and nothing is allocated.
-    pub(crate) fn change<E: JobEdit>(&mut self, id: JobId, edit: &E) -> Option<MovedRow>
+    pub(crate) fn change<E: JobEdit>(&mut self, id: JobId, edit: &E) -> Option<NumberedMove>
         requires id { KeepsId (E.edited edit.now) }
         requires tube { IgnoresTube (E.edited edit.now) }
         ensures moved { result
-            ≡ option_map (row_moved_by (E.edited edit.now)) (job_with id self.old.jobs) }
+            ≡ option_map (numbered_move (E.edited edit.now)) (job_with id self.old.jobs) }
         ensures jobs { self.new.jobs ≡ with_changed id (E.edited edit.now) self.old.jobs }
         ensures ordered { AreIdsWithin 0 self.old.jobs (2 ^ 64) }
         ensures room { self.new.room ≡ self.old.room }
@@ -405,11 +405,11 @@ impl Rows {
         &mut self,
         id: JobId,
         edit: &E,
-    ) -> Option<Result<(MovedRow, Body), NoMemory>>
+    ) -> Option<Result<(NumberedMove, Body), NoMemory>>
         requires id { KeepsId (E.edited edit.now) }
         requires tube { IgnoresTube (E.edited edit.now) }
         ensures { SharesAndChanges
-            (λ moved. Some moved ≡ option_map (row_moved_by (E.edited edit.now)) (job_with id self.old.jobs))
+            (λ moved. Some moved ≡ option_map (numbered_move (E.edited edit.now)) (job_with id self.old.jobs))
             id (E.edited edit.now) result self.old self.new }
     {
         let shared = share_at(&mut self.by_id, id, edit);
@@ -418,8 +418,8 @@ impl Rows {
     }
 
     /// Returns the record of the job with this id.
-    pub(crate) fn get(&mut self, id: JobId) -> Option<&Row>
-        ensures* after { sem 𝓛 (LeavesRows self.entry) }
+    pub(crate) fn get(&mut self, id: JobId) -> Option<&PackedJob>
+        ensures* after { sem 𝓛 (LeavesOrders self.entry) }
         ensures job { option_map (λ j. j.now) result ≡ job_with id self.old.jobs }
     {
         self.by_id.get(&id)
@@ -484,28 +484,28 @@ struct Reported<'e, E> {
     edit: &'e E,
 }
 
-impl<'e, E: JobEdit> Edit<Row, MovedRow> for Reported<'e, E> {
+impl<'e, E: JobEdit> Edit<PackedJob, NumberedMove> for Reported<'e, E> {
     ghost edited = { λ r. E.edited r.edit.now };
 
-    ghost told = { λ r. row_moved_by (E.edited r.edit.now) };
+    ghost told = { λ r. numbered_move (E.edited r.edit.now) };
 
-    fn edit(&self, job: &mut Row) -> MovedRow {
+    fn edit(&self, job: &mut PackedJob) -> NumberedMove {
         report_change(self.edit, job)
     }
 }
 
 // Changes a job and returns what has changed.
 #[inline(always)]
-fn report_change<E: JobEdit>(edit: &E, job: &mut Row) -> MovedRow
+fn report_change<E: JobEdit>(edit: &E, job: &mut PackedJob) -> NumberedMove
     ensures job { job.new ≡ E.edited edit.now job.old }
-    ensures report { result ≡ row_moved_by (E.edited edit.now) job.old }
+    ensures report { result ≡ numbered_move (E.edited edit.now) job.old }
 {
-    let (tube, from) = (job.tube, Standing::of_row(job));
+    let (tube, from) = (job.tube, Standing::of_packed(job));
     edit.edit(job);
-    MovedRow {
+    NumberedMove {
         tube,
         from,
-        to: Standing::of_row(job),
+        to: Standing::of_packed(job),
     }
 }
 
@@ -515,12 +515,12 @@ struct Shared<'e, E> {
     edit: &'e E,
 }
 
-impl<'e, E: JobEdit> TryEdit<Row, Result<(MovedRow, Body), NoMemory>> for Shared<'e, E> {
+impl<'e, E: JobEdit> TryEdit<PackedJob, Result<(NumberedMove, Body), NoMemory>> for Shared<'e, E> {
     ghost edited = { λ s told j. if_shared (E.edited s.edit.now) told j };
 
     ghost MayTell = { λ s j told. MayShare (E.edited s.edit.now) j told };
 
-    fn try_edit(&self, job: &mut Row) -> Result<(MovedRow, Body), NoMemory> {
+    fn try_edit(&self, job: &mut PackedJob) -> Result<(NumberedMove, Body), NoMemory> {
         let body = job.share_body()?;
         let moved = report_change(self.edit, job);
         Ok((moved, body))
@@ -528,9 +528,13 @@ impl<'e, E: JobEdit> TryEdit<Row, Result<(MovedRow, Body), NoMemory>> for Shared
 }
 
 // Changes the job with this id in place, if there is one.
-fn edit_at<E: JobEdit>(by_id: &mut Shelf<JobId, Row>, id: JobId, edit: &E) -> Option<MovedRow>
+fn edit_at<E: JobEdit>(
+    by_id: &mut Shelf<JobId, PackedJob>,
+    id: JobId,
+    edit: &E,
+) -> Option<NumberedMove>
     ensures moved { result
-        ≡ option_map (row_moved_by (E.edited edit.now)) (entry_at id by_id.old.entries) }
+        ≡ option_map (numbered_move (E.edited edit.now)) (entry_at id by_id.old.entries) }
     ensures entries { by_id.new.entries
         ≡ with_edited id (E.edited edit.now) (entry_at id by_id.old.entries) by_id.old.entries }
     ensures spare { by_id.new.spare ≡ by_id.old.spare }
@@ -542,10 +546,10 @@ fn edit_at<E: JobEdit>(by_id: &mut Shelf<JobId, Row>, id: JobId, edit: &E) -> Op
 // Changes the job with this id in place, if there is one, and returns another reference to its body.
 // If that is refused, the job is unchanged.
 fn share_at<E: JobEdit>(
-    by_id: &mut Shelf<JobId, Row>,
+    by_id: &mut Shelf<JobId, PackedJob>,
     id: JobId,
     edit: &E,
-) -> Option<Result<(MovedRow, Body), NoMemory>>
+) -> Option<Result<(NumberedMove, Body), NoMemory>>
     ensures shared { MayReturn (MayShare (E.edited edit.now)) (entry_at id by_id.old.entries) result }
     ensures entries { by_id.new.entries
         ≡ with_edited id (edited_by (if_shared (E.edited edit.now)) result)
@@ -588,7 +592,7 @@ fn shift_if_shared(
     groups: &mut Groups,
     timers: &mut Timers,
     id: JobId,
-    shared: &Option<Result<(MovedRow, Body), NoMemory>>,
+    shared: &Option<Result<(NumberedMove, Body), NoMemory>>,
 )
     requires { CanMoveIf ⟦<Group as Ord>⟧.cmp ⟦<Timer as Ord>⟧.cmp id shared.now groups.old timers.old }
     ensures { MovesIf ⟦<Group as Ord>⟧.cmp ⟦<Timer as Ord>⟧.cmp id shared.now groups.old groups.new
@@ -605,16 +609,20 @@ struct Asked<'t, T> {
     test: &'t T,
 }
 
-impl<'t, T: RowTest> Test<JobId, Row> for Asked<'t, T> {
+impl<'t, T: PackedTest> Test<JobId, PackedJob> for Asked<'t, T> {
     ghost passed = { λ a k j. T.passed a.test.now j };
 
-    fn passes(&self, _id: &JobId, job: &Row) -> bool {
+    fn passes(&self, _id: &JobId, job: &PackedJob) -> bool {
         self.test.passes(job)
     }
 }
 
 // Removes the entry with this id, if there is one and its record passes a test.
-fn remove_at<T: RowTest>(by_id: &mut Shelf<JobId, Row>, id: JobId, test: &T) -> Option<Row>
+fn remove_at<T: PackedTest>(
+    by_id: &mut Shelf<JobId, PackedJob>,
+    id: JobId,
+    test: &T,
+) -> Option<PackedJob>
     ensures job { result ≡ passing (T.passed test.now) (entry_at id by_id.old.entries) }
     ensures entries { by_id.new.entries ≡ removed_if (is_at (nat_cmp id)) result by_id.old.entries }
     ensures spare { by_id.new.spare ≡ by_id.old.spare + (if is_some result then 1 else 0) }

@@ -5,7 +5,7 @@ use Rattle.bq_jobs.specs.Ranks.{first_held}
 use Rattle.bq_jobs.proofs.Counting.{searched}
 use Rattle.bq_jobs.proofs.FirstJobs.{group_first}
 use Rattle.bq_jobs.proofs.Shelved.{group_search}
-use Rattle.bq_jobs.proofs.rows.Rows.first_of_group.Goals as goal
+use Rattle.bq_jobs.proofs.job_orders.JobOrders.first_of_group.Goals as goal
 
 pub returns-clause-rank : goal.returns-clause-rank
 returns-clause-rank c =

@@ -1,5 +1,5 @@
 use Rattle.bq_jobs.proofs.Told.{can_move_if, shared_then}
-use Rattle.bq_jobs.proofs.rows.Rows.share_and_change.Goals as goal
+use Rattle.bq_jobs.proofs.job_orders.JobOrders.share_and_change.Goals as goal
 
 pub shift_if_shared-requires : goal.shift_if_shared-requires
 shift_if_shared-requires g c = can_move_if c.args.id c.self.inside c.self.invariant c.args.self.now c.self.view_is

@@ -5,7 +5,7 @@ use Rattle.bq_jobs.specs.Ranks.{first_timed}
 use Rattle.bq_jobs.proofs.Counting.{searched}
 use Rattle.bq_jobs.proofs.FirstJobs.{timer_first}
 use Rattle.bq_jobs.proofs.Shelved.{timer_search}
-use Rattle.bq_jobs.proofs.rows.Rows.first_of_timer.Goals as goal
+use Rattle.bq_jobs.proofs.job_orders.JobOrders.first_of_timer.Goals as goal
 
 pub returns-clause-rank : goal.returns-clause-rank
 returns-clause-rank c =

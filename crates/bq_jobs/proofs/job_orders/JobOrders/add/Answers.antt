@@ -9,7 +9,7 @@ use Rattle.bq_jobs.proofs.Counting.{few_more}
 use Rattle.bq_jobs.proofs.Firsts.{group_cmp, timer_cmp}
 use Rattle.bq_jobs.specs.PlaceOrder.{with_place}
 use Rattle.bq_jobs.proofs.Shelved.{id_search, shelved_added, group_search, timer_search}
-use Rattle.bq_jobs.proofs.rows.Rows.add.Goals as goal
+use Rattle.bq_jobs.proofs.job_orders.JobOrders.add.Goals as goal
 
 pub invariant_of-self : goal.invariant_of-self
 invariant_of-self c =
