@@ -215,9 +215,9 @@ def served_before_a_lone_command(bqd, most, **chosen):
 
 @of_loop
 def run_batch_beside_a_lone_command(bqd):
-    """A client that sends many commands at once has an event loop for some 32 of them, and then another client has its
+    """A client that sends many commands at once has an event loop for some 64 of them, and then another client has its
     turn."""
-    served_before_a_lone_command(bqd, 40)
+    served_before_a_lone_command(bqd, 72)
 
 
 @of_loop

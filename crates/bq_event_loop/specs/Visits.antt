@@ -14,9 +14,9 @@ use Rattle.bq_event_loop.specs.declared.turns.Turn.TheVariants as turns
 
 -- how many actions a visit may do
 abbrev pub actions_of : Share → ℕ
-actions_of shares.Commands = 64
+actions_of shares.Commands = 128
 actions_of shares.OneCommand = 2
-actions_of shares.OneAnswer = 64
+actions_of shares.OneAnswer = 128
 
 -- It begins no command.
 abbrev pub only_writes : Share → Bool

@@ -6,15 +6,17 @@ ghost use Rattle.bq_event_loop.specs.Visits.{actions_of, cost_of, extent_in, is_
 use crate::turns::{Extent, Stands, Turn};
 use bq_line::attendant::Progress;
 
-/// The largest number of actions in a visit.
-const MOST: u32 = 64;
+/// The largest number of actions in a visit. A batch of commands that came together is mostly served
+/// in one visit: where a visit is cut short, its connection sends what it holds back, and the system
+/// is asked about all connections.
+const MOST: u32 = 128;
 
 /// A visit begins no further command once its commands have taken this many microseconds. How long
 /// a command takes is known when the next one takes its step, and the last one is taken to be as
 /// long as the one before it. So a visit serves at most two commands of half this time or more.
-const LONGEST: u64 = 100;
+const LONGEST: u64 = 200;
 
-/// How many actions a turn for a whole command counts as, so that a visit serves 32 commands that
+/// How many actions a turn for a whole command counts as, so that a visit serves 64 commands that
 /// came together.
 const COMMAND: u32 = 2;
 
@@ -52,7 +54,7 @@ impl Part {
 /// How much a visit may do.
 #[derive(Clone, Copy)]
 pub enum Share {
-    /// Up to 32 commands, until they have taken long.
+    /// Up to 64 commands, until they have taken long.
     Commands,
     /// A single command.
     OneCommand,
@@ -116,7 +118,7 @@ impl Visit {
         ensures seat { result.seat ≡ seat }
         ensures part { result.part ≡ part }
         ensures left { result.left ≡ actions_of share }
-        ensures time { result.time ≡ 100 }
+        ensures time { result.time ≡ 200 }
         ensures over { result.is_over ≡ only_writes share }
     {
         Visit {
