@@ -7,7 +7,7 @@ use Rattle.std.specs.BTreeMap.{is_at}
 use Rattle.std.specs.Option.{option_to_list}
 use Rattle.bq_index.specs.Edited.{value_of}
 use Rattle.bq_index.specs.Removed.{lookup_if, passing, removed_if}
-use Rattle.bq_index.specs.Tree.{entries_in, entries_of, height_in, height_of, IsBalancedFrom, IsLevel}
+use Rattle.bq_index.specs.Tree.{entries_in, entries_of, entry_in, height_in, height_of, left_in, right_in, IsBalancedFrom, IsLevel}
 use Rattle.bq_index.specs.declared.tree.Node.{Node}
 use Rattle.bq_index.specs.declared.tree.Node.TheVariants.{Spare, SpareBefore', Alone, OnLeft', OnRight', Both'}
 use Rattle.bq_index.proofs.Parts.{some_height, Above, Below}
@@ -78,6 +78,27 @@ module _ {K V : Type 0} {R : K → K → Ordering} (k : K) {es l : List (K × V)
   pub gone_above : Above R k es l e r → removed_if (is_at (R k)) v es ≡ l ++ (option_to_list e ++ removed_if (is_at (R k)) v r)
   gone_above w = chosen (is_some v) (λ z. l ++ (option_to_list e ++ z)) (remove_entry (is_at (R k)) r) r
       (remove_entry (is_at (R k)) es) es w.removed is
+
+-- a box `same`, which is `here` taken apart and put together again, and what a change made of it
+module _ {K V : Type 0} (f : List (K × V) → List (K × V)) (here same : Node K V) (new : List (K × V)) (i : here ≡ same) where
+  pub cut_of_left : f (entries_of (Some here))
+      ≡ f (entries_of (left_in here)) ++ (option_to_list (entry_in here) ++ entries_of (right_in here))
+      → new ≡ f (entries_of (left_in same)) ++ (option_to_list (entry_in same) ++ entries_of (right_in same)) → new ≡ f (entries_in here)
+  cut_of_left is t =
+      t ∙ sym (ap (λ n. f (entries_of (left_in n)) ++ (option_to_list (entry_in n) ++ entries_of (right_in n))) i) ∙ sym is
+
+  pub cut_of_right : f (entries_of (Some here))
+      ≡ entries_of (left_in here) ++ (option_to_list (entry_in here) ++ f (entries_of (right_in here)))
+      → new ≡ entries_of (left_in same) ++ (option_to_list (entry_in same) ++ f (entries_of (right_in same))) → new ≡ f (entries_in here)
+  cut_of_right is t =
+      t ∙ sym (ap (λ n. entries_of (left_in n) ++ (option_to_list (entry_in n) ++ f (entries_of (right_in n)))) i) ∙ sym is
+
+pub taken_of : {K V : Type 0} (b : Bool) (here same : Node K V) (gone new : List (K × V)) → here ≡ same
+    → gone ≡ entries_of (left_in here) ++ entries_of (right_in here)
+    → new ≡ cond b (entries_of (left_in same) ++ entries_of (right_in same)) (entries_in same) → new ≡ cond b gone (entries_in here)
+taken_of b here same gone new i w t =
+    t ∙ sym (ap (λ n. cond b (entries_of (left_in n) ++ entries_of (right_in n)) (entries_in n)) i)
+    ∙ ap (λ es. cond b es (entries_in here)) (sym w)
 
 -- a single box, of whose value a test is asked
 module _ {K V : Type 0} (test : K → Bool) (q : V → Bool) where

@@ -1,11 +1,14 @@
 -- A side that is a single box or nothing.
-use Rattle.std.proofs.Common.{◌≡◌, ◌≤◌, Bool, true, false, cond, [], ◌∷◌, Option, None, Some, refl, ap, ◌∙◌, arith}
+use Rattle.std.proofs.Common.{◌≡◌, ◌≤◌, Bool, true, false, cond, [], ◌∷◌, ◌++◌, Option, None, Some, refl, ap, sym, subst, ◌∙◌, arith}
 use Rattle.std.specs.Prelude.{is_some}
 use Rattle.std.specs.declared.cmp.Ordering.{Ordering}
+use Rattle.std.specs.declared.cmp.Ordering.TheVariants.{Less, Equal, Greater}
 use Rattle.std.specs.Ordering.{is_eq}
 use Rattle.std.specs.Map.{lookup, remove_entry}
 use Rattle.std.specs.BTreeMap.{is_at}
-use Rattle.bq_index.specs.Tree.{entries_in, entries_of, entry_in, height_in, height_of, Comparison, IsBalancedFrom, IsLevel}
+use Rattle.bq_index.specs.Order.{LacksKeyOf, with_entry}
+use Rattle.bq_index.specs.Tree.{entries_in, entries_of, entry_in, height_in, height_of, Comparison, ComparisonOfEntries, IsAlone}
+use Rattle.bq_index.specs.Tree.{IsBalancedFrom, IsLevel}
 use Rattle.bq_index.specs.declared.tree.Node.{Node}
 use Rattle.bq_index.specs.declared.tree.Node.TheVariants.{Spare, SpareBefore', Alone, OnLeft', OnRight', Both'}
 use Rattle.bq_index.proofs.Parts.{some_height}
@@ -43,3 +46,67 @@ module _ {K V : Type 0} (test : K → Bool) where
   removed_if_found (OnLeft' k p l v) b h f = absurd (omega (arith, h))
   removed_if_found (OnRight' k p r v) b h f = absurd (omega (arith, h))
   removed_if_found (Both' a k p l q r v) b h f = let s = some_height l b.2 in absurd (omega (arith, b.0, s, h))
+
+-- a box of one level has nothing below it
+is_alone : {K V : Type 0} (n : Node K V) → IsLevel n → height_in n ≡ 1 → IsAlone n
+is_alone Spare b h = b
+is_alone (SpareBefore' p n) b h = b
+is_alone (Alone k v) b h = tt
+is_alone (OnLeft' k p l v) b h = absurd (omega (arith, h))
+is_alone (OnRight' k p r v) b h = absurd (omega (arith, h))
+is_alone (Both' y k p l q r v) b h = let s = some_height l b.2 in absurd (omega (arith, b.0, s, h))
+
+-- two single boxes, by how their keys compare: the first one is added to the second one
+module _ {K V : Type 0} (R : K → K → Ordering) where
+  lower : (n m : Node K V) → IsAlone n → IsAlone m → ComparisonOfEntries R (entry_in n) (entry_in m) Less
+      → entries_in n ++ entries_in m ≡ with_entry R (entry_in n) (entries_in m)
+  lower (Alone k v) (Alone j w) a b h = rw (sym h) refl
+  lower (Alone k v) Spare a b h = absurd b
+  lower (Alone k v) (SpareBefore' p n) a b h = absurd b
+  lower (Alone k v) (OnLeft' j p l w) a b h = absurd b
+  lower (Alone k v) (OnRight' j p l w) a b h = absurd b
+  lower (Alone k v) (Both' y j p l q r w) a b h = absurd b
+  lower Spare m a b h = absurd a
+  lower (SpareBefore' p n) m a b h = absurd a
+  lower (OnLeft' j p l w) m a b h = absurd a
+  lower (OnRight' j p l w) m a b h = absurd a
+  lower (Both' y j p l q r w) m a b h = absurd a
+
+  higher : (n m : Node K V) → IsAlone n → IsAlone m → ComparisonOfEntries R (entry_in n) (entry_in m) Greater
+      → entries_in m ++ entries_in n ≡ with_entry R (entry_in n) (entries_in m)
+  higher (Alone k v) (Alone j w) a b h = rw (sym h) refl
+  higher (Alone k v) Spare a b h = absurd b
+  higher (Alone k v) (SpareBefore' p n) a b h = absurd b
+  higher (Alone k v) (OnLeft' j p l w) a b h = absurd b
+  higher (Alone k v) (OnRight' j p l w) a b h = absurd b
+  higher (Alone k v) (Both' y j p l q r w) a b h = absurd b
+  higher Spare m a b h = absurd a
+  higher (SpareBefore' p n) m a b h = absurd a
+  higher (OnLeft' j p l w) m a b h = absurd a
+  higher (OnRight' j p l w) m a b h = absurd a
+  higher (Both' y j p l q r w) m a b h = absurd a
+
+  same : (n m : Node K V) → IsAlone n → IsAlone m → LacksKeyOf R (entry_in n) (entries_in m)
+      → ComparisonOfEntries R (entry_in n) (entry_in m) Equal → ⊥
+  same (Alone k v) (Alone j w) a b n h = let m : Some w ≡ None = rw (sym h) at n in cc
+  same (Alone k v) Spare a b n h = absurd b
+  same (Alone k v) (SpareBefore' p m) a b n h = absurd b
+  same (Alone k v) (OnLeft' j p l w) a b n h = absurd b
+  same (Alone k v) (OnRight' j p l w) a b n h = absurd b
+  same (Alone k v) (Both' y j p l q r w) a b n h = absurd b
+  same Spare m a b n h = absurd a
+  same (SpareBefore' p x) m a b n h = absurd a
+  same (OnLeft' j p l w) m a b n h = absurd a
+  same (OnRight' j p l w) m a b n h = absurd a
+  same (Both' y j p l q r w) m a b n h = absurd a
+
+  module _ (n m : Node K V) (a : Ordering) (l : IsLevel n) (s : height_in n ≡ 1) (i : IsLevel m) (j : height_in m ≡ 1)
+      (h : ComparisonOfEntries R (entry_in n) (entry_in m) a) where
+    pub lower_first : a ≡ Less → entries_in n ++ entries_in m ≡ with_entry R (entry_in n) (entries_in m)
+    lower_first e = lower n m (is_alone n l s) (is_alone m i j) (subst (ComparisonOfEntries R (entry_in n) (entry_in m)) e h)
+
+    pub higher_last : a ≡ Greater → entries_in m ++ entries_in n ≡ with_entry R (entry_in n) (entries_in m)
+    higher_last e = higher n m (is_alone n l s) (is_alone m i j) (subst (ComparisonOfEntries R (entry_in n) (entry_in m)) e h)
+
+    pub not_equal : LacksKeyOf R (entry_in n) (entries_in m) → a ≡ Equal → ⊥
+    not_equal k e = same n m (is_alone n l s) (is_alone m i j) k (subst (ComparisonOfEntries R (entry_in n) (entry_in m)) e h)

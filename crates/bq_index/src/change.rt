@@ -3,7 +3,7 @@
 // descent returns whether the height of its box has changed. If it has not, the boxes above stay as
 // they are. The last step of a descent is a separate function, so that the steps on the way have
 // small stack frames.
-ghost use Rattle.std.specs.Prelude.{◌≡◌, ◌+◌, ◌<◌, ◌≤◌, ◌++◌, [], Some, None, cond, is_some, true, IfSome};
+ghost use Rattle.std.specs.Prelude.{◌≡◌, ◌+◌, ◌<◌, ◌≤◌, ◌++◌, [], Some, None, IsSome, cond, is_some, true, IfSome};
 ghost use Rattle.std.specs.Option.{option_map, option_to_list};
 ghost use Rattle.std.specs.Map.{lookup, remove_entry};
 ghost use Rattle.std.specs.BTreeMap.{is_at};
@@ -11,13 +11,13 @@ ghost use Rattle.bq_index.specs.Edited.{value_of};
 ghost use Rattle.bq_index.specs.Order.{InOrder, LacksKeyOf, with_entry};
 ghost use Rattle.bq_index.specs.Removed.{lookup_if, passing, removed_if, value_of_top};
 ghost use Rattle.bq_index.specs.Tree.{entries, entries_in, entries_of, entry_in, entry_of_top, height, height_in, height_of};
-ghost use Rattle.bq_index.specs.Tree.{IsAlone, IsKeyOf, left_in, right_in};
+ghost use Rattle.bq_index.specs.Tree.{HasOneSideAtMost, IsAlone, IsKeyOf, left_in, right_in};
 ghost use Rattle.bq_index.specs.declared.tree.Node.TheVariants.{Spare};
 ghost use Rattle.bq_index.specs.declared.tree.Tree.TheVariants.{Leaf};
-ghost use Rattle.bq_index.specs.Tree.{HasParts, IsBalanced, IsBalancedFrom, IsLevel, IsLevelWithSide, IsLowered, IsWithoutFirst};
+ghost use Rattle.bq_index.specs.Tree.{Comparison, ComparisonOfEntries, HasParts, IsBalanced, IsBalancedFrom, IsLevel, IsLevelWithSide, IsLowered, IsWithoutFirst};
 ghost use Rattle.bq_index.specs.Tree.{IsRaised, LosesEntry, RaisedByAtMost};
 
-use super::find::compare_to;
+use super::find::compare_within;
 use super::rotation::{mend, sink_left, sink_right};
 use super::tree::{Node, Tree, fill, keep};
 use super::walk::Test;
@@ -125,6 +125,167 @@ fn key_alone<K, V>(node: &Node<K, V>) -> &K
     }
 }
 
+// Compares a key with that of a box with nothing below it.
+#[tactic(auto, using(crate::proofs::Parts::by_other))]
+fn compare_alone<K: Ord, V>(key: &K, node: &Node<K, V>, count: &mut u64) -> Ordering
+    requires level { IsLevel node.now }
+    requires alone { height_in node.now ≡ 1 }
+    requires room { count.old < 400 }
+    ensures answer { Comparison K.cmp key.now (entry_in node.now) result }
+    ensures counted { count.new ≡ count.old + 1 }
+{
+    compare_within(key, key_alone(node), count)
+}
+
+// Compares the keys of two boxes with nothing below them.
+#[tactic(auto, using(crate::proofs::Parts::by_key))]
+fn compare_single<K: Ord, V>(node: &Node<K, V>, low: &Node<K, V>, count: &mut u64) -> Ordering
+    requires level { IsLevel node.now }
+    requires alone { height_in node.now ≡ 1 }
+    requires low_level { IsLevel low.now }
+    requires low_alone { height_in low.now ≡ 1 }
+    requires room { count.old < 400 }
+    ensures answer { ComparisonOfEntries K.cmp (entry_in node.now) (entry_in low.now) result }
+    ensures counted { count.new ≡ count.old + 1 }
+{
+    compare_alone(key_alone(node), low, count)
+}
+
+// Returns two boxes with a single entry in the order of their keys.
+#[tactic(auto, using(crate::proofs::Single::lower_first, crate::proofs::Single::higher_last, crate::proofs::Single::not_equal))]
+fn in_order<K: Ord, V>(
+    low: Box<Node<K, V>>,
+    node: Box<Node<K, V>>,
+    count: &mut u64,
+) -> (Box<Node<K, V>>, Box<Node<K, V>>)
+    requires low_level { IsLevel low.value }
+    requires low_alone { height_in low.value ≡ 1 }
+    requires level { IsLevel node.value }
+    requires alone { height_in node.value ≡ 1 }
+    requires absent { LacksKeyOf K.cmp (entry_in node.value) (entries_in low.value) }
+    requires room { count.old < 400 }
+    ensures is { entries_in result.0.value ++ entries_in result.1.value
+        ≡ with_entry K.cmp (entry_in node.value) (entries_in low.value) }
+    ensures first_level { IsLevel result.0.value }
+    ensures first_alone { height_in result.0.value ≡ 1 }
+    ensures second_level { IsLevel result.1.value }
+    ensures second_alone { height_in result.1.value ≡ 1 }
+    ensures counted { count.new ≡ count.old + 1 }
+{
+    match compare_single(&node, &low, count) {
+        Ordering::Less => (node, low),
+        Ordering::Greater => (low, node),
+        Ordering::Equal => unreachable!(),
+    }
+}
+
+// Inserts a box with a single entry on the left of a box that has a single box there and nothing on
+// its right. The three boxes then are one with two sides, of the same height.
+#[inline(never)]
+fn spread_left<K: Ord, V>(here: &mut Node<K, V>, node: Box<Node<K, V>>, count: &mut u64) -> bool
+where
+    K: Drop,
+    V: Drop,
+    requires here_level { IsLevel here.old }
+    requires side { IsSome (left_in here.old) }
+    requires none { right_in here.old ≡ None }
+    requires level { IsLevel node.value }
+    requires alone { height_in node.value ≡ 1 }
+    requires absent { LacksKeyOf K.cmp (entry_in node.value) (entries_of (left_in here.old)) }
+    requires room { count.old < 400 }
+    ensures is { entries_in here.new ≡ with_entry K.cmp (entry_in node.value) (entries_of (left_in here.old))
+        ++ (option_to_list (entry_in here.old) ++ entries_of (right_in here.old)) }
+    ensures raised { IsRaised here.old here.new result }
+    ensures counted { count.new ≡ count.old + 1 }
+{
+    let Node::OnLeft { key, left, value } = mem::replace(here, Node::Spare) else {
+        unreachable!()
+    };
+    let (first, second) = in_order(left, node, count);
+    let (mut key, mut value, mut second) = (key, value, second);
+    swap_with(&mut key, &mut value, &mut *second);
+    fill(
+        here,
+        Node::Both {
+            height: 2,
+            key,
+            left: first,
+            right: second,
+            value,
+        },
+    );
+    false
+}
+
+// Inserts a box with a single entry on the right of a box that has a single box there and nothing on
+// its left. The three boxes then are one with two sides, of the same height.
+#[inline(never)]
+fn spread_right<K: Ord, V>(here: &mut Node<K, V>, node: Box<Node<K, V>>, count: &mut u64) -> bool
+where
+    K: Drop,
+    V: Drop,
+    requires here_level { IsLevel here.old }
+    requires side { IsSome (right_in here.old) }
+    requires none { left_in here.old ≡ None }
+    requires level { IsLevel node.value }
+    requires alone { height_in node.value ≡ 1 }
+    requires absent { LacksKeyOf K.cmp (entry_in node.value) (entries_of (right_in here.old)) }
+    requires room { count.old < 400 }
+    ensures is { entries_in here.new ≡ entries_of (left_in here.old)
+        ++ (option_to_list (entry_in here.old) ++ with_entry K.cmp (entry_in node.value) (entries_of (right_in here.old))) }
+    ensures raised { IsRaised here.old here.new result }
+    ensures counted { count.new ≡ count.old + 1 }
+{
+    let Node::OnRight { key, right, value } = mem::replace(here, Node::Spare) else {
+        unreachable!()
+    };
+    let (first, second) = in_order(right, node, count);
+    let (mut key, mut value, mut first) = (key, value, first);
+    swap_with(&mut key, &mut value, &mut *first);
+    fill(
+        here,
+        Node::Both {
+            height: 2,
+            key,
+            left: first,
+            right: second,
+            value,
+        },
+    );
+    false
+}
+
+// Inserts a box with a single entry below a box that has at most one side.
+#[inline(never)]
+fn insert_low<K: Ord, V>(here: &mut Node<K, V>, node: Box<Node<K, V>>, count: &mut u64) -> bool
+where
+    K: Drop,
+    V: Drop,
+    requires here_level { IsLevel here.old }
+    requires in_order { InOrder K.cmp (entries_in here.old) }
+    requires alone { HasParts (Some node.value) None (entry_in node.value) None }
+    requires level { IsLevel node.value }
+    requires absent { LacksKeyOf K.cmp (entry_in node.value) (entries_in here.old) }
+    requires fits { height_in here.old < 200 }
+    requires room { count.old + height_in here.old < 400 }
+    requires low { HasOneSideAtMost here.old }
+    ensures is { entries_in here.new ≡ with_entry K.cmp (entry_in node.value) (entries_in here.old) }
+    ensures raised { IsRaised here.old here.new result }
+    ensures counted { RaisedByAtMost (height_in here.old) count.old count.new }
+{
+    match compare_within(key_alone(&node), here.key(), count) {
+        Ordering::Less => match here {
+            Node::OnLeft { .. } => spread_left(here, node, count),
+            _ => hang_left(here, node),
+        },
+        Ordering::Greater => match here {
+            Node::OnRight { .. } => spread_right(here, node, count),
+            _ => hang_right(here, node),
+        },
+        Ordering::Equal => unreachable!(),
+    }
+}
+
 // Inserts a box with a single entry below another box. Returns whether the height of that box has
 // changed.
 fn insert_below<K: Ord, V>(here: &mut Node<K, V>, node: Box<Node<K, V>>, count: &mut u64) -> bool
@@ -137,34 +298,29 @@ where
     requires level { IsLevel node.value }
     requires absent { LacksKeyOf K.cmp (entry_in node.value) (entries_in here.old) }
     requires fits { height_in here.old < 200 }
+    requires room { count.old + height_in here.old < 400 }
     ensures is { entries_in here.new ≡ with_entry K.cmp (entry_in node.value) (entries_in here.old) }
     ensures raised { IsRaised here.old here.new result }
     ensures counted { RaisedByAtMost (height_in here.old) count.old count.new }
 {
-    match compare_to(key_alone(&node), here, count) {
-        Ordering::Less => match here {
-            Node::Both { left, .. } => {
+    match here {
+        Node::Both {
+            key,
+            left,
+            right,
+            ..
+        } => match compare_within(key_alone(&node), key, count) {
+            Ordering::Less => {
                 let grown = insert_below(left, node, count);
                 mend(here, grown)
             }
-            Node::OnLeft { left, .. } => {
-                let grown = insert_below(left, node, count);
-                mend(here, grown)
-            }
-            _ => hang_left(here, node),
-        },
-        Ordering::Greater => match here {
-            Node::Both { right, .. } => {
+            Ordering::Greater => {
                 let grown = insert_below(right, node, count);
                 mend(here, grown)
             }
-            Node::OnRight { right, .. } => {
-                let grown = insert_below(right, node, count);
-                mend(here, grown)
-            }
-            _ => hang_right(here, node),
+            Ordering::Equal => unreachable!(),
         },
-        Ordering::Equal => unreachable!(),
+        _ => insert_low(here, node, count),
     }
 }
 
@@ -192,7 +348,9 @@ where
     match tree {
         Tree::Leaf => Tree::Fork(node),
         Tree::Fork(mut top) => {
-            let _changed = insert_below(&mut top, node, count);
+            let mut compared = 0;
+            let _changed = insert_below(&mut top, node, &mut compared);
+            *count = count.saturating_add(compared);
             Tree::Fork(top)
         }
     }
@@ -203,10 +361,11 @@ where
 fn is_key_of<K: Ord, V>(key: &K, node: &Node<K, V>, count: &mut u64) -> bool
     requires level { IsLevel node.now }
     requires alone { height_in node.now ≡ 1 }
+    requires room { count.old < 400 }
     ensures answer { result ≡ is_some (lookup (is_at (K.cmp key.now)) (entries_in node.now)) }
     ensures counted { RaisedByAtMost 1 count.old count.new }
 {
-    compare_to(key, node, count).is_eq()
+    compare_alone(key, node, count).is_eq()
 }
 
 // Returns whether the value of a box passes the test.
@@ -232,6 +391,7 @@ fn is_passing_key_of<K: Ord, V, T: Test<K, V>>(
 ) -> bool
     requires level { IsLevel node.now }
     requires alone { height_in node.now ≡ 1 }
+    requires room { count.old < 400 }
     ensures answer { result
         ≡ is_some (lookup_if (is_at (K.cmp key.now)) (T.passed test.now key.now) (entries_in node.now)) }
     ensures counted { RaisedByAtMost 1 count.old count.new }
@@ -252,6 +412,7 @@ fn is_on_left<K: Ord, V, T: Test<K, V>>(
 ) -> bool
     requires balanced { IsBalancedFrom (left_in here.now) }
     requires low { height_of (left_in here.now) ≤ 1 }
+    requires room { count.old < 400 }
     ensures answer { result
         ≡ is_some (lookup_if (is_at (K.cmp key.now)) (T.passed test.now key.now) (entries_of (left_in here.now))) }
     ensures counted { RaisedByAtMost (height_of (left_in here.now)) count.old count.new }
@@ -273,6 +434,7 @@ fn is_on_right<K: Ord, V, T: Test<K, V>>(
 ) -> bool
     requires balanced { IsBalancedFrom (right_in here.now) }
     requires low { height_of (right_in here.now) ≤ 1 }
+    requires room { count.old < 400 }
     ensures answer { result
         ≡ is_some (lookup_if (is_at (K.cmp key.now)) (T.passed test.now key.now) (entries_of (right_in here.now))) }
     ensures counted { RaisedByAtMost (height_of (right_in here.now)) count.old count.new }
@@ -374,6 +536,7 @@ where
     requires here_level { IsLevel here.old }
     requires low { height_of (left_in here.old) ≤ 1 }
     requires none { found.old ≡ Leaf }
+    requires room { count.old < 400 }
     ensures is { entries_in here.new
         ≡ removed_if (is_at (K.cmp key.now)) (value_of_top found.new) (entries_of (left_in here.old))
         ++ (option_to_list (entry_in here.old) ++ entries_of (right_in here.old)) }
@@ -407,6 +570,7 @@ where
     requires here_level { IsLevel here.old }
     requires low { height_of (right_in here.old) ≤ 1 }
     requires none { found.old ≡ Leaf }
+    requires room { count.old < 400 }
     ensures is { entries_in here.new ≡ entries_of (left_in here.old)
         ++ (option_to_list (entry_in here.old)
         ++ removed_if (is_at (K.cmp key.now)) (value_of_top found.new) (entries_of (right_in here.old))) }
@@ -618,9 +782,37 @@ where
     take_out(here, found)
 }
 
-// Removes the key from a box that has a side, or from below it, if its value passes the test. A box
-// with the removed entry goes to `found`, so that no value is copied on the way back. Returns
-// whether the height of `here` has changed.
+// Removes the key from a box that has a side
+#[inline(never)]
+fn remove_low<K: Ord, V, T: Test<K, V>>(
+    here: &mut Node<K, V>,
+    key: &K,
+    count: &mut u64,
+    found: &mut Tree<K, V>,
+    test: &T,
+) -> bool
+where
+    K: Drop,
+    V: Drop,
+    requires here_level { IsLevelWithSide here.old }
+    requires in_order { InOrder K.cmp (entries_in here.old) }
+    requires none { found.old ≡ Leaf }
+    requires room { count.old + height_in here.old < 400 }
+    requires low { HasOneSideAtMost here.old }
+    ensures is { entries_in here.new
+        ≡ removed_if (is_at (K.cmp key.now)) (value_of_top found.new) (entries_in here.old) }
+    ensures found { value_of_top found.new
+        ≡ lookup_if (is_at (K.cmp key.now)) (T.passed test.now key.now) (entries_in here.old) }
+    ensures lowered { IsLowered here.old here.new result }
+    ensures counted { RaisedByAtMost (height_in here.old) count.old count.new }
+{
+    match compare_within(key, here.key(), count) {
+        Ordering::Less => cut_left(here, key, count, found, test),
+        Ordering::Greater => cut_right(here, key, count, found, test),
+        Ordering::Equal => take_out_if(here, key, found, test),
+    }
+}
+
 fn remove_below<K: Ord, V, T: Test<K, V>>(
     here: &mut Node<K, V>,
     key: &K,
@@ -634,6 +826,7 @@ where
     requires here_level { IsLevelWithSide here.old }
     requires in_order { InOrder K.cmp (entries_in here.old) }
     requires none { found.old ≡ Leaf }
+    requires room { count.old + height_in here.old < 400 }
     ensures is { entries_in here.new
         ≡ removed_if (is_at (K.cmp key.now)) (value_of_top found.new) (entries_in here.old) }
     ensures found { value_of_top found.new
@@ -641,32 +834,30 @@ where
     ensures lowered { IsLowered here.old here.new result }
     ensures counted { RaisedByAtMost (height_in here.old) count.old count.new }
 {
-    match compare_to(key, here, count) {
-        Ordering::Less => {
-            if !here.is_high_on_left() {
-                return cut_left(here, key, count, found, test);
-            }
-            match here {
-                Node::Both { left, .. } => {
-                    let shrunk = remove_below(left, key, count, found, test);
-                    mend(here, shrunk)
+    match here {
+        Node::Both {
+            key: own,
+            left,
+            right,
+            ..
+        } => match compare_within(key, own, count) {
+            Ordering::Less => {
+                if !left.is_high() {
+                    return cut_left(here, key, count, found, test);
                 }
-                _ => unreachable!(),
+                let shrunk = remove_below(left, key, count, found, test);
+                mend(here, shrunk)
             }
-        }
-        Ordering::Greater => {
-            if !here.is_high_on_right() {
-                return cut_right(here, key, count, found, test);
-            }
-            match here {
-                Node::Both { right, .. } => {
-                    let shrunk = remove_below(right, key, count, found, test);
-                    mend(here, shrunk)
+            Ordering::Greater => {
+                if !right.is_high() {
+                    return cut_right(here, key, count, found, test);
                 }
-                _ => unreachable!(),
+                let shrunk = remove_below(right, key, count, found, test);
+                mend(here, shrunk)
             }
-        }
-        Ordering::Equal => take_out_if(here, key, found, test),
+            Ordering::Equal => take_out_if(here, key, found, test),
+        },
+        _ => remove_low(here, key, count, found, test),
     }
 }
 
@@ -735,6 +926,7 @@ where
     V: Drop,
     requires level { IsLevel top.value }
     requires alone { height_in top.value ≡ 1 }
+    requires room { count.old < 400 }
     ensures is { entries result.0
         ≡ removed_if (is_at (K.cmp key.now)) (option_map (λ p. p.1) result.1) (entries_in top.value) }
     ensures balanced { IsBalanced result.0 }
@@ -777,11 +969,16 @@ where
         Tree::Leaf => (Tree::Leaf, None),
         Tree::Fork(mut top) => if top.is_high() {
             let mut found = Tree::Leaf;
-            let _changed = remove_below(&mut top, key, count, &mut found, test);
+            let mut compared = 0;
+            let _changed = remove_below(&mut top, key, &mut compared, &mut found, test);
+            *count = count.saturating_add(compared);
             let removed = taken(found);
             (Tree::Fork(top), removed)
         } else {
-            remove_single(top, key, count, test)
+            let mut compared = 0;
+            let left = remove_single(top, key, &mut compared, test);
+            *count = count.saturating_add(compared);
+            left
         },
     }
 }

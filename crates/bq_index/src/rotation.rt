@@ -34,6 +34,10 @@ where
     requires { IsNearlyLevel node.old }
     ensures { IsMended node.old node.new result }
 {
+    // A change below a box with one side does not come here.
+    let Node::Both { .. } = node else {
+        return turn_apart(node);
+    };
     let (left, right) = (node.left_height(), node.right_height());
     if left > right + 1 {
         return turn_apart(node);
