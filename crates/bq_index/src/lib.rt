@@ -19,11 +19,13 @@ pub use shelves::{Parted, Shelves};
 pub use tree::BoxSource;
 pub use walk::{Test, Visitor};
 
+mod alone;
 mod catalog;
-mod change;
 mod edit;
 mod fault;
 mod find;
+mod insert;
+mod remove;
 mod rotation;
 mod shelf;
 mod shelves;

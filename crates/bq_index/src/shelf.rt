@@ -10,11 +10,11 @@ ghost use Rattle.bq_index.specs.Removed.{lookup_if, removed_if};
 ghost use Rattle.bq_index.specs.Shelves.{key_from};
 ghost use Rattle.bq_index.specs.Tree.{entries, IsBalanced};
 
-use super::change::Always;
 use super::edit::{self, Edit, Sure, TryEdit};
+use super::remove::Always;
 use super::tree::{self, BoxSource, Node, Tree};
 use super::walk::{Test, Visitor};
-use super::{NoMemory, change, find, walk};
+use super::{NoMemory, find, insert, remove, walk};
 use std::alloc::Global;
 use std::marker::Model;
 use std::mem;
@@ -181,7 +181,7 @@ impl<K: Ord + Drop, V: Drop> Shelf<K, V> {
         self.spare -= 1; // the box of the entry to come
         tree::fill(&mut *node, Node::Alone { key, value });
         let tree = mem::replace(&mut self.tree, Tree::Leaf);
-        self.tree = change::insert(tree, node, &mut self.comparisons);
+        self.tree = insert::insert(tree, node, &mut self.comparisons);
         self.len += 1;
     }
 
@@ -211,7 +211,7 @@ impl<K: Ord + Drop, V: Drop> Shelf<K, V> {
         ensures comparisons { ComparesFew self.old self.new }
     {
         let tree = mem::replace(&mut self.tree, Tree::Leaf);
-        let (tree, found) = change::remove_if(tree, key, &mut self.comparisons, test);
+        let (tree, found) = remove::remove_if(tree, key, &mut self.comparisons, test);
         self.tree = tree;
         let (node, value) = found?;
         self.len -= 1;
@@ -334,7 +334,7 @@ impl<K: Ord + Drop, V: Drop> Shelf<K, V> {
         tree::keep(&mut self.spares, spares);
         self.spare -= 1; // the box for the tree
         tree::fill(&mut *node, Node::Alone { key, value });
-        change::insert(tree, node, &mut self.comparisons)
+        insert::insert(tree, node, &mut self.comparisons)
     }
 
     // Removes the entry of a key from a tree and returns its value, if there is one. Its box becomes
@@ -350,7 +350,7 @@ impl<K: Ord + Drop, V: Drop> Shelf<K, V> {
         ensures spare { self.new.spare ≡ self.old.spare + (if is_some result.1 then 1 else 0) }
         ensures comparisons { ComparesFewIn (entries tree) self.old self.new }
     {
-        let (tree, found) = change::remove(tree, key, &mut self.comparisons);
+        let (tree, found) = remove::remove(tree, key, &mut self.comparisons);
         let Some((node, value)) = found else {
             return (tree, None);
         };

@@ -99,31 +99,6 @@ impl<K, V> Node<K, V> {
         }
     }
 
-    // Returns whether the left side has more than one level. A removal asks this at each level, and
-    // to compare heights costs more.
-    pub(crate) fn is_high_on_left(&self) -> bool
-        requires { IsLevel self.now }
-        ensures high { result ≡ true → 1 < height_of (left_in self.now) }
-        ensures low { result ≡ false → height_of (left_in self.now) ≤ 1 }
-    {
-        match self {
-            Node::Both { left, .. } => left.is_high(),
-            _ => false,
-        }
-    }
-
-    // Returns whether the right side has more than one level.
-    pub(crate) fn is_high_on_right(&self) -> bool
-        requires { IsLevel self.now }
-        ensures high { result ≡ true → 1 < height_of (right_in self.now) }
-        ensures low { result ≡ false → height_of (right_in self.now) ≤ 1 }
-    {
-        match self {
-            Node::Both { right, .. } => right.is_high(),
-            _ => false,
-        }
-    }
-
     // Stores a new height in a box with two sides, and returns whether it differs from the old one.
     // Other boxes store none, and do not change.
     #[inline(always)]

@@ -7,7 +7,7 @@ use Rattle.bq_index.proofs.Removed.{gone_if_passed, side_is_box}
 use Rattle.bq_index.specs.Edited.{value_of}
 use Rattle.bq_index.specs.Removed.{lookup_if, removed_if, value_of_top}
 use Rattle.bq_index.specs.Tree.{entries_of, entry_in, height_of, left_in, right_in, IsBalancedFrom}
-use Rattle.bq_index.proofs.change.cut_right.Goals as goal
+use Rattle.bq_index.proofs.remove.cut_right.Goals as goal
 
 pub returns-then-is_on_right-clause-is : goal.returns-then-is_on_right-clause-is
 returns-then-is_on_right-clause-is g c =

@@ -3,7 +3,7 @@ use Rattle.std.specs.BTreeMap.{is_at}
 use Rattle.std.specs.Map.{lookup}
 use Rattle.bq_index.proofs.Removed.{all_pass, all_removed}
 use Rattle.bq_index.specs.Tree.{entries}
-use Rattle.bq_index.proofs.change.remove.Goals as goal
+use Rattle.bq_index.proofs.remove.remove.Goals as goal
 
 pub returns-clause-is : goal.returns-clause-is
 returns-clause-is g c =

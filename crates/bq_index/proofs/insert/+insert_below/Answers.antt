@@ -3,7 +3,7 @@ use Rattle.bq_index.proofs.Parts.{goes_right, left_in_order, right_in_order}
 use Rattle.std.proofs.Common.{◌≡◌, ◌+◌, ◌<◌, Some, ap, arith, rules, subst, ◌∙◌}
 use Rattle.bq_index.specs.Order.{InOrder, LacksKeyOf, with_entry}
 use Rattle.bq_index.specs.Tree.{entries_in, entries_of, entry_in, height_in, height_of, left_in, right_in, IsBalancedFrom, IsLevel}
-use Rattle.bq_index.proofs.change.+insert_below.Goals as goal
+use Rattle.bq_index.proofs.insert.+insert_below.Goals as goal
 
 pub insert_below-grown-requires : goal.insert_below-grown-requires
 insert_below-grown-requires g t c κs within =

@@ -1,7 +1,7 @@
 use Rattle.bq_index.proofs.Parts.{by_key, by_other, come_apart, goes_left, goes_nowhere, goes_right, hung_left, hung_right}
 use Rattle.std.proofs.Common.{◌≡◌, ◌<◌, None, ap, arith, rules, sym, ◌∙◌}
 use Rattle.bq_index.specs.Tree.{height_in, left_in, right_in}
-use Rattle.bq_index.proofs.change.insert_low.Goals as goal
+use Rattle.bq_index.proofs.insert.insert_low.Goals as goal
 
 pub spread_left-requires : goal.spread_left-requires
 spread_left-requires g c =

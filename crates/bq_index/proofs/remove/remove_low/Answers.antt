@@ -4,7 +4,7 @@ use Rattle.std.specs.Prelude.{is_some}
 use Rattle.bq_index.proofs.Removed.{gone_above, gone_below}
 use Rattle.bq_index.specs.Removed.{passing, value_of_top}
 use Rattle.bq_index.specs.Tree.{entries_in}
-use Rattle.bq_index.proofs.change.remove_low.Goals as goal
+use Rattle.bq_index.proofs.remove.remove_low.Goals as goal
 
 pub returns-in-Less-clause-is : goal.returns-in-Less-clause-is
 returns-in-Less-clause-is g c =

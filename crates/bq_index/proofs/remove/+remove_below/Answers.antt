@@ -8,7 +8,7 @@ use Rattle.bq_index.specs.Edited.{value_of}
 use Rattle.bq_index.specs.Order.{InOrder}
 use Rattle.bq_index.specs.Removed.{lookup_if, passing, removed_if, value_of_top}
 use Rattle.bq_index.specs.Tree.{entries_in, entries_of, entry_in, height_in, height_of, left_in, right_in, IsBalancedFrom, IsLevel}
-use Rattle.bq_index.proofs.change.+remove_below.Goals as goal
+use Rattle.bq_index.proofs.remove.+remove_below.Goals as goal
 
 pub remove_below-shrunk-requires : goal.remove_below-shrunk-requires
 remove_below-shrunk-requires g t c κs within =

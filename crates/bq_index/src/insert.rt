@@ -1,0 +1,309 @@
+// Insertion. Boxes are changed in place: an entry moves only if its box gains a side, or if the tree
+// is rotated there. Each step of a descent returns whether the height of its box has changed. If it
+// has not, the boxes above stay as they are. The last step of a descent is a separate function, so
+// that the steps on the way have small stack frames and ask no more than they need.
+ghost use Rattle.std.specs.Prelude.{◌≡◌, ◌+◌, ◌<◌, ◌≤◌, ◌++◌, Some, None, IsSome};
+ghost use Rattle.std.specs.Option.{option_to_list};
+ghost use Rattle.bq_index.specs.Order.{InOrder, LacksKeyOf, with_entry};
+ghost use Rattle.bq_index.specs.Tree.{entries, entries_in, entries_of, entry_in, height, height_in, HasOneSideAtMost, left_in, right_in};
+ghost use Rattle.bq_index.specs.Tree.{HasParts, IsBalanced, IsLevel, IsRaised, RaisedByAtMost};
+
+use super::alone::{compare_single, key_alone, swap_with};
+use super::find::compare_within;
+use super::rotation::mend;
+use super::tree::{Node, Tree, fill};
+use std::cmp::Ordering;
+use std::mem;
+
+// Attaches a box with a single entry as the left side of a box that has none. Returns whether the
+// height of the box has changed.
+#[inline(never)]
+fn hang_left<K, V>(here: &mut Node<K, V>, node: Box<Node<K, V>>) -> bool
+where
+    K: Drop,
+    V: Drop,
+    requires here_level { IsLevel here.old }
+    requires none { left_in here.old ≡ None }
+    requires level { IsLevel node.value }
+    requires low { height_in node.value ≡ 1 }
+    ensures is { entries_in here.new ≡ entries_in node.value
+        ++ (option_to_list (entry_in here.old) ++ entries_of (right_in here.old)) }
+    ensures raised { IsRaised here.old here.new result }
+{
+    match mem::replace(here, Node::Spare) {
+        Node::Alone { key, value } => {
+            fill(
+                here,
+                Node::OnLeft {
+                    key,
+                    left: node,
+                    value,
+                },
+            );
+            true
+        }
+        Node::OnRight { key, right, value } => {
+            fill(
+                here,
+                Node::Both {
+                    height: 2,
+                    key,
+                    left: node,
+                    right,
+                    value,
+                },
+            );
+            false
+        }
+        _ => unreachable!(),
+    }
+}
+
+// Attaches a box with a single entry as the right side of a box that has none. Returns whether the
+// height of the box has changed.
+#[inline(never)]
+fn hang_right<K, V>(here: &mut Node<K, V>, node: Box<Node<K, V>>) -> bool
+where
+    K: Drop,
+    V: Drop,
+    requires here_level { IsLevel here.old }
+    requires none { right_in here.old ≡ None }
+    requires level { IsLevel node.value }
+    requires low { height_in node.value ≡ 1 }
+    ensures is { entries_in here.new ≡ entries_of (left_in here.old)
+        ++ (option_to_list (entry_in here.old) ++ entries_in node.value) }
+    ensures raised { IsRaised here.old here.new result }
+{
+    match mem::replace(here, Node::Spare) {
+        Node::Alone { key, value } => {
+            fill(
+                here,
+                Node::OnRight {
+                    key,
+                    right: node,
+                    value,
+                },
+            );
+            true
+        }
+        Node::OnLeft { key, left, value } => {
+            fill(
+                here,
+                Node::Both {
+                    height: 2,
+                    key,
+                    left,
+                    right: node,
+                    value,
+                },
+            );
+            false
+        }
+        _ => unreachable!(),
+    }
+}
+
+// Returns two boxes with a single entry in the order of their keys.
+#[tactic(auto, using(crate::proofs::Single::lower_first, crate::proofs::Single::higher_last, crate::proofs::Single::not_equal))]
+fn in_order<K: Ord, V>(
+    low: Box<Node<K, V>>,
+    node: Box<Node<K, V>>,
+    count: &mut u64,
+) -> (Box<Node<K, V>>, Box<Node<K, V>>)
+    requires low_level { IsLevel low.value }
+    requires low_alone { height_in low.value ≡ 1 }
+    requires level { IsLevel node.value }
+    requires alone { height_in node.value ≡ 1 }
+    requires absent { LacksKeyOf K.cmp (entry_in node.value) (entries_in low.value) }
+    requires room { count.old < 400 }
+    ensures is { entries_in result.0.value ++ entries_in result.1.value
+        ≡ with_entry K.cmp (entry_in node.value) (entries_in low.value) }
+    ensures first_level { IsLevel result.0.value }
+    ensures first_alone { height_in result.0.value ≡ 1 }
+    ensures second_level { IsLevel result.1.value }
+    ensures second_alone { height_in result.1.value ≡ 1 }
+    ensures counted { count.new ≡ count.old + 1 }
+{
+    match compare_single(&node, &low, count) {
+        Ordering::Less => (node, low),
+        Ordering::Greater => (low, node),
+        Ordering::Equal => unreachable!(),
+    }
+}
+
+// Inserts a box with a single entry on the left of a box that has a single box there and nothing on
+// its right. The three boxes then are one with two sides, of the same height.
+#[inline(never)]
+fn spread_left<K: Ord, V>(here: &mut Node<K, V>, node: Box<Node<K, V>>, count: &mut u64) -> bool
+where
+    K: Drop,
+    V: Drop,
+    requires here_level { IsLevel here.old }
+    requires side { IsSome (left_in here.old) }
+    requires none { right_in here.old ≡ None }
+    requires level { IsLevel node.value }
+    requires alone { height_in node.value ≡ 1 }
+    requires absent { LacksKeyOf K.cmp (entry_in node.value) (entries_of (left_in here.old)) }
+    requires room { count.old < 400 }
+    ensures is { entries_in here.new ≡ with_entry K.cmp (entry_in node.value) (entries_of (left_in here.old))
+        ++ (option_to_list (entry_in here.old) ++ entries_of (right_in here.old)) }
+    ensures raised { IsRaised here.old here.new result }
+    ensures counted { count.new ≡ count.old + 1 }
+{
+    let Node::OnLeft { key, left, value } = mem::replace(here, Node::Spare) else {
+        unreachable!()
+    };
+    let (first, second) = in_order(left, node, count);
+    let (mut key, mut value, mut second) = (key, value, second);
+    swap_with(&mut key, &mut value, &mut *second);
+    fill(
+        here,
+        Node::Both {
+            height: 2,
+            key,
+            left: first,
+            right: second,
+            value,
+        },
+    );
+    false
+}
+
+// Inserts a box with a single entry on the right of a box that has a single box there and nothing on
+// its left. The three boxes then are one with two sides, of the same height.
+#[inline(never)]
+fn spread_right<K: Ord, V>(here: &mut Node<K, V>, node: Box<Node<K, V>>, count: &mut u64) -> bool
+where
+    K: Drop,
+    V: Drop,
+    requires here_level { IsLevel here.old }
+    requires side { IsSome (right_in here.old) }
+    requires none { left_in here.old ≡ None }
+    requires level { IsLevel node.value }
+    requires alone { height_in node.value ≡ 1 }
+    requires absent { LacksKeyOf K.cmp (entry_in node.value) (entries_of (right_in here.old)) }
+    requires room { count.old < 400 }
+    ensures is { entries_in here.new ≡ entries_of (left_in here.old)
+        ++ (option_to_list (entry_in here.old) ++ with_entry K.cmp (entry_in node.value) (entries_of (right_in here.old))) }
+    ensures raised { IsRaised here.old here.new result }
+    ensures counted { count.new ≡ count.old + 1 }
+{
+    let Node::OnRight { key, right, value } = mem::replace(here, Node::Spare) else {
+        unreachable!()
+    };
+    let (first, second) = in_order(right, node, count);
+    let (mut key, mut value, mut first) = (key, value, first);
+    swap_with(&mut key, &mut value, &mut *first);
+    fill(
+        here,
+        Node::Both {
+            height: 2,
+            key,
+            left: first,
+            right: second,
+            value,
+        },
+    );
+    false
+}
+
+// Inserts a box with a single entry below a box that has at most one side.
+#[inline(never)]
+fn insert_low<K: Ord, V>(here: &mut Node<K, V>, node: Box<Node<K, V>>, count: &mut u64) -> bool
+where
+    K: Drop,
+    V: Drop,
+    requires here_level { IsLevel here.old }
+    requires in_order { InOrder K.cmp (entries_in here.old) }
+    requires alone { HasParts (Some node.value) None (entry_in node.value) None }
+    requires level { IsLevel node.value }
+    requires absent { LacksKeyOf K.cmp (entry_in node.value) (entries_in here.old) }
+    requires fits { height_in here.old < 200 }
+    requires room { count.old + height_in here.old < 400 }
+    requires low { HasOneSideAtMost here.old }
+    ensures is { entries_in here.new ≡ with_entry K.cmp (entry_in node.value) (entries_in here.old) }
+    ensures raised { IsRaised here.old here.new result }
+    ensures counted { RaisedByAtMost (height_in here.old) count.old count.new }
+{
+    match compare_within(key_alone(&node), here.key(), count) {
+        Ordering::Less => match here {
+            Node::OnLeft { .. } => spread_left(here, node, count),
+            _ => hang_left(here, node),
+        },
+        Ordering::Greater => match here {
+            Node::OnRight { .. } => spread_right(here, node, count),
+            _ => hang_right(here, node),
+        },
+        Ordering::Equal => unreachable!(),
+    }
+}
+
+// Inserts a box with a single entry below another box. Returns whether the height of that box has
+// changed.
+fn insert_below<K: Ord, V>(here: &mut Node<K, V>, node: Box<Node<K, V>>, count: &mut u64) -> bool
+where
+    K: Drop,
+    V: Drop,
+    requires here_level { IsLevel here.old }
+    requires in_order { InOrder K.cmp (entries_in here.old) }
+    requires alone { HasParts (Some node.value) None (entry_in node.value) None }
+    requires level { IsLevel node.value }
+    requires absent { LacksKeyOf K.cmp (entry_in node.value) (entries_in here.old) }
+    requires fits { height_in here.old < 200 }
+    requires room { count.old + height_in here.old < 400 }
+    ensures is { entries_in here.new ≡ with_entry K.cmp (entry_in node.value) (entries_in here.old) }
+    ensures raised { IsRaised here.old here.new result }
+    ensures counted { RaisedByAtMost (height_in here.old) count.old count.new }
+{
+    match here {
+        Node::Both {
+            key,
+            left,
+            right,
+            ..
+        } => match compare_within(key_alone(&node), key, count) {
+            Ordering::Less => {
+                let grown = insert_below(left, node, count);
+                mend(here, grown)
+            }
+            Ordering::Greater => {
+                let grown = insert_below(right, node, count);
+                mend(here, grown)
+            }
+            Ordering::Equal => unreachable!(),
+        },
+        _ => insert_low(here, node, count),
+    }
+}
+
+// Inserts a box with a single entry at its place in the tree.
+pub(crate) fn insert<K: Ord, V>(
+    tree: Tree<K, V>,
+    node: Box<Node<K, V>>,
+    count: &mut u64,
+) -> Tree<K, V>
+where
+    K: Drop,
+    V: Drop,
+    requires balanced { IsBalanced tree }
+    requires in_order { InOrder K.cmp (entries tree) }
+    requires alone { HasParts (Some node.value) None (entry_in node.value) None }
+    requires level { IsLevel node.value }
+    requires absent { LacksKeyOf K.cmp (entry_in node.value) (entries tree) }
+    requires fits { height tree < 200 }
+    ensures is { entries result ≡ with_entry K.cmp (entry_in node.value) (entries tree) }
+    ensures balanced { IsBalanced result }
+    ensures not_lower { height tree ≤ height result }
+    ensures not_higher { height result ≤ height tree + 1 }
+    ensures counted { RaisedByAtMost (height tree) count.old count.new }
+{
+    match tree {
+        Tree::Leaf => Tree::Fork(node),
+        Tree::Fork(mut top) => {
+            let mut compared = 0;
+            let _changed = insert_below(&mut top, node, &mut compared);
+            *count = count.saturating_add(compared);
+            Tree::Fork(top)
+        }
+    }
+}
