@@ -6,8 +6,11 @@ use Rattle.std.specs.Map.{lookup, remove_entry}
 use Rattle.std.specs.BTreeMap.{is_at}
 use Rattle.std.specs.Option.{option_to_list}
 use Rattle.bq_index.specs.Edited.{value_of}
-use Rattle.bq_index.specs.Removed.{lookup_if, passing, removed_if}
-use Rattle.bq_index.specs.Tree.{entries_in, entries_of, entry_in, height_in, height_of, left_in, right_in, IsBalancedFrom, IsLevel}
+use Rattle.bq_index.specs.Removed.{lookup_if, passing, removed_if, value_of_top}
+use Rattle.bq_index.specs.Tree.{entries, entries_in, entries_of, entry_in, height, height_in, height_of, left_in, right_in}
+use Rattle.bq_index.specs.Tree.{IsBalanced, IsBalancedFrom, IsLevel}
+use Rattle.bq_index.specs.declared.tree.Tree.{Tree}
+use Rattle.bq_index.specs.declared.tree.Tree.TheVariants.{Leaf, Fork}
 use Rattle.bq_index.specs.declared.tree.Node.{Node}
 use Rattle.bq_index.specs.declared.tree.Node.TheVariants.{Spare, SpareBefore', Alone, OnLeft', OnRight', Both'}
 use Rattle.bq_index.proofs.Parts.{some_height, Above, Below}
@@ -130,3 +133,20 @@ module _ {K V : Type 0} (test : K → Bool) (q : V → Bool) where
       let there = passed_some q (lookup test (entries_in n)) f in
       removed_if_found test n b h there
       ∙ ap (λ c. cond c (remove_entry test (entries_in n)) (entries_in n)) (there ∙ ap is_some (value_if_found n b h there))
+
+-- a tree that is a single box or empty, and the value that was taken out of it
+module _ {K V : Type 0} (test : K → Bool) (q : V → Bool) where
+  pub single_told : (t : Tree K V) → IsBalanced t → height t ≤ 1 → true ≡ is_some (lookup_if test q (entries t)) → (v : Option V)
+      → v ≡ value_of_top t → v ≡ lookup_if test q (entries t)
+  single_told Leaf b h f v e = absurd cc
+  single_told (Fork x) b h f v e =
+      let there = passed_some q (lookup test (entries_in x.value)) f in
+      let one = side_is_box test q (Some x.value) b h f in
+      e ∙ sym (value_if_found test q x.value b one there) ∙ passed_value q (lookup test (entries_in x.value)) f
+
+  pub single_gone : (t : Tree K V) → IsBalanced t → height t ≤ 1 → true ≡ is_some (lookup_if test q (entries t)) → (v : Option V)
+      → v ≡ value_of_top t → [] ≡ removed_if test v (entries t)
+  single_gone Leaf b h f v e = absurd cc
+  single_gone (Fork x) b h f v e =
+      gone_if_passed test q x.value b (side_is_box test q (Some x.value) b h f) f
+      ∙ ap (λ w. removed_if test w (entries_in x.value)) (sym e)

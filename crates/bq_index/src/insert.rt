@@ -11,7 +11,7 @@ ghost use Rattle.bq_index.specs.Tree.{HasParts, IsBalanced, IsLevel, IsRaised, R
 use super::alone::{compare_single, key_alone, swap_with};
 use super::find::compare_within;
 use super::rotation::mend;
-use super::tree::{Node, Tree, fill};
+use super::tree::{Node, Tree, fill, keep};
 use std::cmp::Ordering;
 use std::mem;
 
@@ -276,34 +276,29 @@ where
     }
 }
 
-// Inserts a box with a single entry at its place in the tree.
-pub(crate) fn insert<K: Ord, V>(
-    tree: Tree<K, V>,
-    node: Box<Node<K, V>>,
-    count: &mut u64,
-) -> Tree<K, V>
+// Inserts a box with a single entry at its place in a tree.
+pub(crate) fn insert<K: Ord, V>(tree: &mut Tree<K, V>, node: Box<Node<K, V>>, count: &mut u64)
 where
     K: Drop,
     V: Drop,
-    requires balanced { IsBalanced tree }
-    requires in_order { InOrder K.cmp (entries tree) }
+    requires balanced { IsBalanced tree.old }
+    requires in_order { InOrder K.cmp (entries tree.old) }
     requires alone { HasParts (Some node.value) None (entry_in node.value) None }
     requires level { IsLevel node.value }
-    requires absent { LacksKeyOf K.cmp (entry_in node.value) (entries tree) }
-    requires fits { height tree < 200 }
-    ensures is { entries result ≡ with_entry K.cmp (entry_in node.value) (entries tree) }
-    ensures balanced { IsBalanced result }
-    ensures not_lower { height tree ≤ height result }
-    ensures not_higher { height result ≤ height tree + 1 }
-    ensures counted { RaisedByAtMost (height tree) count.old count.new }
+    requires absent { LacksKeyOf K.cmp (entry_in node.value) (entries tree.old) }
+    requires fits { height tree.old < 200 }
+    ensures is { entries tree.new ≡ with_entry K.cmp (entry_in node.value) (entries tree.old) }
+    ensures balanced { IsBalanced tree.new }
+    ensures not_lower { height tree.old ≤ height tree.new }
+    ensures not_higher { height tree.new ≤ height tree.old + 1 }
+    ensures counted { RaisedByAtMost (height tree.old) count.old count.new }
 {
     match tree {
-        Tree::Leaf => Tree::Fork(node),
-        Tree::Fork(mut top) => {
+        Tree::Leaf => keep(tree, Tree::Fork(node)),
+        Tree::Fork(top) => {
             let mut compared = 0;
-            let _changed = insert_below(&mut top, node, &mut compared);
+            let _changed = insert_below(top, node, &mut compared);
             *count = count.saturating_add(compared);
-            Tree::Fork(top)
         }
     }
 }

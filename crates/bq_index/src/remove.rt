@@ -507,72 +507,115 @@ where
     }
 }
 
-// Removes the key from a tree that is a single box, if its value passes the test.
-fn remove_single<K: Ord, V, T: Test<K, V>>(
-    top: Box<Node<K, V>>,
+// Returns whether a tree that is a single box or empty has the key, and its value passes the test.
+fn is_passing_tree<K: Ord, V, T: Test<K, V>>(
+    tree: &Tree<K, V>,
     key: &K,
     count: &mut u64,
     test: &T,
-) -> (Tree<K, V>, Option<(Box<Node<K, V>>, V)>)
-where
-    K: Drop,
-    V: Drop,
-    requires level { IsLevel top.value }
-    requires alone { height_in top.value ≡ 1 }
-    requires room { count.old < 400 }
-    ensures is { entries result.0
-        ≡ removed_if (is_at (K.cmp key.now)) (option_map (λ p. p.1) result.1) (entries_in top.value) }
-    ensures balanced { IsBalanced result.0 }
-    ensures found { option_map (λ p. p.1) result.1
-        ≡ lookup_if (is_at (K.cmp key.now)) (T.passed test.now key.now) (entries_in top.value) }
-    ensures spare { IfSome result.1 (λ p. p.0.value ≡ Spare) }
-    ensures counted { RaisedByAtMost 1 count.old count.new }
+) -> bool
+    requires balanced { IsBalanced tree.now }
+    requires low { height tree.now ≤ 1 }
+    ensures answer { result
+        ≡ is_some (lookup_if (is_at (K.cmp key.now)) (T.passed test.now key.now) (entries tree.now)) }
+    ensures counted { RaisedByAtMost (height tree.now) count.old count.new }
 {
-    if is_passing_key_of(key, &top, count, test) {
-        let removed = taken(Tree::Fork(top));
-        (Tree::Leaf, removed)
-    } else {
-        (Tree::Fork(top), None)
+    match tree {
+        Tree::Leaf => false,
+        Tree::Fork(top) => {
+            let mut compared = 0;
+            let passes = is_passing_key_of(key, top, &mut compared, test);
+            *count = count.saturating_add(compared);
+            passes
+        }
     }
 }
 
-// Returns the tree without the key, and the removed value with a spare box, if the key was there and
-// its value passes the test. Otherwise the tree does not change.
-pub(crate) fn remove_if<K: Ord, V, T: Test<K, V>>(
-    tree: Tree<K, V>,
+// Removes the key from a tree that is a single box or empty, if its value passes the test.
+#[tactic(auto, using(crate::proofs::Removed::no_value))]
+fn remove_single<K: Ord, V, T: Test<K, V>>(
+    tree: &mut Tree<K, V>,
     key: &K,
     count: &mut u64,
     test: &T,
-) -> (Tree<K, V>, Option<(Box<Node<K, V>>, V)>)
+) -> Option<(Box<Node<K, V>>, V)>
 where
     K: Drop,
     V: Drop,
-    requires balanced { IsBalanced tree }
-    requires in_order { InOrder K.cmp (entries tree) }
-    requires fits { height tree < 200 }
-    ensures is { entries result.0
-        ≡ removed_if (is_at (K.cmp key.now)) (option_map (λ p. p.1) result.1) (entries tree) }
-    ensures balanced { IsBalanced result.0 }
-    ensures found { option_map (λ p. p.1) result.1
-        ≡ lookup_if (is_at (K.cmp key.now)) (T.passed test.now key.now) (entries tree) }
-    ensures spare { IfSome result.1 (λ p. p.0.value ≡ Spare) }
-    ensures counted { RaisedByAtMost (height tree) count.old count.new }
+    requires balanced { IsBalanced tree.old }
+    requires low { height tree.old ≤ 1 }
+    ensures is { entries tree.new
+        ≡ removed_if (is_at (K.cmp key.now)) (option_map (λ p. p.1) result) (entries tree.old) }
+    ensures balanced { IsBalanced tree.new }
+    ensures found { option_map (λ p. p.1) result
+        ≡ lookup_if (is_at (K.cmp key.now)) (T.passed test.now key.now) (entries tree.old) }
+    ensures spare { IfSome result (λ p. p.0.value ≡ Spare) }
+    ensures counted { RaisedByAtMost (height tree.old) count.old count.new }
+{
+    if is_passing_tree(tree, key, count, test) {
+        taken(mem::replace(tree, Tree::Leaf))
+    } else {
+        None
+    }
+}
+
+// Removes the key from a tree whose top has a side, if its value passes the test.
+fn remove_within<K: Ord, V, T: Test<K, V>>(
+    top: &mut Node<K, V>,
+    key: &K,
+    count: &mut u64,
+    test: &T,
+) -> Option<(Box<Node<K, V>>, V)>
+where
+    K: Drop,
+    V: Drop,
+    requires level { IsLevelWithSide top.old }
+    requires in_order { InOrder K.cmp (entries_in top.old) }
+    ensures is { entries_in top.new
+        ≡ removed_if (is_at (K.cmp key.now)) (option_map (λ p. p.1) result) (entries_in top.old) }
+    ensures balanced { IsLevel top.new }
+    ensures found { option_map (λ p. p.1) result
+        ≡ lookup_if (is_at (K.cmp key.now)) (T.passed test.now key.now) (entries_in top.old) }
+    ensures spare { IfSome result (λ p. p.0.value ≡ Spare) }
+    ensures counted { RaisedByAtMost (height_in top.old) count.old count.new }
+{
+    let mut compared = 0;
+    let mut found = Tree::Leaf;
+    let _changed = remove_below(top, key, &mut compared, &mut found, test);
+    *count = count.saturating_add(compared);
+    taken(found)
+}
+
+// Removes the key from a tree if it is there and its value passes the test. Returns the removed value
+// with a spare box. Otherwise the tree does not change.
+pub(crate) fn remove_if<K: Ord, V, T: Test<K, V>>(
+    tree: &mut Tree<K, V>,
+    key: &K,
+    count: &mut u64,
+    test: &T,
+) -> Option<(Box<Node<K, V>>, V)>
+where
+    K: Drop,
+    V: Drop,
+    requires balanced { IsBalanced tree.old }
+    requires in_order { InOrder K.cmp (entries tree.old) }
+    requires fits { height tree.old < 200 }
+    ensures is { entries tree.new
+        ≡ removed_if (is_at (K.cmp key.now)) (option_map (λ p. p.1) result) (entries tree.old) }
+    ensures balanced { IsBalanced tree.new }
+    ensures found { option_map (λ p. p.1) result
+        ≡ lookup_if (is_at (K.cmp key.now)) (T.passed test.now key.now) (entries tree.old) }
+    ensures spare { IfSome result (λ p. p.0.value ≡ Spare) }
+    ensures counted { RaisedByAtMost (height tree.old) count.old count.new }
 {
     match tree {
-        Tree::Leaf => (Tree::Leaf, None),
-        Tree::Fork(mut top) => if top.is_high() {
-            let mut found = Tree::Leaf;
-            let mut compared = 0;
-            let _changed = remove_below(&mut top, key, &mut compared, &mut found, test);
-            *count = count.saturating_add(compared);
-            let removed = taken(found);
-            (Tree::Fork(top), removed)
-        } else {
-            let mut compared = 0;
-            let left = remove_single(top, key, &mut compared, test);
-            *count = count.saturating_add(compared);
-            left
-        },
+        Tree::Leaf => None,
+        Tree::Fork(top) => {
+            if !top.is_high() {
+                return remove_single(tree, key, count, test);
+            }
+            remove_within(top, key, count, test)
+        }
     }
 }
 
@@ -587,24 +630,23 @@ impl<K, V> Test<K, V> for Always {
     }
 }
 
-// Returns the tree without the key, and the removed value with a spare box, if the key was there.
+// Removes the key from a tree, if it is there. Returns the removed value with a spare box.
 pub(crate) fn remove<K: Ord, V>(
-    tree: Tree<K, V>,
+    tree: &mut Tree<K, V>,
     key: &K,
     count: &mut u64,
-) -> (Tree<K, V>, Option<(Box<Node<K, V>>, V)>)
+) -> Option<(Box<Node<K, V>>, V)>
 where
     K: Drop,
     V: Drop,
-    requires balanced { IsBalanced tree }
-    requires in_order { InOrder K.cmp (entries tree) }
-    requires fits { height tree < 200 }
-    ensures is { entries result.0 ≡ remove_entry (is_at (K.cmp key.now)) (entries tree) }
-    ensures balanced { IsBalanced result.0 }
-    ensures found { option_map (λ p. p.1) result.1
-        ≡ lookup (is_at (K.cmp key.now)) (entries tree) }
-    ensures spare { IfSome result.1 (λ p. p.0.value ≡ Spare) }
-    ensures counted { RaisedByAtMost (height tree) count.old count.new }
+    requires balanced { IsBalanced tree.old }
+    requires in_order { InOrder K.cmp (entries tree.old) }
+    requires fits { height tree.old < 200 }
+    ensures is { entries tree.new ≡ remove_entry (is_at (K.cmp key.now)) (entries tree.old) }
+    ensures balanced { IsBalanced tree.new }
+    ensures found { option_map (λ p. p.1) result ≡ lookup (is_at (K.cmp key.now)) (entries tree.old) }
+    ensures spare { IfSome result (λ p. p.0.value ≡ Spare) }
+    ensures counted { RaisedByAtMost (height tree.old) count.old count.new }
 {
     remove_if(tree, key, count, &Always)
 }

@@ -180,8 +180,7 @@ impl<K: Ord + Drop, V: Drop> Shelf<K, V> {
         tree::keep(&mut self.spares, spares);
         self.spare -= 1; // the box of the entry to come
         tree::fill(&mut *node, Node::Alone { key, value });
-        let tree = mem::replace(&mut self.tree, Tree::Leaf);
-        self.tree = insert::insert(tree, node, &mut self.comparisons);
+        insert::insert(&mut self.tree, node, &mut self.comparisons);
         self.len += 1;
     }
 
@@ -210,10 +209,7 @@ impl<K: Ord + Drop, V: Drop> Shelf<K, V> {
         ensures ordered { InOrder K.cmp self.old.entries }
         ensures comparisons { ComparesFew self.old self.new }
     {
-        let tree = mem::replace(&mut self.tree, Tree::Leaf);
-        let (tree, found) = remove::remove_if(tree, key, &mut self.comparisons, test);
-        self.tree = tree;
-        let (node, value) = found?;
+        let (node, value) = remove::remove_if(&mut self.tree, key, &mut self.comparisons, test)?;
         self.len -= 1;
         let spares = mem::replace(&mut self.spares, Tree::Leaf);
         tree::keep(&mut self.spares, tree::link(node, spares));
@@ -318,46 +314,44 @@ impl<K: Ord + Drop, V: Drop> Shelf<K, V> {
 
     // From here to `lowest_from`: what the trees of `Shelves` need, which have the boxes and the count
     // of comparisons of a shelf in common. Adds an entry to a tree; it takes a spare box.
-    pub(crate) fn insert_into(&mut self, tree: Tree<K, V>, key: K, value: V) -> Tree<K, V>
+    pub(crate) fn insert_into(&mut self, tree: &mut Tree<K, V>, key: K, value: V)
         requires spare { 0 < self.old.spare }
-        requires balanced { IsBalanced tree }
-        requires in_order { InOrder K.cmp (entries tree) }
-        requires fits { length (entries tree) < 2 ^ 64 }
-        requires absent { lookup (is_at (K.cmp key)) (entries tree) ≡ None }
-        ensures is { entries result ≡ insert_entry K.cmp (entries tree) key value }
-        ensures balanced { IsBalanced result }
+        requires balanced { IsBalanced tree.old }
+        requires in_order { InOrder K.cmp (entries tree.old) }
+        requires fits { length (entries tree.old) < 2 ^ 64 }
+        requires absent { lookup (is_at (K.cmp key)) (entries tree.old) ≡ None }
+        ensures is { entries tree.new ≡ insert_entry K.cmp (entries tree.old) key value }
+        ensures balanced { IsBalanced tree.new }
         ensures entries { self.new.entries ≡ self.old.entries }
         ensures spare { self.new.spare + 1 ≡ self.old.spare }
-        ensures comparisons { ComparesFewIn (entries tree) self.old self.new }
+        ensures comparisons { ComparesFewIn (entries tree.old) self.old self.new }
     {
         let (mut node, spares) = tree::unlink(mem::replace(&mut self.spares, Tree::Leaf));
         tree::keep(&mut self.spares, spares);
         self.spare -= 1; // the box for the tree
         tree::fill(&mut *node, Node::Alone { key, value });
-        insert::insert(tree, node, &mut self.comparisons)
+        insert::insert(tree, node, &mut self.comparisons);
     }
 
     // Removes the entry of a key from a tree and returns its value, if there is one. Its box becomes
     // spare.
-    pub(crate) fn remove_from(&mut self, tree: Tree<K, V>, key: &K) -> (Tree<K, V>, Option<V>)
-        requires balanced { IsBalanced tree }
-        requires in_order { InOrder K.cmp (entries tree) }
-        requires fits { length (entries tree) + length self.old.entries + self.old.spare < 2 ^ 64 }
-        ensures value { result.1 ≡ lookup (is_at (K.cmp key.now)) (entries tree) }
-        ensures is { entries result.0 ≡ remove_entry (is_at (K.cmp key.now)) (entries tree) }
-        ensures balanced { IsBalanced result.0 }
+    pub(crate) fn remove_from(&mut self, tree: &mut Tree<K, V>, key: &K) -> Option<V>
+        requires balanced { IsBalanced tree.old }
+        requires in_order { InOrder K.cmp (entries tree.old) }
+        requires fits { length (entries tree.old) + length self.old.entries + self.old.spare
+            < 2 ^ 64 }
+        ensures value { result ≡ lookup (is_at (K.cmp key.now)) (entries tree.old) }
+        ensures is { entries tree.new ≡ remove_entry (is_at (K.cmp key.now)) (entries tree.old) }
+        ensures balanced { IsBalanced tree.new }
         ensures entries { self.new.entries ≡ self.old.entries }
-        ensures spare { self.new.spare ≡ self.old.spare + (if is_some result.1 then 1 else 0) }
-        ensures comparisons { ComparesFewIn (entries tree) self.old self.new }
+        ensures spare { self.new.spare ≡ self.old.spare + (if is_some result then 1 else 0) }
+        ensures comparisons { ComparesFewIn (entries tree.old) self.old self.new }
     {
-        let (tree, found) = remove::remove(tree, key, &mut self.comparisons);
-        let Some((node, value)) = found else {
-            return (tree, None);
-        };
+        let (node, value) = remove::remove(tree, key, &mut self.comparisons)?;
         let spares = mem::replace(&mut self.spares, Tree::Leaf);
         tree::keep(&mut self.spares, tree::link(node, spares));
         self.spare += 1; // the box from the tree
-        (tree, Some(value))
+        Some(value)
     }
 
     // Returns the lowest key in a tree that is `key` or above.

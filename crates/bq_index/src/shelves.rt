@@ -93,8 +93,8 @@ fn insert_at<K: Parted + Drop, V: Drop>(
     ensures spare { rest.new.spare + 1 ≡ rest.old.spare }
     ensures comparisons { ComparesFewIn (entries_over trees.old.items) rest.old rest.new }
 {
-    let tree = exchange(trees, at, Tree::Leaf);
-    let tree = rest.insert_into(tree, key, value);
+    let mut tree = exchange(trees, at, Tree::Leaf);
+    rest.insert_into(&mut tree, key, value);
     // Nothing is there, so there is nothing to drop.
     let leaf = exchange(trees, at, tree);
     mem::forget(leaf);
@@ -121,8 +121,8 @@ fn remove_at<K: Parted + Drop, V: Drop>(
     ensures spare { rest.new.spare ≡ rest.old.spare + (if is_some result then 1 else 0) }
     ensures comparisons { ComparesFewIn (entries_over trees.old.items) rest.old rest.new }
 {
-    let tree = exchange(trees, at, Tree::Leaf);
-    let (tree, value) = rest.remove_from(tree, key);
+    let mut tree = exchange(trees, at, Tree::Leaf);
+    let value = rest.remove_from(&mut tree, key);
     // Nothing is there, so there is nothing to drop.
     let leaf = exchange(trees, at, tree);
     mem::forget(leaf);

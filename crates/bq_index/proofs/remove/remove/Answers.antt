@@ -9,7 +9,7 @@ pub returns-clause-is : goal.returns-clause-is
 returns-clause-is g c =
     let test = is_at (g.K.Ord.cmp c.args.key.now) in
     c.remove_if.ensures.is
-    ∙ all_removed test (entries c.args.tree) _ (c.remove_if.ensures.found ∙ all_pass (lookup test (entries c.args.tree)))
+    ∙ all_removed test (entries c.args.tree.now) _ (c.remove_if.ensures.found ∙ all_pass (lookup test (entries c.args.tree.now)))
 
 pub returns-clause-found : goal.returns-clause-found
-returns-clause-found g c = c.remove_if.ensures.found ∙ all_pass (lookup (is_at (g.K.Ord.cmp c.args.key.now)) (entries c.args.tree))
+returns-clause-found g c = c.remove_if.ensures.found ∙ all_pass (lookup (is_at (g.K.Ord.cmp c.args.key.now)) (entries c.args.tree.now))

@@ -2,40 +2,40 @@ use Rattle.std.proofs.Common.{arith, ◌∙◌}
 use Rattle.bq_index.proofs.Spread.{spread_inserted, tree_balanced, tree_few, tree_fewer, tree_in_order, tree_inserted, tree_lookup}
 use Rattle.bq_index.proofs.shelves.insert_at.Goals as goal
 
-pub insert_into-tree-requires-clause-balanced : goal.insert_into-tree-requires-clause-balanced
-insert_into-tree-requires-clause-balanced g c =
+pub insert_into-requires-clause-balanced : goal.insert_into-requires-clause-balanced
+insert_into-requires-clause-balanced g c =
     tree_balanced g.met.K.Ord.total g.K.Parted.part g.met.K.Parted.apart c.args.trees.now.items c.requires.spread c.requires.at
     c.exchange-tree.ensures.value
 
-pub insert_into-tree-requires-clause-in_order : goal.insert_into-tree-requires-clause-in_order
-insert_into-tree-requires-clause-in_order g c =
+pub insert_into-requires-clause-in_order : goal.insert_into-requires-clause-in_order
+insert_into-requires-clause-in_order g c =
     tree_in_order g.met.K.Ord.total g.K.Parted.part g.met.K.Parted.apart c.args.trees.now.items c.requires.spread c.requires.at
     c.exchange-tree.ensures.value
 
-pub insert_into-tree-requires-clause-fits : goal.insert_into-tree-requires-clause-fits
-insert_into-tree-requires-clause-fits g c =
+pub insert_into-requires-clause-fits : goal.insert_into-requires-clause-fits
+insert_into-requires-clause-fits g c =
     let fewer = tree_fewer g.met.K.Ord.total g.K.Parted.part g.met.K.Parted.apart c.args.trees.now.items c.requires.spread c.requires.at
     c.exchange-tree.ensures.value in
     omega (arith, fewer, c.requires.fits)
 
-pub insert_into-tree-requires-clause-absent : goal.insert_into-tree-requires-clause-absent
-insert_into-tree-requires-clause-absent g c =
+pub insert_into-requires-clause-absent : goal.insert_into-requires-clause-absent
+insert_into-requires-clause-absent g c =
     tree_lookup g.met.K.Ord.total g.K.Parted.part g.met.K.Parted.apart c.args.trees.now.items c.requires.spread c.requires.at
     c.exchange-tree.ensures.value c.args.key (omega (arith, c.requires.part)) ∙ c.requires.absent
 
 pub returns-clause-is : goal.returns-clause-is
 returns-clause-is g c =
     tree_inserted g.met.K.Ord.total g.K.Parted.part g.met.K.Parted.apart c.args.trees.now.items c.requires.spread c.requires.at
-    c.exchange-tree.ensures.value c.args.key (omega (arith, c.requires.part)) c.insert_into-tree.result c.exchange-tree.ensures.after
-    c.exchange-leaf.ensures.after c.args.value c.insert_into-tree.ensures.is
+    c.exchange-tree.ensures.value c.args.key (omega (arith, c.requires.part)) c.insert_into.new.tree c.exchange-tree.ensures.after
+    c.exchange-leaf.ensures.after c.args.value c.insert_into.ensures.is
 
 pub returns-clause-spread : goal.returns-clause-spread
 returns-clause-spread g c =
     spread_inserted g.met.K.Ord.total g.K.Parted.part g.met.K.Parted.apart c.args.trees.now.items c.requires.spread c.requires.at
-    c.exchange-tree.ensures.value c.args.key (omega (arith, c.requires.part)) c.insert_into-tree.result c.exchange-tree.ensures.after
-    c.exchange-leaf.ensures.after c.args.value c.insert_into-tree.ensures.balanced c.insert_into-tree.ensures.is
+    c.exchange-tree.ensures.value c.args.key (omega (arith, c.requires.part)) c.insert_into.new.tree c.exchange-tree.ensures.after
+    c.exchange-leaf.ensures.after c.args.value c.insert_into.ensures.balanced c.insert_into.ensures.is
 
 pub returns-clause-comparisons : goal.returns-clause-comparisons
 returns-clause-comparisons g c =
     tree_few g.met.K.Ord.total g.K.Parted.part g.met.K.Parted.apart c.args.trees.now.items c.requires.spread c.requires.at
-    c.exchange-tree.ensures.value c.insert_into-tree.ensures.comparisons
+    c.exchange-tree.ensures.value c.insert_into.ensures.comparisons
