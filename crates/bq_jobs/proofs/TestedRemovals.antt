@@ -60,7 +60,8 @@ module _ (k : Numbering) (id : ℕ) (rows : List Job) (p : Job → Bool) where
       ∙ ap (option_map removed_from) (sym (passing_named k p no_tube id rows))
 
   pub number_removed_if : AreRegistered k rows
-      → IfSome (option_map (removed_told k) (option_map numbered_removal (passing p (job_with id rows)))) (λ r. HasNumber r.1.tube r.0 k.numbers)
+      → IfSome (option_map (removed_told k) (option_map numbered_removal (passing p (job_with id rows))))
+      (λ r. HasNumber r.1.tube r.0 k.numbers)
   number_removed_if h =
       number_removed k h.paired (passing p (job_with id rows)) (passing_numbered k p (job_with id rows)
       (numbered_found k id rows h.numbered))

@@ -147,7 +147,8 @@ shared_body E f None s h j e = absurd h
 shared_body E f (Some k) s h j e = let is : k ≡ j = (cc) in h.1 ∙ ap (λ (i : Job). i.body) is
 
 -- whether there is a job
-some_told : {E : Type 0} (f : Job → Job) (o : Option Job) (r : Option (Result (NumberedMove × List ℕ) E)) → Told f o r → is_some r ≡ is_some o
+some_told : {E : Type 0} (f : Job → Job) (o : Option Job) (r : Option (Result (NumberedMove × List ℕ) E)) → Told f o r
+    → is_some r ≡ is_some o
 some_told f None None h = refl
 some_told f None (Some r) h = absurd h
 some_told f (Some j) None h = absurd h

@@ -16,7 +16,8 @@ abbrev pub moved_told : Numbering → NumberedMove → List ℕ × Moved
 moved_told k m = (m.tube, record { tube = unwrap_or (name_of (number_in m.tube) k) []; from = m.from; to = m.to })
 
 -- the same for a change that may not have been made, with the body
-abbrev pub shared_told : {E : Type 0} → Numbering → Option (Result (NumberedMove × List ℕ) E) → Option (Result ((List ℕ × Moved) × List ℕ) E)
+abbrev pub shared_told : {E : Type 0} → Numbering → Option (Result (NumberedMove × List ℕ) E)
+    → Option (Result ((List ℕ × Moved) × List ℕ) E)
 shared_told k None = None
 shared_told k (Some (Err e)) = Some (Err e)
 shared_told k (Some (Ok s)) = Some (Ok (moved_told k s.0, s.1))
