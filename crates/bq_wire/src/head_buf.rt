@@ -57,6 +57,22 @@ impl HeadBuf {
         self.len = 0;
     }
 
+    /// Appends bytes, of which there are mostly few: up to four are copied without a call.
+    pub fn push_few(&mut self, more: &[u8])
+        requires { length self.old + length more.now ≤ 256 }
+        ensures { self.new ≡ self.old ++ more.now }
+    {
+        match more {
+            [a] => self.push(&[*a]),
+            [a, b] => self.push(&[*a, *b]),
+            [a, b, c] => self.push(&[*a, *b, *c]),
+            [a, b, c, d] => self.push(&[*a, *b, *c, *d]),
+            [a, b, c, d, e] => self.push(&[*a, *b, *c, *d, *e]),
+            [a, b, c, d, e, f] => self.push(&[*a, *b, *c, *d, *e, *f]),
+            _ => self.push(more),
+        }
+    }
+
     /// Appends bytes. The caller ensures that they fit.
     #[inline]
     pub fn push(&mut self, more: &[u8])

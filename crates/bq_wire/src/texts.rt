@@ -14,7 +14,7 @@ fn push_number(head: &mut HeadBuf, n: u64)
     ensures short { length head.new ≤ length head.old + 20 }
 {
     let mut digits = Buffer::new();
-    head.push(digits.format(n).as_bytes());
+    head.push_few(digits.format(n).as_bytes());
 }
 
 // A word, a number and CR LF.
@@ -89,6 +89,11 @@ pub fn answer_head(answer: &Answer, head: &mut HeadBuf)
         Answer::Using(tube) => using_head(head, tube.as_slice()),
         Answer::Watching(count) => number_head(head, b"WATCHING ", *count),
         Answer::KickedCount(count) => number_head(head, b"KICKED ", *count),
+        // The most frequent one of the others. Its length is known here, so that no call copies it.
+        Answer::Deleted => {
+            head.clear();
+            head.push(b"DELETED\r\n");
+        }
         _ => {
             head.clear();
             head.push(word(answer));
