@@ -308,6 +308,7 @@ impl SeatMachine {
     }
 
     /// The whole answer was written.
+    #[inline(always)]
     pub fn write_done(&mut self, alloc: Global, next: &mut NextAction)
         ensures { IsMove self.old Event.WriteDone next.new self.new }
     {

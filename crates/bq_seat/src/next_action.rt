@@ -185,14 +185,15 @@ impl NextAction {
     }
 }
 
-// Makes the step a request. Which one has no meaning.
+// Makes the step a request. Which one has no meaning. Another step is replaced by a call, because the
+// caller would otherwise initialize room for a step on every path.
 #[inline(always)]
 fn make_ask(step: &mut Step)
     requires { has_body step.old ≡ false }
     ensures { is_ask step.new ≡ true }
 {
     if !matches!(step, Step::Ask(_)) {
-        *step = Step::Ask(Request::Quit);
+        drop_step(step);
     }
 }
 
