@@ -93,7 +93,8 @@ pub record IsStagedMove (old : SeatMachine) (event : Event) (action : Action) (n
 pub record IsTaken (old new : ReaderState) (bytes : List ℕ) (taken : Taken) (place : Request) : Type 0 where
   pub within : taken.count ≤ length bytes
   pub waits : request_in taken place ≡ None → (text : List ℕ) → Stands old text → Waits new text bytes taken.count
-  pub hands_out : IfSome (request_in taken place) (λ asked. (text : List ℕ) → Stands old text → HandsRequest new text bytes taken.count asked)
+  pub hands_out : IfSome (request_in taken place)
+      (λ asked. (text : List ℕ) → Stands old text → HandsRequest new text bytes taken.count asked)
   pub missing : TakesMissing old.place bytes taken.count
   pub limit : new.max_job_size ≡ old.max_job_size
 

@@ -88,7 +88,7 @@ impl NextAction {
 
     /// Returns the step that the action submits. It has no meaning if the action submits none.
     #[inline(always)]
-    pub fn step(&self) -> &Step
+    pub(crate) fn step(&self) -> &Step
         ensures { (step : Step) → self.now ≡ Action.Submit step → result.now ≡ step }
     {
         &self.step
@@ -113,7 +113,7 @@ impl NextAction {
     }
 
     /// Returns the action.
-    pub fn into_action(self) -> Action
+    pub(crate) fn into_action(self) -> Action
         ensures { result ≡ self }
     {
         match self.does {
