@@ -45,7 +45,8 @@ none_taken seen size old new door next before got grows h =
 -- The seat moved to another place, with what was submitted and taken for its open connection so far.
 moves_to : {L : Type 0} (seen : L → LineSeen) (size : ℕ) (old : Attendant L) (new : SeatMachine) (place : LinePlace L)
     (door next : DoorSeen) (before : List Step) (got : List Answer) → (t : IsTended seen size old door before got)
-    → next.lines_over ≡ door.lines_over → over_now old.place ≤ over_now place → IsAt seen size new place t.attends.now t.attends.getting → IsPlaced place next
+    → next.lines_over ≡ door.lines_over → over_now old.place ≤ over_now place
+    → IsAt seen size new place t.attends.now t.attends.getting → IsPlaced place next
     → IsTended seen size (attendant new place) next (before ++ []) (got ++ []) × IsCounted old door [] (attendant new place) next
 moves_to seen size old new place door next before got t over grows at placed =
     let a = t.attends in

@@ -323,12 +323,38 @@ impl<L: Line + Drop> Attendant<L> {
                 Does::Submit => submit_and_take(alloc, &mut self.machine, action, sent, link),
                 _ => carry_out(alloc, &mut self.machine, action, sent, line, link, buffers),
             },
+            _ => self.go_on_without(alloc, door, link),
+        }
+    }
+
+    // Does the same for a seat that has no connection.
+    #[inline(never)]
+    fn go_on_without<D: Door<Line = L>, K: Link>(
+        &mut self,
+        alloc: Global,
+        door: &mut D,
+        link: &mut K,
+    ) -> Progress
+        requires placed { IsPlaced self.old.place
+            (door_seen D.is_out D.is_at_end D.lines_over door.old) }
+        requires ready { K.is_ready link.old }
+        requires without { (line : L) (action : Action) (sent : ℕ) → self.old.place ≡ LinePlace.On line action sent → ⊥ }
+        ensures ready { K.is_ready link.new }
+        ensures progress { MayEndAt result self.old.place }
+        ensures still { (result ≡ Progress.Moved → ⊥) → Calls K.went link.old [] [] link.new }
+        ensures went { let at = door_seen D.is_out D.is_at_end D.lines_over in
+            GoesOn K.went link.old link.new L.seen self.old (at door.old) self.new (at door.new) }
+        ensures sure { StaysSure L.lies_over D.lines_over D.may_fail self.old.place door.old self.new.place door.new }
+        ensures same { (first : D) → D.same first door.old → D.same first door.new }
+    {
+        match &mut self.place {
             LinePlace::Between => {
                 open_in_place(alloc, &mut self.machine, &mut self.place, door);
                 Progress::Moved
             }
             LinePlace::Leaving => leave(&mut self.place, link),
             LinePlace::Done => Progress::NothingToDo,
+            LinePlace::On(..) => Progress::NothingToDo,
         }
     }
 }

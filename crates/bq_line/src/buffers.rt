@@ -152,7 +152,19 @@ fn append(head: &mut HeadBuf, body: &[u8], tail: &[u8])
         return;
     }
     head.push(body);
-    head.push(tail);
+    push_tail(head, tail);
+}
+
+// Appends the tail to the head. Mostly it has two bytes, which are copied without a call.
+#[inline(always)]
+fn push_tail(head: &mut HeadBuf, tail: &[u8])
+    requires { length head.old + length tail.now ≤ 256 }
+    ensures { head.new ≡ head.old ++ tail.now }
+{
+    match tail {
+        [first, second] => head.push(&[*first, *second]),
+        _ => head.push(tail),
+    }
 }
 
 // Most other texts are joined in the room. A longer one is written from where its parts are, since
@@ -355,6 +367,7 @@ fn put(room: &mut [u8], at: usize, bytes: &[u8]) -> usize
 
 // Writes the bytes after the first `sent`, until all are written, there is no room yet, or a write
 // fails.
+#[inline(always)]
 fn write_rest<L: Line>(line: &mut L, bytes: &[u8], sent: &mut usize) -> Wrote
     ensures text { Resumes bytes.now sent.old (L.seen line.old) result sent.new (L.seen line.new) }
     ensures stays { StaysOver L.lies_over line.old line.new }

@@ -230,6 +230,7 @@ impl<S: Socket> Duplex for Connection<S> {
         read_once(&mut self.stream, buf)
     }
 
+    #[inline(always)]
     fn write(&mut self, buf: &[u8]) -> Result<usize, StreamError>
         ensures bytes { WritesTo (S.contents self.old.stream) (S.contents self.new.stream) result buf.now }
         ensures apart { Keeps (S.remaining self.old.stream) (S.remaining self.new.stream) }

@@ -137,6 +137,7 @@ impl<S: Duplex> Line for IoLine<S> {
 
     fn take_unread(&mut self, _count: usize) {}
 
+    #[inline(always)]
     fn write(&mut self, buf: &[u8]) -> Result<usize, StreamError>
         requires { 0 < length buf.now }
         ensures seen { ⟦<IoLine<S> as Line>⟧.seen self.new
@@ -326,6 +327,7 @@ impl<S: Duplex> Line for BufferedLine<S> {
         self.came.drop_front(count);
     }
 
+    #[inline(always)]
     fn write(&mut self, buf: &[u8]) -> Result<usize, StreamError> {
         self.line.write(buf)
     }

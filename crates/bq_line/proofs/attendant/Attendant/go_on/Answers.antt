@@ -2,13 +2,9 @@ use Rattle.std.proofs.Common.{[], ◌∙◌, ap, refl, inl, inr}
 use Rattle.bq_seat.specs.NextActions.{does_of}
 use Rattle.bq_line.specs.Tending.{door_seen}
 use Rattle.bq_line.proofs.CarriedLemmas.{ends_on, ends_submission, rests, rests_submission}
-use Rattle.bq_line.proofs.TendingLemmas.{from_place, on_action, tends_acted, tends_still, tends_submitted}
-use Rattle.bq_line.proofs.SureLemmas.{sure_further, sure_left}
+use Rattle.bq_line.proofs.TendingLemmas.{from_place, on_action, tends_acted, tends_submitted}
+use Rattle.bq_line.proofs.SureLemmas.{sure_further}
 use Rattle.bq_line.proofs.attendant.Attendant.go_on.Goals as goal
-
-pub returns-in-Between-clause-went : goal.returns-in-Between-clause-went
-returns-in-Between-clause-went g c =
-    from_place g.K.Link.went _ _ c.in-Between.is ([], [], inr (refl, refl, refl), c.open_in_place.ensures.went)
 
 pub returns-in-LineOver-clause-went : goal.returns-in-LineOver-clause-went
 returns-in-LineOver-clause-went g c =
@@ -29,31 +25,21 @@ returns-in-Submit-clause-went g c =
           new.sent h.0 h.1 at c.submit_and_take.ensures.none_sent h.3,
     )
 
-pub returns-in_default-clause-went : goal.returns-in_default-clause-went
-returns-in_default-clause-went g c =
+pub returns-in_default-does-clause-went : goal.returns-in_default-does-clause-went
+returns-in_default-does-clause-went g c =
     let at = door_seen g.D.Door.is_out g.D.Door.is_at_end g.D.Door.lines_over c.args.door.now in
     let h = c.carry_out.ensures.carried in
     let t = tends_acted g.K.Link.went _ _ _ g.L.Line.seen _ _ c.in-On.line c.carry_out.new.line _ _ c.in-On.sent c.carry_out.new.sent
     h.0 h.1 h.2 h.3 in
     from_place g.K.Link.went _ _ c.in-On.is (h.0, h.1, t.0, t.1 at)
 
-pub returns-in-Done-clause-went : goal.returns-in-Done-clause-went
-returns-in-Done-clause-went g c =
-    let at = door_seen g.D.Door.is_out g.D.Door.is_at_end g.D.Door.lines_over in
-    ([], [], inr (refl {a = c.args.link.now}, refl, refl), tends_still g.L.Line.seen c.args.self.now (at c.args.door.now))
-
-pub returns-in-Leaving-clause-went : goal.returns-in-Leaving-clause-went
-returns-in-Leaving-clause-went g c =
-    let at = door_seen g.D.Door.is_out g.D.Door.is_at_end g.D.Door.lines_over in
-    c.leave.ensures.went c.args.self.now.machine (at c.args.door.now)
-
-pub returns-in_default-clause-progress : goal.returns-in_default-clause-progress
-returns-in_default-clause-progress g c =
+pub returns-in_default-does-clause-progress : goal.returns-in_default-does-clause-progress
+returns-in_default-does-clause-progress g c =
     ends_on _ _ c.in-On.line c.in-On.action c.in-On.sent c.in-On.is
-    (λ end is. c.in_default.not-LineOver end (c.does.ensures.does ∙ ap does_of is)) c.carry_out.ensures.carried.3.0.can_end
+    (λ end is. c.in_default-does.not-LineOver end (c.does.ensures.does ∙ ap does_of is)) c.carry_out.ensures.carried.3.0.can_end
 
-pub returns-in_default-clause-still : goal.returns-in_default-clause-still
-returns-in_default-clause-still g c = λ moved.
+pub returns-in_default-does-clause-still : goal.returns-in_default-does-clause-still
+returns-in_default-does-clause-still g c = λ moved.
     let h = c.carry_out.ensures.carried in
     rests g.K.Link.went _ _ _ c.in-On.action h.0 h.1 h.2 h.3.1 h.3.0 moved
 
@@ -71,36 +57,14 @@ returns-in-Submit-clause-still g c = λ moved.
 pub returns-in-LineOver-clause-progress : goal.returns-in-LineOver-clause-progress
 returns-in-LineOver-clause-progress g c = rw (on_action c.in-On.is c.in-LineOver.ensures.action) refl
 
-pub returns-in-Between-clause-progress : goal.returns-in-Between-clause-progress
-returns-in-Between-clause-progress g c = rw c.in-Between.is refl
-
-pub returns-in-Done-clause-progress : goal.returns-in-Done-clause-progress
-returns-in-Done-clause-progress g c = rw c.in-Done.is refl
-
-pub returns-in-Leaving-clause-still : goal.returns-in-Leaving-clause-still
-returns-in-Leaving-clause-still g c = λ moved. inl (c.leave.ensures.still moved)
-
-pub returns-in-Done-clause-still : goal.returns-in-Done-clause-still
-returns-in-Done-clause-still g c = λ moved. inr (refl, refl, refl)
-
-pub returns-in-Between-clause-sure : goal.returns-in-Between-clause-sure
-returns-in-Between-clause-sure g c = λ never sure.
-    c.open_in_place.ensures.sure never (rw c.in-Between.is at sure)
-
 pub returns-in-LineOver-clause-sure : goal.returns-in-LineOver-clause-sure
 returns-in-LineOver-clause-sure g c = λ never sure.
     c.shut_line.ensures.sure never (rw c.in-On.is at sure)
 
-pub returns-in_default-clause-sure : goal.returns-in_default-clause-sure
-returns-in_default-clause-sure g c = λ never sure.
+pub returns-in_default-does-clause-sure : goal.returns-in_default-does-clause-sure
+returns-in_default-does-clause-sure g c = λ never sure.
     sure_further g.L.Line.lies_over _ c.in-On.line c.carry_out.new.line _ _ _ _ _ c.in-On.is c.carry_out.ensures.stays sure
 
 pub returns-in-Submit-clause-sure : goal.returns-in-Submit-clause-sure
 returns-in-Submit-clause-sure g c = λ never sure.
     sure_further g.L.Line.lies_over _ c.in-On.line c.in-On.line _ _ _ _ _ c.in-On.is (λ first over. over) sure
-
-pub returns-in-Leaving-clause-sure : goal.returns-in-Leaving-clause-sure
-returns-in-Leaving-clause-sure g c = λ never sure. sure_left g.L.Line.lies_over _ _ _ c.leave.ensures.left sure
-
-pub returns-in-Done-clause-sure : goal.returns-in-Done-clause-sure
-returns-in-Done-clause-sure g c = λ never sure. sure
