@@ -144,6 +144,7 @@ impl Order {
     }
 
     // Lets one free seat check for a connection, if one may have come. Otherwise the visits begin.
+    #[inline(always)]
     fn look_at_next<L: Line>(
         &mut self,
         seats: &Snapshot<Vec<Attendant<L>, Global>>,
