@@ -26,7 +26,7 @@ use bq_host::Hub;
 use bq_host::hub_seat::attend;
 use bq_job::Seat;
 use bq_line::Door;
-use bq_line::attendant::{LinePlace, Progress};
+use bq_line::attendant::{Attendant, LinePlace, Progress};
 use bq_line::buffers::Buffers;
 use bq_line::clock::Clock;
 use bq_line::control_line::ControlInput;
@@ -262,8 +262,31 @@ fn may_act<L: Line + Drop, D: Door<Line = L>>(row: &Row<L, D>, seat: usize, exte
     ensures line { result ≡ true → (a : Attendant L) → (slice_index_or row.now.seats.items seat a).place ≡ places.Between → ⊥ }
 {
     match row.seats.get(seat) {
-        Some(seat) => goes_with(extent, stands_of(seat)),
+        Some(seat) => acts(seat, extent),
         None => false,
+    }
+}
+
+// Returns true if a seat acts in a turn of this extent. Mostly its connection has bytes, or it has a
+// command already.
+#[inline(always)]
+fn acts<L: Line + Drop>(seat: &Attendant<L>, extent: Extent) -> bool
+    ensures line { result ≡ true → seat.now.place ≡ places.Between → ⊥ }
+{
+    if extent == Extent::Command && has_command(seat) {
+        return true;
+    }
+    goes_with(extent, stands_of(seat))
+}
+
+// Returns true if a seat has a command that is under way, or bytes of its connection may have come.
+#[inline(always)]
+fn has_command<L: Line + Drop>(seat: &Attendant<L>) -> bool
+    ensures line { result ≡ true → seat.now.place ≡ places.Between → ⊥ }
+{
+    match &seat.place {
+        LinePlace::On(line, action, _) => !action.is_read() || line.may_give(),
+        _ => false,
     }
 }
 
