@@ -12,6 +12,7 @@ use Rattle.bq_line.specs.Tending.{AreSame, DoorSeen, IsNewDoor, IsNewSeat, IsPla
 use Rattle.bq_line.specs.declared.attendant.Attendant.{Attendant}
 use Rattle.bq_line.proofs.TendingLemmas.{tended_new, tends_still}
 use Rattle.bq_event_loop.specs.Meanings.{Door, Line, at}
+use Rattle.bq_event_loop.specs.Still.{IsStill}
 use Rattle.bq_event_loop.specs.Rows.{AllRested, AllTended, IsSomehowTended}
 use Rattle.bq_event_loop.specs.declared.row.Row.{Row}
 
@@ -26,6 +27,12 @@ tends_then seen a b c at_a at_b at_c h k size before got t =
       rw (append-nil (before ++ []), append-nil (got ++ [])) at y.0,
       record { grows = omega arith; unclosed = λ p. refl },
     )
+
+-- A seat that was changed is still.
+pub still_there : {L : Type 0} (l : Line L) (seats : List (Attendant L)) (i : ℕ) (new a : Attendant L) (mail : List Answer)
+    → i < length seats → IsStill l new mail → IsStill l (slice_index_or (slice_set seats i new) i a) mail
+still_there l seats i new a mail below still =
+    subst (λ z. IsStill l z mail) (sym (get_or-set_same seats i new a below)) still
 
 somehow_on : {L : Type 0} (l : Line L) (a b : Attendant L) (at_a at_b : DoorSeen) (submitted : List Step) (taken : List Answer)
     → Tends l.seen a at_a submitted taken b at_b → IsSomehowTended l a at_a → IsSomehowTended l b at_b

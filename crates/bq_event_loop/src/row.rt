@@ -4,7 +4,7 @@ ghost use Rattle.bq_job.specs.declared.answer.Answer.{Answer};
 ghost use Rattle.bq_event_loop.specs.Still.{IsStill};
 ghost use Rattle.bq_line.specs.Tending.{IsPlaced, Tends, door_seen};
 
-use crate::still::{is_still, stands_of};
+use crate::still::{is_still, rests, stands_of};
 use crate::turns::Stands;
 use bq_line::attendant::{Attendant, LinePlace, Looked};
 use bq_line::line::{Line, ReadBuffer, Readiness};
@@ -48,16 +48,6 @@ impl<L: Line + Drop, D: Door<Line = L>> Row<L, D> {
     pub fn tries_again(&self, seat: usize) -> bool {
         match self.seats.get(seat) {
             Some(seat) => seat.tries_again(),
-            None => false,
-        }
-    }
-
-    /// Returns true if a seat reads a command, and no bytes have come as far as its connection knows.
-    pub fn awaits(&self, seat: usize) -> bool
-        ensures { result ≡ true → (mail : List Answer) (a : Attendant L) → IsStill L.Line (slice_index_or self.now.seats.items seat a) mail }
-    {
-        match self.seats.get(seat) {
-            Some(seat) => awaits(seat),
             None => false,
         }
     }
@@ -150,6 +140,22 @@ impl<L: Line + Drop, D: Door<Line = L>> Row<L, D> {
         }
     }
 
+    /// Returns true if a seat reads a command, and no bytes have come as far as its connection knows,
+    /// which then sends what it holds back.
+    #[inline(always)]
+    pub fn rests(&mut self, seat: usize) -> bool
+        requires tended { AreTended L.Line D.Door self.old }
+        ensures keeps { KeepsRow L.Line D.Door self.old self.new }
+        ensures only { ChangesOnly seat self.old.seats.items self.new.seats.items }
+        ensures still { result ≡ true → (mail : List Answer) (a : Attendant L)
+            → IsStill L.Line (slice_index_or self.new.seats.items seat a) mail }
+    {
+        if seat < self.seats.len() {
+            return rests(&mut self.seats[seat]);
+        }
+        false
+    }
+
     /// Sends what the connection of a seat holds back in the expectation of more answers.
     pub fn hand_on(&mut self, seat: usize)
         requires tended { AreTended L.Line D.Door self.old }
@@ -197,15 +203,5 @@ fn exchange_at<L: Line + Drop, D: Door<Line = L>>(
         door.exchange(buffer);
     } else {
         seat.exchange(buffer);
-    }
-}
-
-// Returns true if a seat reads a command, and no bytes have come as far as its connection knows.
-fn awaits<L: Line + Drop>(seat: &Attendant<L>) -> bool
-    ensures { result ≡ true → (mail : List Answer) → IsStill L.Line seat.now mail }
-{
-    match &seat.place {
-        LinePlace::On(line, _, _) => !line.may_give() && seat.awaits_line(),
-        _ => false,
     }
 }

@@ -3,6 +3,8 @@ ghost use Rattle.std.specs.Prelude.{◌≡◌, ◌⊎◌, ◌↔◌, ◌&&◌, [
 ghost use Rattle.bq_job.specs.declared.answer.Answer.{Answer};
 ghost use Rattle.bq_seat.specs.Outstanding.{ReadsWith};
 ghost use Rattle.bq_seat.specs.SeatParts.{would_read};
+ghost use Rattle.bq_seat.specs.declared.machine.Action.TheVariants as actions;
+ghost use Rattle.bq_line.specs.Tending.{DoorSeen, Tends};
 ghost use Rattle.bq_event_loop.specs.Still.{IsStill, IsStillOn};
 
 use crate::turns::Stands;
@@ -109,4 +111,40 @@ fn read_stands<L: Line>(line: &L, machine: &SeatMachine) -> Stands
     } else {
         Stands::Awaits
     }
+}
+
+/// Returns true if a seat reads a command, and no bytes have come as far as its connection knows, which
+/// then sends what it holds back.
+#[inline(always)]
+pub fn rests<L: Line + Drop>(seat: &mut Attendant<L>) -> bool
+    ensures went { (door : DoorSeen) → Tends L.seen seat.old door [] [] seat.new door }
+    ensures still { result ≡ true → (mail : List Answer) → IsStill L.Line seat.new mail }
+{
+    match &mut seat.place {
+        LinePlace::On(line, next, _) => rests_on(&seat.machine, next, line),
+        _ => false,
+    }
+}
+
+// The same for a seat with this connection and this next action.
+#[inline(always)]
+fn rests_on<L: Line>(machine: &SeatMachine, next: &NextAction, line: &mut L) -> bool
+    ensures seen { L.seen line.new ≡ L.seen line.old }
+    ensures still { result ≡ true → (mail : List Answer)
+        → IsStillOn next.now machine.now (L.may_give line.new) (L.may_take line.new) mail }
+{
+    if !awaits(machine, next, line) {
+        return false;
+    }
+    line.expect_more(false);
+    !line.may_give()
+}
+
+// Returns true if a seat reads a command, and no bytes have come as far as its connection knows.
+#[inline(always)]
+fn awaits<L: Line>(machine: &SeatMachine, next: &NextAction, line: &L) -> bool
+    ensures reads { result ≡ true → next.now ≡ actions.Read }
+    ensures alone { result ≡ true → ReadsWith false machine.now }
+{
+    !line.may_give() && next.is_read() && !machine.has_outstanding()
 }

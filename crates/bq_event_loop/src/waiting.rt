@@ -100,11 +100,10 @@ fn note_seat<L: Line + Drop, D: Door<Line = L>>(
     ensures still { IsStillSeat L.Line news.new.still row.new.seats.items mails.now.items }
     ensures rest { news.new ≡ record news.old { stands = news.new.stands; tries_again = news.new.tries_again; still = news.new.still } }
 {
-    if row.awaits(seat) {
-        row.hand_on(seat);
+    if row.rests(seat) {
         news.stands = Stands::Awaits;
         news.tries_again = false;
-        news.still = awaiting_seat(row, mails, seat);
+        news.still = Some(seat);
     } else {
         note_other(row, mails, seat, news);
     }
@@ -158,17 +157,6 @@ fn may_rest(stands: Stands, progress: Progress) -> bool {
         Stands::Done | Stands::Awaits => true,
         _ => !progress.has_moved(),
     }
-}
-
-// Returns this seat if it still waits for a command. The mail is passed for the contract alone.
-fn awaiting_seat<L: Line + Drop, D: Door<Line = L>>(
-    row: &Row<L, D>,
-    mails: &Vec<Mail, Global>,
-    seat: usize,
-) -> Option<usize>
-    ensures { IsStillSeat L.Line result row.now.seats.items mails.now.items }
-{
-    if row.awaits(seat) { Some(seat) } else { None }
 }
 
 // Returns this seat if nothing moves at it until its connection is ready or it has mail.
