@@ -57,7 +57,7 @@ impl HeadBuf {
         self.len = 0;
     }
 
-    /// Appends bytes, of which there are mostly few: up to four are copied without a call.
+    /// Appends bytes, of which there are mostly few: up to six are copied without a call.
     pub fn push_few(&mut self, more: &[u8])
         requires { length self.old + length more.now ≤ 256 }
         ensures { self.new ≡ self.old ++ more.now }
@@ -69,8 +69,18 @@ impl HeadBuf {
             [a, b, c, d] => self.push(&[*a, *b, *c, *d]),
             [a, b, c, d, e] => self.push(&[*a, *b, *c, *d, *e]),
             [a, b, c, d, e, f] => self.push(&[*a, *b, *c, *d, *e, *f]),
-            _ => self.push(more),
+            _ => self.push_many(more),
         }
+    }
+
+    // Does the same for any number of bytes. A separate function, so that its caller saves no registers
+    // for the copy.
+    #[inline(never)]
+    fn push_many(&mut self, more: &[u8])
+        requires { length self.old + length more.now ≤ 256 }
+        ensures { self.new ≡ self.old ++ more.now }
+    {
+        self.push(more);
     }
 
     /// Appends bytes. The caller ensures that they fit.
