@@ -49,6 +49,21 @@ write_stays is_nonblocking reports_bytes reports_room known after old new took w
       )),
     )
 
+-- It was written, and had room, so that nothing was noted.
+pub room_stays : {S : Type 0} (is_nonblocking reports_bytes : Bool → S → Bool) (reports_room : S → Bool) (was : Option Readiness)
+    (known : Readiness) (old new : S) (took : Result ℕ StreamError) → was ≡ Some known → known.writes ≡ true
+    → KeepsWaits is_nonblocking old new → ReportsAfterWrite reports_bytes reports_room old took new
+    → StaysWatched is_nonblocking reports_bytes reports_room was old was new
+room_stays is_nonblocking reports_bytes reports_room was known old new took is writes waits reports =
+    rw is (
+      waits,
+      (λ closing. closing),
+      (λ sure. (
+        (λ none. reports.0 known.is_closing (sure.0 none)),
+        (λ none. let never = sym writes ∙ none in absurd cc),
+      )),
+    )
+
 -- The system reported something.
 pub noted_stays : {S : Type 0} (is_nonblocking reports_bytes : Bool → S → Bool) (reports_room : S → Bool) (was : Option Readiness)
     (known more after : Readiness) (stream : S) → was ≡ Some known → after ≡ both known more

@@ -6,7 +6,7 @@ ghost use Rattle.bq_line.specs.Ready.{IsWatched, KeepsReports, StaysWatched, bot
 ghost use Rattle.bq_line.specs.Streams.{FailsIf, FailsToWriteIf, KeepsWaits, MovesNothing, ReadsFrom, WritesTo};
 
 use super::socket::{read_once, write_once, write_slices_once};
-use super::{Duplex, Readiness, Socket, StreamError, Watcher, in_brief};
+use super::{Duplex, Readiness, Socket, StreamError, Watcher, found_nothing, in_brief};
 use std::io;
 
 /// Why a stream is not watched.
@@ -98,9 +98,9 @@ impl<S: Socket> Connection<S> {
         came
     }
 
-    // Writes to the stream once if it is ready.
+    // Writes to the stream once if it is ready. Mostly there is still room then, as was known.
     #[inline(always)]
-    #[tactic(auto, using(crate::proofs::ReadyLemmas::write_stays, crate::proofs::ReadyLemmas::stays_same))]
+    #[tactic(auto, using(crate::proofs::ReadyLemmas::write_stays, crate::proofs::ReadyLemmas::room_stays, crate::proofs::ReadyLemmas::stays_same))]
     fn write_ready(&mut self, buf: &[u8], ready: Readiness) -> Result<usize, StreamError>
         requires known { self.old.ready ≡ Some ready }
         ensures bytes { WritesTo (S.contents self.old.stream) (S.contents self.new.stream) result buf.now }
@@ -114,7 +114,10 @@ impl<S: Socket> Connection<S> {
             return Err(StreamError::NotYet);
         }
         let took = write_once(&mut self.stream, buf);
-        self.ready = Some(ready.after_write(&took));
+        if found_nothing(&took) {
+            self.ready = Some(ready.after_write(&took));
+            return took;
+        }
         took
     }
 
