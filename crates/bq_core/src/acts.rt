@@ -1,6 +1,6 @@
 //! The command's own effect, by kind, and its answer.
-ghost use Rattle.std.specs.Prelude.{[], ◌++◌, ◌<◌, ◌≡◌, ◌∷◌, false, length, true};
-ghost use Rattle.bq_core.specs.{Acting.Acts, Replying.{RepliesAt, RepliesBy}, Turns.HasRoom};
+ghost use Rattle.std.specs.Prelude.{◌<◌, ◌≡◌, false, length, true};
+ghost use Rattle.bq_core.specs.{Acting.{Acts, is_put_or_delete, is_request, with_answer, with_reply}, Replying.{RepliesAt, RepliesBy}, Turns.HasRoom};
 ghost use Rattle.bq_job.specs.machine.{Asked.{asked, effect, refusal_answer as answer_of_refusal}, Changes.seat_with};
 ghost use Rattle.bq_job.specs.machine.Steps.{step_takes_memory, takes_memory};
 ghost use Rattle.bq_state.specs.{Asking.AsksAsChanged, CoreParts.machine_of, SeatStates.is_asking};
@@ -8,9 +8,9 @@ ghost use Rattle.bq_job.specs.declared.answer.Answer.TheVariants as answers;
 ghost use Rattle.bq_job.specs.declared.step.Step.TheVariants as steps;
 
 use crate::job_acts::{NewJob, NewTurn};
-use crate::{job_acts, kicks, statistics_acts, timers, tube_acts};
+use crate::{answering, job_acts, kicks, statistics_acts, timers, tube_acts};
 use bq_core_api::Outs;
-use bq_job::{Answer, JobId, Refusal, Request, Seat, Step};
+use bq_job::{Answer, Refusal, Request, Seat, Step};
 use bq_state::changes;
 use bq_state::core_parts::CoreParts;
 use bq_state::job_store::JobKind;
@@ -42,10 +42,9 @@ fn end(state: &mut CoreParts, seat: Seat)
 
 // The jobs that the client holds become ready or delayed, and the seat is free.
 #[tactic(auto, using(std::proofs::lemmas::Grind::common_steps, crate::proofs::ToldLemmas::closes, crate::proofs::ToldLemmas::close_asks))]
-#[inline(never)]
-fn close(state: &mut CoreParts, seat: Seat, answer: &mut Answer) -> Reply
+fn close(state: &mut CoreParts, seat: Seat) -> Reply
     ensures reply { RepliesBy false
-        (λ m. effect m seat steps.Close) state.old result answer.new state.new }
+        (λ m. effect m seat steps.Close) state.old result answers.Closed state.new }
     ensures asks { AsksAsChanged state.old.jobs state.new.jobs }
 {
     if !state.is_connected(seat) {
@@ -54,7 +53,6 @@ fn close(state: &mut CoreParts, seat: Seat, answer: &mut Answer) -> Reply
     let becomes = timers::state_once_left(state);
     timers::give_back_all(state, seat, becomes);
     changes::change_seat(state, seat, &SeatChange::Clear);
-    set_answer(answer, Answer::Closed);
     Reply::Told
 }
 
@@ -81,9 +79,9 @@ fn refuse(why: Refusal, answer: &mut Answer) -> Reply
     Reply::Told
 }
 
-// Carries out a request that a connected client may make. A call initializes the room for all its
-// large values before it begins, whichever branch it takes. So commands that need a name or a job
-// by value are kept in functions of their own (`inline(never)`).
+// Carries out a request that a connected client may make, other than a put or a delete. A call
+// initializes the room for all its large values before it begins, whichever branch it takes. So
+// commands that need a name or a job by value are kept in functions of their own (`inline(never)`).
 #[tactic(auto, using(std::proofs::lemmas::Grind::common_steps, crate::proofs::ActLemmas::number_found))]
 fn carry_out(
     state: &mut CoreParts,
@@ -93,21 +91,16 @@ fn carry_out(
     answer: &mut Answer,
 ) -> Reply
     requires asks { is_asking (seat_with seat state.old.seats.items) ≡ true }
+    requires other { is_put_or_delete request.now ≡ false }
     ensures reply { RepliesAt seat (takes_memory request.now)
         (asked request.now) state.old result answer.new state.new }
     ensures asks { AsksAsChanged state.old.jobs state.new.jobs }
 {
     match *request {
-        Request::Put {
-            pri,
-            delay,
-            ttr,
-            ref body,
-        } => job_acts::put(state, alloc, seat, NewJob { pri, delay, ttr }, body, answer),
+        Request::Put { .. } | Request::Delete { .. } => Reply::Silent,
         Request::Reserve => job_acts::reserve(state, seat, None),
         Request::ReserveWithTimeout { seconds } => job_acts::reserve_until(state, seat, seconds),
         Request::ReserveJob { id } => job_acts::reserve_job(state, seat, id, answer),
-        Request::Delete { id } => job_acts::delete(state, seat, id, answer),
         Request::Release { id, pri, delay } => {
             job_acts::release(state, seat, id, NewTurn { pri, delay }, answer)
         }
@@ -139,16 +132,91 @@ fn carry_out(
     }
 }
 
-#[tactic(auto, using(crate::proofs::ActLemmas::asked_so))]
-fn reply_to(
+// Appends an answer that was stored. Not inlined, because few answers are.
+#[inline(never)]
+fn append(outs: &mut Outs, seat: Seat, answer: &mut Answer)
+    requires { length outs.old.given < outs.old.most }
+    ensures { outs.new ≡ with_answer seat answer.old outs.old }
+{
+    outs.push(seat, replace(answer, Answer::Closed));
+}
+
+// Appends the answer to a request with this outcome.
+fn append_reply(outs: &mut Outs, seat: Seat, reply: Reply, answer: &mut Answer)
+    requires { length outs.old.given < outs.old.most }
+    ensures { outs.new ≡ with_reply seat reply answer.old outs.old }
+{
+    match reply {
+        Reply::Silent => {}
+        Reply::Told => append(outs, seat, answer),
+        Reply::LeftOut => answering::left_out(outs, seat),
+        Reply::Unshared => answering::unshared(outs, seat),
+    }
+}
+
+// Carries out a request other than a put or a delete, and appends its answer. There is room for an
+// answer in `answer`.
+#[tactic(auto, using(crate::proofs::ActLemmas::acts_replied))]
+fn ask_with(
     state: &mut CoreParts,
     alloc: Global,
     seat: Seat,
-    what: &Step,
+    request: &Request,
+    outs: &mut Outs,
     answer: &mut Answer,
-) -> Reply
+)
+    requires asks { is_asking (seat_with seat state.old.seats.items) ≡ true }
+    requires other { is_put_or_delete request.now ≡ false }
+    requires room { length outs.old.given < outs.old.most }
+    ensures acts { Acts (machine_of state.old) seat (steps.Ask request.now) outs.old outs.new
+        (machine_of state.new) }
+    ensures asks { AsksAsChanged state.old.jobs state.new.jobs }
+{
+    let reply = carry_out(state, alloc, seat, request, answer);
+    append_reply(outs, seat, reply, answer);
+}
+
+// Does the same. Not inlined, because it initializes room for an answer, which puts and deletes do
+// not need.
+#[inline(never)]
+fn ask_other(state: &mut CoreParts, alloc: Global, seat: Seat, request: &Request, outs: &mut Outs)
+    requires asks { is_asking (seat_with seat state.old.seats.items) ≡ true }
+    requires other { is_put_or_delete request.now ≡ false }
+    requires room { length outs.old.given < outs.old.most }
+    ensures acts { Acts (machine_of state.old) seat (steps.Ask request.now) outs.old outs.new
+        (machine_of state.new) }
+    ensures asks { AsksAsChanged state.old.jobs state.new.jobs }
+{
+    // Dropped once, at the end: a branch that owned the answer would take it apart by itself.
+    let mut answer = Answer::Closed;
+    ask_with(state, alloc, seat, request, outs, &mut answer);
+}
+
+// Carries out a request of a client that may make one, and appends its answer.
+fn ask(state: &mut CoreParts, alloc: Global, seat: Seat, request: &Request, outs: &mut Outs)
+    requires asks { is_asking (seat_with seat state.old.seats.items) ≡ true }
+    requires room { length outs.old.given < outs.old.most }
+    ensures acts { Acts (machine_of state.old) seat (steps.Ask request.now) outs.old outs.new
+        (machine_of state.new) }
+    ensures asks { AsksAsChanged state.old.jobs state.new.jobs }
+{
+    match *request {
+        Request::Put {
+            pri,
+            delay,
+            ttr,
+            ref body,
+        } => job_acts::put(state, alloc, seat, NewJob { pri, delay, ttr }, body, outs),
+        Request::Delete { id } => job_acts::delete(state, seat, id, outs),
+        _ => ask_other(state, alloc, seat, request, outs),
+    }
+}
+
+// Carries out a step without a request. The only answer to one is that the client has disconnected.
+fn reply_without_request(state: &mut CoreParts, seat: Seat, what: &Step) -> Reply
+    requires other { is_request what.now ≡ false }
     ensures reply { RepliesBy (step_takes_memory what.now)
-        (λ m. effect m seat what.now) state.old result answer.new state.new }
+        (λ m. effect m seat what.now) state.old result answers.Closed state.new }
     ensures asks { AsksAsChanged state.old.jobs state.new.jobs }
 {
     match *what {
@@ -156,94 +224,32 @@ fn reply_to(
             connect(state, seat);
             Reply::Silent
         }
-        Step::Ask(ref request) => if state.is_asking(seat) {
-            carry_out(state, alloc, seat, request, answer)
-        } else {
-            Reply::Silent
-        },
         Step::End => {
             end(state, seat);
             Reply::Silent
         }
-        Step::Close => close(state, seat, answer),
+        Step::Close => close(state, seat),
         Step::Drain => {
             changes::start_draining(state);
             Reply::Silent
         }
-        Step::Tick | Step::Gone => Reply::Silent,
+        Step::Ask(_) | Step::Tick | Step::Gone => Reply::Silent,
     }
 }
 
-// Appends an answer that was stored. Not inlined, because few answers are.
+// Does the same, and appends the answer. Not inlined, because most steps have a request.
 #[inline(never)]
-fn append(outs: &mut Outs, seat: Seat, answer: &mut Answer)
-    requires { length outs.old.given < outs.old.most }
-    ensures { outs.new ≡ record outs.old { given = outs.old.given ++ (seat, answer.old) ∷ [] } }
-{
-    outs.push(seat, replace(answer, Answer::Closed));
-}
-
-// Appends the answer to a put. Not inlined, like the two functions below: its caller would otherwise
-// initialize room for an answer before it begins, whichever branch it takes.
-#[inline(never)]
-fn append_inserted(outs: &mut Outs, seat: Seat, id: JobId)
-    requires { length outs.old.given < outs.old.most }
-    ensures { outs.new
-        ≡ record outs.old { given = outs.old.given ++ (seat, answers.Inserted id) ∷ [] } }
-{
-    outs.push(seat, Answer::Inserted(id));
-}
-
-// Appends the answer that a job was deleted.
-#[inline(never)]
-fn append_deleted(outs: &mut Outs, seat: Seat)
-    requires { length outs.old.given < outs.old.most }
-    ensures { outs.new
-        ≡ record outs.old { given = outs.old.given ++ (seat, answers.Deleted) ∷ [] } }
-{
-    outs.push(seat, Answer::Deleted);
-}
-
-// Appends the answer that memory was missing.
-#[inline(never)]
-fn append_out_of_memory(outs: &mut Outs, seat: Seat)
-    requires { length outs.old.given < outs.old.most }
-    ensures { outs.new
-        ≡ record outs.old { given = outs.old.given ++ (seat, answers.OutOfMemory) ∷ [] } }
-{
-    outs.push(seat, Answer::OutOfMemory);
-}
-
-// Carries out the command's own effect, and appends its answer. There is room for an answer in
-// `answer`.
-#[tactic(auto, using(crate::proofs::ActLemmas::acts_silent, crate::proofs::ActLemmas::acts_told))]
-fn act_with(
-    state: &mut CoreParts,
-    alloc: Global,
-    seat: Seat,
-    what: &Step,
-    outs: &mut Outs,
-    answer: &mut Answer,
-)
-    requires room { HasRoom 1 (machine_of state.old) outs.old }
+#[tactic(auto, using(crate::proofs::ActLemmas::acts_outcome))]
+fn act_without_request(state: &mut CoreParts, seat: Seat, what: &Step, outs: &mut Outs)
+    requires other { is_request what.now ≡ false }
+    requires room { length outs.old.given < outs.old.most }
     ensures acts { Acts (machine_of state.old) seat what.now outs.old outs.new
         (machine_of state.new) }
     ensures asks { AsksAsChanged state.old.jobs state.new.jobs }
 {
-    match reply_to(state, alloc, seat, what, answer) {
-        Reply::Silent => {}
-        Reply::Told => append(outs, seat, answer),
-        Reply::Inserted(id) => append_inserted(outs, seat, id),
-        Reply::Deleted => append_deleted(outs, seat),
-        Reply::LeftOut => {
-            outs.set_left_out();
-            append_out_of_memory(outs, seat);
-        }
-        Reply::Unshared => {
-            outs.set_unshared();
-            append_out_of_memory(outs, seat);
-        }
-    }
+    let mut closed = Answer::Closed;
+    let reply = reply_without_request(state, seat, what);
+    append_reply(outs, seat, reply, &mut closed);
 }
 
 /// Carries out the command's own effect, and appends its answer.
@@ -253,9 +259,12 @@ pub(crate) fn act(state: &mut CoreParts, alloc: Global, seat: Seat, what: &Step,
         (machine_of state.new) }
     ensures asks { AsksAsChanged state.old.jobs state.new.jobs }
 {
-    // Dropped once, at the end: a branch that owned the answer would take it apart by itself.
-    let mut answer = Answer::Closed;
-    act_with(state, alloc, seat, what, outs, &mut answer);
+    match *what {
+        Step::Ask(ref request) => if state.is_asking(seat) {
+            ask(state, alloc, seat, request, outs);
+        },
+        _ => act_without_request(state, seat, what, outs),
+    }
 }
 
 /// Stores an answer. A separate function, because the code that takes apart the answer that was
@@ -273,10 +282,6 @@ pub(crate) fn set_answer(place: &mut Answer, answer: Answer)
 pub(crate) enum Reply {
     Silent,
     Told,
-    /// The job of a put got this id.
-    Inserted(JobId),
-    /// The job was deleted.
-    Deleted,
     /// An allocation failed, and nothing was changed.
     LeftOut,
     /// A body could not be shared, and nothing was changed.

@@ -14,7 +14,7 @@ ghost use Rattle.bq_state.specs.{SeatChanges.AreNumbered, WaitingTurns.{by_seat,
 ghost use Rattle.bq_state.specs.WantedJobs.{is_nothing};
 ghost use Rattle.bq_job.specs.declared.answer.Answer.TheVariants as answers;
 
-use crate::acts;
+use crate::{acts, answering};
 use bq_core_api::Outs;
 use bq_job::{Answer, Body, JobId, NoMemory, Request, Seat, Step};
 use bq_jobs::{NumberedJobs, Tube};
@@ -64,6 +64,7 @@ fn offer_of(jobs: &mut NumberedJobs, tubes: &Tubes, tube: &Tube) -> Option<Offer
 }
 
 /// Returns the best of this job and those that these tubes offer.
+#[inline(always)]
 pub(crate) fn best_among(
     jobs: &mut NumberedJobs,
     tubes: &Tubes,
@@ -423,17 +424,6 @@ fn take_at_once(state: &mut CoreParts, seat: Seat, what: &Step) -> Option<(JobId
     Some((id, body))
 }
 
-// Appends the answer to a reserve that is handed a job. Not inlined, because its caller would
-// otherwise initialize room for an answer in each step.
-#[inline(never)]
-fn append_reserved(outs: &mut Outs, seat: Seat, id: JobId, body: Body)
-    requires { length outs.old.given < outs.old.most }
-    ensures { outs.new
-        ≡ record outs.old { given = outs.old.given ++ (seat, answers.Reserved id body) ∷ [] } }
-{
-    outs.push(seat, Answer::Reserved(id, body));
-}
-
 /// Carries out the command's own effect and drops tubes that are gone. If the command is a reserve
 /// and its client may have a job, the client is handed the job: by the rules it begins to wait, and
 /// dispatch then hands it the job and ends its wait. Here it is not entered among the clients that
@@ -450,7 +440,7 @@ pub(crate) fn act_or_hand_out(
     ensures { ActsOrGives (machine_of state.old) seat what.now outs.old outs.new (machine_of state.new) state.old.jobs state.new.jobs }
 {
     match take_at_once(state, seat, what) {
-        Some((id, body)) => append_reserved(outs, seat, id, body),
+        Some((id, body)) => answering::reserved(outs, seat, id, body),
         None => {
             acts::act(state, alloc, seat, what, outs);
             changes::forget_tubes(state);

@@ -1,14 +1,17 @@
 //! Commands on one job, and those that wait for one.
-ghost use Rattle.std.specs.Prelude.{Some, false, true, ◌≡◌};
-ghost use Rattle.bq_core.specs.Replying.{RepliesAt, RepliesBy, RepliesTo, Waits};
-ghost use Rattle.bq_job.specs.machine.{Changes.seat_with, JobCommands.{bury_effect, delete_effect, is_full as is_full_of}};
-ghost use Rattle.bq_job.specs.machine.JobCommands.{kick_job_effect, new_job as job_of_put, put_effect, release_effect, reserve_job_effect};
+ghost use Rattle.std.specs.Prelude.{Some, false, length, true, ◌<◌, ◌≡◌};
+ghost use Rattle.bq_core.specs.{Acting.{Acts, put_of}, Replying.{RepliesBy, RepliesTo, Waits}};
+ghost use Rattle.bq_job.specs.machine.{Changes.seat_with, JobCommands.{bury_effect, is_full as is_full_of}};
+ghost use Rattle.bq_job.specs.machine.JobCommands.{kick_job_effect, new_job as job_of_put, release_effect, reserve_job_effect};
 ghost use Rattle.bq_job.specs.machine.{JobCommands.touch_effect, Limits.later as later_by, Machine.SeatRecord};
 ghost use Rattle.bq_state.specs.{Asking.AsksAsChanged, CoreParts.machine_of, SeatStates.is_asking};
 ghost use Rattle.bq_job.specs.declared.answer.Answer.TheVariants as answers;
-ghost use Rattle.bq_job.specs.declared.answer.Answer.{Answer};
+ghost use Rattle.bq_job.specs.declared.request.Request.TheVariants as requests;
+ghost use Rattle.bq_job.specs.declared.step.Step.TheVariants as steps;
 
 use crate::acts::{Reply, set_answer};
+use crate::answering;
+use bq_core_api::Outs;
 use bq_job::{Answer, Body, Counts, Job, JobId, Moment, Pri, Seat};
 use bq_jobs::{Tube, adds_at_the_end, next_is_free};
 use bq_state::core_parts::CoreParts;
@@ -63,45 +66,54 @@ fn is_full(state: &CoreParts) -> bool
 /// Puts a job. The boxes that it needs are allocated before any change; if the job limit is
 /// reached, nothing is allocated. The job shares the body with the client's step.
 #[inline(never)]
-#[tactic(auto, using(crate::proofs::ActLemmas::asked_in_all))]
+#[tactic(auto, using(crate::proofs::ActLemmas::asked_in_all, crate::proofs::ActLemmas::put_in_drain, crate::proofs::ActLemmas::put_at_limit, crate::proofs::ActLemmas::put_left_out))]
 pub(crate) fn put(
     state: &mut CoreParts,
     alloc: Global,
     seat: Seat,
     new: NewJob,
     body: &Body,
-    answer: &mut Answer,
-) -> Reply
+    outs: &mut Outs,
+)
     requires asks { is_asking (seat_with seat state.old.seats.items) ≡ true }
-    ensures reply { RepliesAt seat true
-        (put_effect new.pri new.delay new.ttr body.now) state.old result answer.new state.new }
+    requires room { length outs.old.given < outs.old.most }
+    ensures acts { Acts (machine_of state.old) seat (put_of new body.now) outs.old outs.new
+        (machine_of state.new) }
     ensures asks { AsksAsChanged state.old.jobs state.new.jobs }
 {
     if state.draining {
-        return draining(answer);
+        return answering::draining(outs, seat);
     }
     if is_full(state) {
-        return full(answer);
+        return answering::out_of_memory(outs, seat);
     }
     let Ok(shared) = body.share() else {
-        return Reply::LeftOut;
+        return answering::left_out(outs, seat);
     };
-    put_shared(state, alloc, seat, new, shared)
+    put_shared(state, alloc, seat, new, shared, outs);
 }
 
 // Puts a job with this body into the tube that the client uses.
-#[tactic(auto, using(crate::proofs::ActLemmas::asked_in_all))]
-fn put_shared(state: &mut CoreParts, alloc: Global, seat: Seat, new: NewJob, body: Body) -> Reply
+#[tactic(auto, using(crate::proofs::ActLemmas::asked_in_all, crate::proofs::ActLemmas::put_left_out))]
+fn put_shared(
+    state: &mut CoreParts,
+    alloc: Global,
+    seat: Seat,
+    new: NewJob,
+    body: Body,
+    outs: &mut Outs,
+)
     requires asks { is_asking (seat_with seat state.old.seats.items) ≡ true }
     requires accepts { state.old.draining ≡ false }
-    requires room { is_full_of state.old.config.max_jobs (machine_of state.old).jobs ≡ false }
-    ensures reply { (answer : Answer) → RepliesAt seat true
-        (put_effect new.pri new.delay new.ttr body) state.old result answer state.new }
+    requires limit { is_full_of state.old.config.max_jobs (machine_of state.old).jobs ≡ false }
+    requires room { length outs.old.given < outs.old.most }
+    ensures acts { Acts (machine_of state.old) seat (put_of new body) outs.old outs.new
+        (machine_of state.new) }
     ensures asks { AsksAsChanged state.old.jobs state.new.jobs }
 {
     let Ok(()) = changes::make_room(state, alloc) else {
         drop(body);
-        return Reply::LeftOut;
+        return answering::left_out(outs, seat);
     };
     let id = state.next_id;
     next_is_free();
@@ -111,13 +123,13 @@ fn put_shared(state: &mut CoreParts, alloc: Global, seat: Seat, new: NewJob, bod
     // otherwise the tube's name would be copied twice.
     let Some(client) = seats::find(state.seats.as_slice(), seat) else {
         drop(body);
-        return Reply::Silent;
+        return;
     };
     let tube = client.used();
     let hint = tube.number();
     let job = new_job(state, id, tube, new, body);
     changes::add(state, job, hint);
-    Reply::Inserted(id)
+    answering::inserted(outs, seat, id);
 }
 
 /// The client waits, until this moment if there is one.
@@ -176,36 +188,18 @@ pub(crate) fn reserve_job(
 /// Removes a job that no client holds, or that this client holds.
 #[inline(never)]
 #[tactic(auto, using(crate::proofs::ActLemmas::asked_in_all))]
-pub(crate) fn delete(state: &mut CoreParts, seat: Seat, id: JobId, answer: &mut Answer) -> Reply
-    ensures reply { RepliesTo seat false (delete_effect id) state.old result answer.new state.new }
+pub(crate) fn delete(state: &mut CoreParts, seat: Seat, id: JobId, outs: &mut Outs)
+    requires asks { is_asking (seat_with seat state.old.seats.items) ≡ true }
+    requires room { length outs.old.given < outs.old.most }
+    ensures acts { Acts (machine_of state.old) seat (steps.Ask (requests.Delete id)) outs.old outs.new
+        (machine_of state.new) }
     ensures asks { AsksAsChanged state.old.jobs state.new.jobs }
 {
     if changes::delete(state, id, JobTest::FreeFor(seat)) {
-        Reply::Deleted
+        answering::deleted(outs, seat);
     } else {
-        not_found(answer)
+        answering::not_found(outs, seat);
     }
-}
-
-// Answers that no put is accepted. Not inlined, because its caller would otherwise reserve and
-// initialize room for an answer.
-#[inline(never)]
-fn draining(answer: &mut Answer) -> Reply
-    ensures answer { answer.new ≡ answers.Draining }
-    ensures reply { result ≡ Reply.Told }
-{
-    set_answer(answer, Answer::Draining);
-    Reply::Told
-}
-
-// Answers that the job limit is reached. Not inlined, for the same reason.
-#[inline(never)]
-fn full(answer: &mut Answer) -> Reply
-    ensures answer { answer.new ≡ answers.OutOfMemory }
-    ensures reply { result ≡ Reply.Told }
-{
-    set_answer(answer, Answer::OutOfMemory);
-    Reply::Told
 }
 
 /// Answers that there is no such job or tube. Not inlined, because its caller would otherwise

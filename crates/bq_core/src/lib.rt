@@ -8,6 +8,7 @@ pub use bq_core_api::{Config, CoreFault, Outs};
 pub use step::Core;
 
 mod acts;
+mod answering;
 mod dispatch;
 mod job_acts;
 mod kicks;

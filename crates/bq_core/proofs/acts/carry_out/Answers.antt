@@ -4,9 +4,6 @@ use Rattle.bq_core.proofs.acts.carry_out.Goals as goal
 pub returns-in-ReserveJob-clause-reply : goal.returns-in-ReserveJob-clause-reply
 returns-in-ReserveJob-clause-reply c s found = rw c.in-ReserveJob.is (c.reserve_job.ensures.reply s (number_found _ _ _ found))
 
-pub returns-in-Delete-clause-reply : goal.returns-in-Delete-clause-reply
-returns-in-Delete-clause-reply c s found = rw c.in-Delete.is (c.delete.ensures.reply s (number_found _ _ _ found))
-
 pub returns-in-Release-clause-reply : goal.returns-in-Release-clause-reply
 returns-in-Release-clause-reply c s found = rw c.in-Release.is (c.release.ensures.reply s (number_found _ _ _ found))
 

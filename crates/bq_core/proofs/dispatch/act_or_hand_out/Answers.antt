@@ -6,7 +6,7 @@ use Rattle.bq_core.proofs.dispatch.act_or_hand_out.Goals as goal
 pub returns-in-Some : goal.returns-in-Some
 returns-in-Some c =
     let taken = c.in-Some.ensures.taken in
-    given_at_once c.args.state.now _ _ (reserves _ _ _ taken.may) _ _ _ _ _ taken c.requires.tubes c.append_reserved.ensures
+    given_at_once c.args.state.now _ _ (reserves _ _ _ taken.may) _ _ _ _ _ taken c.requires.tubes c.reserved.ensures
 
 pub returns-in-None : goal.returns-in-None
 returns-in-None c =
