@@ -9,7 +9,7 @@ use Rattle.bq_job.proofs.ListLemmas.{all_weaker, list_any_not, map_all_same}
 use Rattle.bq_job.specs.machine.{Pause, TubeRecord, fresh_tube, pause_after_timers, tube_after_timers, with_record}
 use Rattle.bq_job.specs.reading.TubeName.{is_same_name}
 use Rattle.bq_jobs.{proofs.Choice.lookup_removed, specs.{Names.number_in, Numbering.{Numbering, number_of}, Table.Tabled}}
-use Rattle.bq_state.proofs.EndLemmas.{has_entered, has_left, none_over_yet, one_over, over_in}
+use Rattle.bq_state.proofs.EndLemmas.{has_entered, has_left, one_over}
 use Rattle.bq_state.proofs.NamedLemmas.{change_kept, edit_change, found_any, found_entry, have_numbers, in_order, ties}
 use Rattle.bq_state.proofs.{NumberLemmas.{number_inserted, number_left, number_read}, PartsLemmas.tube_name_kept}
 use Rattle.bq_state.proofs.TubeLemmas.{before_differs, changed_one, order_kept, same_itself, same_name}
@@ -355,6 +355,3 @@ module _ (moment : ℕ) (e : PauseEnd) (name : List ℕ) (kept last : Tabled Kep
 
   pub over_records : records_ended moment last.entries ≡ records_ended moment kept.entries
   over_records = grind (arith, last_is, one_after)
-
--- facts about the end of the first pause, under a name that an attribute can cite
-pub ruleset first_ended = (common_steps, over_in, none_over_yet)

@@ -1,8 +1,8 @@
 //! Changes of tubes in which pauses begin and end. The ends of the pauses are kept in order.
 ghost use Rattle.std.specs.{Cmp.Lexicographic.slice_cmp, Map.remove_entry, Option.{ForSome, option_map}, Ordering.nat_cmp};
-ghost use Rattle.std.specs.Prelude.{IfOk, None, false, if◌then◌else◌, is_some, length, map, true, ◌+◌, ◌<◌, ◌≡◌, ◌≤◌};
+ghost use Rattle.std.specs.Prelude.{IfOk, None, Some, if◌then◌else◌, is_some, length, map, true, ◌+◌, ◌<◌, ◌≡◌, ◌≤◌};
 ghost use Rattle.bq_index.specs.Order.{InOrder};
-ghost use Rattle.bq_state.specs.{Dues.{first_pause_end, is_end_over}, KeptTubes.{crowd_kept, edited_at, is_named_at, kept_changed}};
+ghost use Rattle.bq_state.specs.KeptTubes.{crowd_kept, edited_at, is_named_at, kept_changed};
 ghost use Rattle.bq_state.specs.{KeptTubes.{record_at, records_ended, tally_kept}, PauseEnds.{AreEnds, AreTold, end_cmp, end_of}};
 ghost use Rattle.bq_state.specs.PauseEnds.{first_end, found_end, has_end, if_over, is_end_in, number_at, pause_at, paused_count};
 ghost use Rattle.bq_state.specs.PauseEnds.{with_end, without_end};
@@ -70,31 +70,27 @@ pub(crate) fn drop_entry(kept: &mut TubeTable<TubeEntry>, ends: &mut PauseEnds, 
     kept.remove(name);
 }
 
-// Ends the first pause, if it is due.
-#[tactic(auto, using(crate::proofs::EndMoves::first_ended))]
-fn end_first(kept: &mut TubeTable<TubeEntry>, ends: &mut PauseEnds, moment: Moment) -> bool
-    requires { AreEnds kept.old ends.old }
+// Ends the pause with this end, which is the first one and is due.
+#[tactic(auto, using(std::proofs::lemmas::Grind::common_steps, crate::proofs::EndLemmas::over_in))]
+fn end_pause(kept: &mut TubeTable<TubeEntry>, ends: &mut PauseEnds, end: PauseEnd, moment: Moment)
+    requires ends { AreEnds kept.old ends.old }
+    requires first { Some end ≡ if_over moment (first_end ends.old.entries) }
+    requires ordered { InOrder end_cmp ends.old.entries }
     ensures numbers { kept.new.numbers ≡ kept.old.numbers }
-    ensures done { result ≡ false
-        → is_end_over moment (first_pause_end (map record_at kept.new.entries)) ≡ false }
     ensures records { records_ended moment kept.new.entries
         ≡ records_ended moment kept.old.entries }
     ensures tallies { map tally_kept kept.new.entries ≡ map tally_kept kept.old.entries }
     ensures crowds { map crowd_kept kept.new.entries ≡ map crowd_kept kept.old.entries }
-    ensures fewer { result ≡ true → paused_count kept.new.entries < paused_count kept.old.entries }
+    ensures fewer { paused_count kept.new.entries < paused_count kept.old.entries }
     ensures ends { AreEnds kept.new ends.new }
 {
-    let Some(end) = first_over(ends, moment) else {
-        return false;
-    };
     let tube = tube_of(kept, &end);
     let _ended = kept.edit(tube.name(), tube.number(), &PauseTimer { moment });
     leave(ends, Some(end));
-    true
 }
 
 /// Ends pauses that are due. No other tube is accessed.
-#[tactic(auto, using(crate::proofs::PauseLemmas::no_pause_ends, crate::proofs::PauseLemmas::none_over))]
+#[tactic(auto, using(crate::proofs::EndLemmas::none_over_yet, crate::proofs::PauseLemmas::no_pause_ends, crate::proofs::PauseLemmas::none_over))]
 pub(crate) fn end_all(kept: &mut TubeTable<TubeEntry>, ends: &mut PauseEnds, moment: Moment)
     requires { AreEnds kept.old ends.old }
     ensures numbers { kept.new.numbers ≡ kept.old.numbers }
@@ -103,7 +99,9 @@ pub(crate) fn end_all(kept: &mut TubeTable<TubeEntry>, ends: &mut PauseEnds, mom
     ensures crowds { map crowd_kept kept.new.entries ≡ map crowd_kept kept.old.entries }
     ensures ends { AreEnds kept.new ends.new }
 {
-    while end_first(kept, ends, moment) {}
+    while let Some(end) = first_over(ends, moment) {
+        end_pause(kept, ends, end, moment);
+    }
 }
 
 /// The end of a tube's pause. Ends are ordered by moment, then by the number of the tube.

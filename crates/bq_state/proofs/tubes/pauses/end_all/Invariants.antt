@@ -3,8 +3,8 @@ use Rattle.std.proofs.Common.{map, ◌≡◌}
 use Rattle.bq_state.specs.{KeptTubes.{crowd_kept, records_ended, tally_kept}, PauseEnds.{AreEnds, paused_count}}
 use Rattle.bq_state.proofs.tubes.pauses.end_all.Given as goal
 
-abbrev pub invariant-loop : goal.invariant-loop
-invariant-loop l = record {
+abbrev pub invariant-loop-end : goal.invariant-loop-end
+invariant-loop-end l = record {
   records : records_ended l.moment l.kept.entries ≡ records_ended l.moment l.fn.kept.entries;
   tallies : map tally_kept l.kept.entries ≡ map tally_kept l.fn.kept.entries;
   crowds : map crowd_kept l.kept.entries ≡ map crowd_kept l.fn.kept.entries;
@@ -12,5 +12,5 @@ invariant-loop l = record {
   ends : AreEnds l.kept l.ends;
 }
 
-abbrev pub decreases-loop : goal.decreases-loop
-decreases-loop l = paused_count l.kept.entries
+abbrev pub decreases-loop-end : goal.decreases-loop-end
+decreases-loop-end l = paused_count l.kept.entries
