@@ -4,7 +4,7 @@ ghost use Rattle.bq_job.specs.machine.{Changes.{is_held_by as held_by, job_with}
 ghost use Rattle.bq_job.specs.machine.{JobCommands.{delayed_by as delayed_for, kicked, released}, JobStates.{is_buried, is_delayed}};
 ghost use Rattle.bq_job.specs.machine.{JobStates.is_reserved, Limits.later as later_by, Timers.job_after_timers};
 ghost use Rattle.bq_jobs.specs.{Searching.Searches, Seen.IsBodyOf};
-ghost use Rattle.bq_state.specs.{JobChanges.{changed, is_passed_by, passes, ttr_held_by}, JobKinds.first_of_kind, Room.room_left};
+ghost use Rattle.bq_state.specs.{JobChanges.{changed, is_passed_by, passes, ttr_held_by}, JobKinds.first_of_kind, Room.{room_given_back, room_left}};
 
 use bq_job::{Body, JobId, JobState, Moment, NoMemory, Pri, Seat};
 use bq_jobs::{JobEdit, NumberedJobs, NumberedTubes, PackedJob, PackedTest, Tube};
@@ -257,14 +257,24 @@ pub(crate) fn share(jobs: &mut NumberedJobs, id: JobId) -> Option<Result<Body, N
     jobs.share_body(id)
 }
 
+// Returns the room of one job to the heap, if there is room for more jobs than there are. Not
+// inlined: it is rarely called, and its callers would save registers for it each time.
+#[inline(never)]
+fn give_back(jobs: &mut NumberedJobs)
+    ensures { jobs.new ≡ record jobs.old { room = room_given_back (length jobs.old.jobs) jobs.old.room } }
+{
+    jobs.give_back();
+}
+
 // Returns the room of one job to the heap, if there is plenty.
+#[inline(always)]
 fn let_one_room_go(jobs: &mut NumberedJobs)
     ensures same { jobs.new ≡ record jobs.old { room = jobs.new.room } }
     ensures given { jobs.new.room ≡ room_left (length jobs.old.jobs) jobs.old.room }
     ensures room { 0 < jobs.old.room → 0 < jobs.new.room }
 {
     if jobs.room().saturating_sub(jobs.len()) >= ROOM_TO_SPARE {
-        jobs.give_back();
+        give_back(jobs);
     }
 }
 

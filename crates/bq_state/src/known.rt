@@ -88,6 +88,7 @@ impl Known {
 
     /// A job of the tube with this name and number is changed; the last two arguments describe it
     /// after the change.
+    #[inline(always)]
     pub(crate) fn move_job(
         &mut self,
         moved: &Moved,
