@@ -4,7 +4,8 @@ ghost use Rattle.bq_core.specs.{Acting.{Acts, put_of}, Replying.{RepliesBy, Repl
 ghost use Rattle.bq_job.specs.machine.{Changes.seat_with, JobCommands.{bury_effect, is_full as is_full_of}};
 ghost use Rattle.bq_job.specs.machine.JobCommands.{kick_job_effect, new_job as job_of_put, release_effect, reserve_job_effect};
 ghost use Rattle.bq_job.specs.machine.{JobCommands.touch_effect, Limits.later as later_by, Machine.SeatRecord};
-ghost use Rattle.bq_state.specs.{Asking.AsksAsChanged, CoreParts.machine_of, SeatStates.is_asking};
+ghost use Rattle.bq_jobs.specs.Numbering.{HasNumber};
+ghost use Rattle.bq_state.specs.{Asking.AsksAsChanged, CoreParts.machine_of, SeatStates.is_asking, TubeEntries.has_entry};
 ghost use Rattle.bq_job.specs.declared.answer.Answer.TheVariants as answers;
 ghost use Rattle.bq_job.specs.declared.request.Request.TheVariants as requests;
 ghost use Rattle.bq_job.specs.declared.step.Step.TheVariants as steps;
@@ -13,7 +14,7 @@ use crate::acts::{Reply, set_answer};
 use crate::answering;
 use bq_core_api::Outs;
 use bq_job::{Answer, Body, Counts, Job, JobId, Moment, Pri, Seat};
-use bq_jobs::{Tube, adds_at_the_end, next_is_free};
+use bq_jobs::{Tube, TubeNumber, adds_at_the_end, next_is_free};
 use bq_state::core_parts::CoreParts;
 use bq_state::job_store::{JobChange, JobTest};
 use bq_state::seats::SeatChange;
@@ -51,6 +52,14 @@ fn new_job(state: &CoreParts, id: JobId, tube: &Tube, new: NewJob, body: Body) -
         counts: Counts::default(),
         state: job_store::delayed_by(new.delay, state.moment),
     }
+}
+
+// Returns the number of a tube that has an entry.
+fn number_of(state: &CoreParts, tube: &Tube) -> TubeNumber
+    requires { has_entry tube.now state.now.tubes.entries ≡ true }
+    ensures { HasNumber tube.now result state.now.tubes.numbers }
+{
+    state.tubes.number_of(tube.name(), tube.number()).unwrap()
 }
 
 // Returns true if the job limit is reached.
@@ -94,7 +103,7 @@ pub(crate) fn put(
 }
 
 // Puts a job with this body into the tube that the client uses.
-#[tactic(auto, using(crate::proofs::ActLemmas::asked_in_all, crate::proofs::ActLemmas::put_left_out))]
+#[tactic(auto, using(crate::proofs::ActLemmas::asked_in_all, crate::proofs::ActLemmas::put_left_out, crate::proofs::ActLemmas::used_has_entry))]
 fn put_shared(
     state: &mut CoreParts,
     alloc: Global,
@@ -119,16 +128,15 @@ fn put_shared(
     next_is_free();
     adds_at_the_end();
     changes::count_put(state);
-    // The client asks, so it is found. Nothing changes between making the job and adding it:
-    // otherwise the tube's name would be copied twice.
+    // The client asks, so it is found, and so is its tube.
     let Some(client) = seats::find(state.seats.as_slice(), seat) else {
         drop(body);
         return;
     };
     let tube = client.used();
-    let hint = tube.number();
+    let number = number_of(state, tube);
     let job = new_job(state, id, tube, new, body);
-    changes::add(state, job, hint);
+    changes::add(state, job, number);
     answering::inserted(outs, seat, id);
 }
 

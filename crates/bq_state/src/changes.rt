@@ -26,7 +26,7 @@ use crate::waiting::Waiting;
 use crate::{job_store, seats, shares};
 use bq_core_api::Config;
 use bq_job::{Body, Job, JobId, JobState, Moment, NoMemory, Seat, TubeName};
-use bq_jobs::{Moved, NumberedJobs, Tube, TubeNumber};
+use bq_jobs::{GhostName, Moved, NumberedJobs, Tube, TubeNumber};
 use std::alloc::Global;
 
 // The last id that is given out. Its put makes the core drain, so the next id always fits.
@@ -63,21 +63,25 @@ fn is_wanted(
         && tubes.crowd_numbered(name, number).waiting > 0
 }
 
-/// Adds a job, for which there is room, and counts it in its tube, which is looked for at the
-/// number `hint` first. Its id was given out, and its tube has an entry.
-pub fn add(state: &mut CoreParts, job: Job, hint: TubeNumber)
+/// Adds a job, for which there is room, and counts it in its tube, which has this number. Its id was
+/// given out, and its tube has an entry.
+// Only calls that are inlined have references to the job: otherwise its tube's name, which is stored
+// already, would be copied for them.
+pub fn add(state: &mut CoreParts, job: Job, number: TubeNumber)
     requires room { 0 < state.old.jobs.room }
     requires given { (1 ≤ job.id) × (job.id < state.old.next_id) }
     requires free { job_with job.id (machine_of state.old).jobs ≡ None }
     requires entry { has_entry job.tube state.old.tubes.entries ≡ true }
+    requires number { HasNumber job.tube number state.old.tubes.numbers }
     ensures after { machine_of state.new
         ≡ record (with_tube job.tube with_put (machine_of state.old)) { jobs = with_added job (machine_of state.old).jobs } }
     ensures asks { ComparesAtMost 4 state.old.jobs state.new.jobs }
 {
-    let number = state.tubes.number_of(&job.tube, hint).unwrap();
-    let is_wanted = is_wanted(&state.known, &state.tubes, job.state, &job.tube, number);
+    let registered = GhostName::registered(state.tubes.names(), &job.tube, number);
+    let name = registered.read(state.tubes.names(), number);
+    let is_wanted = is_wanted(&state.known, &state.tubes, job.state, name, number);
     let waits = seats::holder_waits(state.seats.as_slice(), job.state);
-    state.known.add_job(&job, number, is_wanted, waits);
+    state.known.add_job(&job, name, number, is_wanted, waits);
     state.tubes.add_job(&job, number);
     state.jobs.add(job, number);
 }

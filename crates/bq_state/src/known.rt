@@ -59,14 +59,23 @@ impl Known {
         }
     }
 
-    /// A job is added. `is_wanted` says whether it is ready and a client waits for jobs of its
-    /// tube; `waits` says whether its holder waits.
-    pub(crate) fn add_job(&mut self, job: &Job, hint: TubeNumber, is_wanted: bool, waits: bool)
+    /// A job is added to the tube with this name and number. `is_wanted` says whether it is ready
+    /// and a client waits for jobs of its tube; `waits` says whether its holder waits.
+    #[inline(always)]
+    pub(crate) fn add_job(
+        &mut self,
+        job: &Job,
+        name: &TubeName,
+        number: TubeNumber,
+        is_wanted: bool,
+        waits: bool,
+    )
+        requires { name.now ≡ job.now.tube }
         ensures { self.new ≡ with_job job.now is_wanted waits self.old }
     {
         self.tally.enter(Standing::of(job));
-        self.maybe_gone.remove(&job.tube);
-        self.wanted.add_tube_if(&job.tube, hint, is_wanted);
+        self.maybe_gone.remove(name);
+        self.wanted.add_tube_if(name, number, is_wanted);
         self.warns.warn_holder_if(job.state, waits);
     }
 

@@ -18,6 +18,8 @@ invariant_of-state-clause-sound c =
     rw (
       c.add_job.ensures,
       c.is_wanted-is_wanted.ensures,
+      c.read-name.ensures,
+      c.registered-registered.ensures,
       waiters_counted _ _ _ _ _ st.sound.entries.of_seats st.sound.known.crowds
           st.sound.known.clients,
       c.holder_waits-waits.ensures,
