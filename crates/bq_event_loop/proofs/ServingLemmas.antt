@@ -15,7 +15,7 @@ use Rattle.bq_host.specs.Hubs.{WentAt}
 use Rattle.bq_host.specs.MailStates.{IsInOrder, MailState, waiting}
 use Rattle.bq_host.specs.Went.{CoreWent, SeatWent}
 use Rattle.bq_host.specs.declared.hub.Hub.{Hub}
-use Rattle.bq_host.proofs.WentLemmas.{core_none, core_on, gave_none, gave_then, steps_append}
+use Rattle.bq_host.proofs.{TimedRunLemmas.{gave_none, gave_then}, WentLemmas.{core_none, core_on, steps_append}}
 use Rattle.bq_host.proofs.HubLemmas.{called, went_none, went_then}
 use Rattle.bq_line.specs.GivenReadings.{GaveReadings}
 use Rattle.bq_line.specs.Tending.{AreSame, DoorSeen, GoesOn, IsCounted, IsTended, Tends, ended_lines}

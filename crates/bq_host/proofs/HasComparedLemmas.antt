@@ -1,22 +1,16 @@
--- How the count of a core's comparisons grows with what happens at its mail.
+-- How the count of a core's comparisons grows with what the core does.
 use Rattle.std.proofs.Common.{◌≡◌, ℕ, true, false, List, [], ◌∷◌, ◌++◌, refl, append-nil, append_assoc}
 use Rattle.bq_job.specs.declared.step.Step.{Step}
 use Rattle.bq_job.specs.machine.Dispatch.{GivenAnswer}
-use Rattle.bq_job.specs.machine.Machine.{Machine}
 use Rattle.bq_job.specs.machine.Steps.{Outcome}
 use Rattle.bq_job.specs.promise.Runs.{Entry}
 use Rattle.bq_core_api.specs.Cost.{IsLookWithin, IsStepWithin}
 use Rattle.bq_host.specs.Compared.{AreCompared, LooksOnce}
+use Rattle.bq_host.specs.{MailStates.{MailState, timed_of}, TimedRuns.{Compares, TimedState}}
 use Rattle.bq_host.proofs.ComparedLemmas.{looked_within, within_on}
-use Rattle.bq_host.specs.{MailStates.MailState, Went.HasCompared}
-
--- From the first state to the last the core stays within its bounds, after whatever it did before.
-abbrev pub Compares : MailState → List Entry → List GivenAnswer → MailState → Type 0
-Compares first history given last = (start : Machine) (before : List Entry) (gave : List GivenAnswer) (from : ℕ)
-    → HasCompared start before gave from first → HasCompared start (before ++ history) (gave ++ given) from last
 
 -- The core took one step.
-pub compared_step : (d n : MailState) (at seat : ℕ) (what : Step) (outcome : Outcome) (given : List GivenAnswer)
+pub compared_step : (d n : TimedState) (at seat : ℕ) (what : Step) (outcome : Outcome) (given : List GivenAnswer)
     → IsStepWithin d.core at seat what outcome given n.core d.compared n.compared → n.known ≡ false
     → Compares d (record { moment = at; seat = seat; what = what } ∷ []) given n
 compared_step d n at seat what outcome given step unknown start before gave from h = (
@@ -27,30 +21,36 @@ compared_step d n at seat what outcome given step unknown start before gave from
 )
 
 -- No step was taken: what holds of the count at the first state holds at the last.
-none_more : (d n : MailState) → n.core ≡ d.core
+none_more : (d n : TimedState) → n.core ≡ d.core
     → ((count : ℕ) → LooksOnce d.known d.core count d.compared → LooksOnce n.known n.core count n.compared) → Compares d [] [] n
 none_more d n core looked start before gave from h =
     rw (append-nil before, append-nil gave) (h.0, (rw core h.1), looked h.0 h.2)
 
 -- The core was not used.
-pub compared_still : (d n : MailState) → n.core ≡ d.core → n.known ≡ d.known → n.compared ≡ d.compared → Compares d [] [] n
+pub compared_still : (d n : TimedState) → n.core ≡ d.core → n.known ≡ d.known → n.compared ≡ d.compared → Compares d [] [] n
 compared_still d n core known compared = none_more d n core (λ count looked. rw (known, core, compared) looked)
 
 -- It was asked for the next due moment, if that was not known.
-pub compared_looked : (d n : MailState) → n.known ≡ true → n.core ≡ d.core
+pub compared_looked : (d n : TimedState) → n.known ≡ true → n.core ≡ d.core
     → ((count : ℕ) → LooksOnce d.known d.core count d.compared → IsLookWithin d.core count n.compared) → Compares d [] [] n
 compared_looked d n known core once = none_more d n core (λ count looked. rw (known, core) (once count looked))
 
 -- One part of a history after another.
-pub compared_on : (first next last : MailState) (history more : List Entry) (given later : List GivenAnswer)
+pub compared_on : (first next last : TimedState) (history more : List Entry) (given later : List GivenAnswer)
     → Compares first history given next → Compares next more later last → Compares first (history ++ more) (given ++ later) last
 compared_on first next last history more given later a b start before gave from h =
     rw (← append_assoc before history more, ← append_assoc gave given later)
     (b start (before ++ history) (gave ++ given) from (a start before gave from h))
 
+-- From a core that was not asked for the next due moment yet.
+pub compared_from : (first last : TimedState) (history : List Entry) (given : List GivenAnswer) → first.known ≡ false
+    → Compares first history given last → AreCompared first.core history given last.core first.compared last.compared
+compared_from first last history given unknown h =
+    let all = h first.core [] [] first.compared (first.compared, (refl, (refl, refl)), (rw unknown refl)) in
+    record { count = all.0; steps = all.1; look = looked_within last.known last.core all.0 last.compared all.2 }
+
 -- From a core that has compared nothing.
 pub compared_all : (first last : MailState) (history : List Entry) (given : List GivenAnswer) → first.known ≡ false → first.compared ≡ 0
-    → Compares first history given last → AreCompared first.core history given last.core 0 last.compared
+    → Compares (timed_of first) history given (timed_of last) → AreCompared first.core history given last.core 0 last.compared
 compared_all first last history given unknown none h =
-    let all = h first.core [] [] 0 (0, (refl, (refl, refl)), (rw unknown none)) in
-    record { count = all.0; steps = all.1; look = looked_within last.known last.core all.0 last.compared all.2 }
+    rw none at (compared_from (timed_of first) (timed_of last) history given unknown h)

@@ -1,26 +1,30 @@
 -- What happens at a hub, step by step.
-use Rattle.std.proofs.Common.{◌≡◌, ℕ, Bool, true, false, true≢false, not, List, [], ◌∷◌, ◌++◌}
+use Rattle.std.proofs.Common.{◌≡◌, ℕ, ◌&&◌, Bool, true, false, true≢false, not, List, [], ◌∷◌, ◌++◌}
 use Rattle.std.proofs.Common.{Option, length, refl, sym, ap, ◌∙◌, subst, inl, inr}
-use Rattle.std.specs.Prelude.{slice_index_or}
+use Rattle.std.specs.Prelude.{if◌then◌else◌, slice_index_or}
 use Rattle.std.specs.Option.{option_to_list}
 use Rattle.bq_job.specs.declared.answer.Answer.{Answer}
 use Rattle.bq_job.specs.declared.settings.Settings.{Settings}
 use Rattle.bq_job.specs.declared.step.Step.{Step}
+use Rattle.bq_job.specs.declared.step.Step.TheVariants.{Tick}
 use Rattle.bq_job.specs.machine.Dispatch.{GivenAnswer}
 use Rattle.bq_job.specs.machine.Machine.{Machine}
+use Rattle.bq_job.specs.promise.History.{is_tick}
 use Rattle.bq_job.specs.promise.Runs.{answers_to}
 use Rattle.bq_core_api.specs.Outbox.{Outbox}
 use Rattle.bq_seat.specs.declared.machine.Action.{Action}
 use Rattle.bq_line.specs.GivenReadings.{GaveReadings}
 use Rattle.bq_line.specs.Links.{Calls, TakesInPlace}
 use Rattle.bq_host.specs.Clocks.{Gives}
-use Rattle.bq_host.specs.Hubs.{WentAt, state_of, with_pending}
+use Rattle.bq_host.specs.Hubs.{WentAt, WentInOrder, state_of, with_pending}
 use Rattle.bq_host.specs.MailStates.{IsInOrder, IsSorted}
-use Rattle.bq_host.specs.Timed.{IsReady, PassesOver}
+use Rattle.bq_host.specs.Timed.{IsReady, LooksAndSteps, PassesOver}
 use Rattle.bq_host.specs.WakeLists.{Wakes}
 use Rattle.bq_host.specs.declared.{hub.Hub.Hub, timed_core.TimedCore.TimedCore}
 use Rattle.bq_host.proofs.WakeLemmas.{wakes_none, wakes_then}
-use Rattle.bq_host.proofs.{MailLemmas.seat_takes_pending, TimedWentLemmas.by_then, WentLemmas.{gave_none, seat_none, seat_sorted}}
+use Rattle.bq_host.proofs.MailLemmas.{seat_takes_pending}
+use Rattle.bq_host.proofs.TimedRunLemmas.{TimedRan, entry_of, gave_none, gave_then, outs_over, timed_late, timed_over}
+use Rattle.bq_host.proofs.WentLemmas.{none_held, seat_none, seat_on, seat_sorted, seat_stepped, seat_still}
 
 module _ {C K : Type 0} (machine : K → Machine) (compared : K → ℕ) where
   -- A hub is in order if its core is ready and its marks about answers are right.
@@ -52,11 +56,16 @@ module _ {C K : Type 0} (machine : K → Machine) (compared : K → ℕ) where
         → other ≡ seat → WentAt machine compared given seat first submitted taken next
         → WentAt machine compared given other next more later last
         → WentAt machine compared given seat first (submitted ++ more) (taken ++ later) last
-    went_then seat other first next last submitted more taken later same a b = (
-      by_then given seat other first.timed.time.clock next.timed.time.clock last.timed.time.clock (state_of machine compared first)
-          (state_of machine compared next) (state_of machine compared last) submitted more taken later same a.0 b.0,
-      wakes_then first.mails.items next.mails.items last.mails.items first.woken next.woken last.woken a.1 b.1,
-    )
+    went_then seat other first next last submitted more taken later same a b =
+        let b' = rw same at b.0 in (
+          (
+            a.0.0 ++ b'.0,
+            gave_then given first.timed.time.clock next.timed.time.clock last.timed.time.clock a.0.0 b'.0 a.0.1 b'.1,
+            seat_on (state_of machine compared first) (state_of machine compared next) (state_of machine compared last) seat a.0.0 b'.0
+                submitted more taken later a.0.2 b'.2,
+          ),
+          wakes_then first.mails.items next.mails.items last.mails.items first.woken next.woken last.woken a.1 b.1,
+        )
 
     pub went_sorted : (seat : ℕ) (first last : Hub C K) → IsSorted (state_of machine compared first) (state_of machine compared last)
         → last.timed.time.clock ≡ first.timed.time.clock → Wakes first.mails.items last.mails.items first.woken last.woken
@@ -78,12 +87,7 @@ module _ {C K : Type 0} (machine : K → Machine) (compared : K → ℕ) where
     went_moved seat first last held answers sorted moved pending =
         subst (λ (h : Hub C K). WentAt machine compared given seat first [] [] h) (sym moved)
         (went_sorted seat first (with_pending held answers sorted first) (record {
-          core = refl;
-          heard = refl;
-          most = refl;
-          known = refl;
-          due = refl;
-          compared = refl;
+          rest = refl;
           many = refl;
           waiting_is = λ t below.
               ap (λ (xs : List GivenAnswer). slice_index_or first.mails.items t [] ++ answers_to t xs)
@@ -100,39 +104,65 @@ module _ {C K : Type 0} (machine : K → Machine) (compared : K → ℕ) where
           (
             [],
             gave_none given first.timed.time.clock,
-            seat_takes_pending (state_of machine compared first) (state_of machine compared (with_pending held answers sorted first)) seat
-                answer empty (pending ∙ ap (λ (h : Hub C K). (seat, answer) ∷ (state_of machine compared h).pending) moved)
-                refl refl refl refl refl,
+            seat_takes_pending (state_of machine compared first) seat answer (option_to_list held ++ answers) sorted empty
+                (pending ∙ ap (λ (h : Hub C K). (seat, answer) ∷ (state_of machine compared h).pending) moved),
           ),
           wakes_none first.mails.items first.woken,
         )
 
-    -- If no tick was taken, no answer was given.
-    pub none_over : (old new : TimedCore C K) → PassesOver given machine compared old new → new.outs ≡ old.outs
-    none_over old new (looked, l, rest) = elim rest [
-      | inl e ↦ ap (λ (x : TimedCore C K). x.outs) e ∙ l.outs
-      | inr h ↦ ap (λ (x : TimedCore C K). x.outs) h.2 ∙ l.outs
-    ]
+    -- The core took a step, or a tick, while all answers so far were in the mail.
+    pub went_stepped : (seat at : ℕ) (what : Step) (old : Hub C K) (t : TimedCore C K) (marked : Bool)
+        → TimedRan machine compared given old.timed (entry_of at seat what ∷ []) t.outs.given t
+        → (state_of machine compared old).pending ≡ []
+        → WentAt machine compared given seat old (if is_tick what then [] else what ∷ []) [] (record old { timed = t; is_sorted = marked })
+    went_stepped seat at what old t marked r empty = (
+      (
+        r.0,
+        r.1,
+        seat_stepped (state_of machine compared old) (state_of machine compared (record old { timed = t; is_sorted = marked })) seat at
+            what r.0 t.outs.given r.2 refl empty
+            (ap (λ (xs : List GivenAnswer). xs ++ t.outs.given) (none_held (option_to_list old.held) old.timed.outs.given empty)),
+      ),
+      wakes_none old.mails.items old.woken,
+    )
 
-    -- If no tick was taken, the core represents the same model.
-    pub machine_over : (old new : TimedCore C K) → PassesOver given machine compared old new → machine new.core ≡ machine old.core
-    machine_over old new (looked, l, rest) = elim rest [
-      | inl e ↦ ap (λ (x : TimedCore C K). machine x.core) e ∙ l.same
-      | inr h ↦ ap (λ (x : TimedCore C K). machine x.core) h.2 ∙ l.same
-    ]
+    -- Time passed, and no step was taken.
+    went_over : (seat : ℕ) (old : Hub C K) (t : TimedCore C K) (marked : Bool) → PassesOver given machine compared old.timed t
+        → WentAt machine compared given seat old [] [] (record old { timed = t; is_sorted = marked })
+    went_over seat old t marked over =
+        let r = timed_over machine compared given old.timed t over in (
+          (
+            r.0,
+            r.1,
+            seat_still (state_of machine compared old) (state_of machine compared (record old { timed = t; is_sorted = marked })) seat r.0
+                r.2 refl (λ n below.
+                ap (λ (o : Outbox). slice_index_or old.mails.items n [] ++ answers_to n (option_to_list old.held ++ o.given))
+                (outs_over machine compared given old.timed t over)),
+          ),
+          wakes_none old.mails.items old.woken,
+        )
 
-    -- The marks about answers are still right.
-    pub none_pending_over : (old : Hub C K) (t : TimedCore C K) → PassesOver given machine compared old.timed t
-        → IsInOrder (state_of machine compared old) → old.is_sorted ≡ true → option_to_list old.held ++ t.outs.given ≡ []
-    none_pending_over old t over o sorted =
-        ap (λ (x : Outbox). option_to_list old.held ++ x.given) (none_over old.timed t over) ∙ o.none_pending sorted
-
-    pub none_pending_passed : (old : Hub C K) (t : TimedCore C K) (ticks : Bool)
-        → (ticks ≡ false → PassesOver given machine compared old.timed t) → (state_of machine compared old).pending ≡ []
-        → not ticks ≡ true → option_to_list old.held ++ t.outs.given ≡ []
-    none_pending_passed old t false over empty h =
-        ap (λ (x : Outbox). option_to_list old.held ++ x.given) (none_over old.timed t (over refl)) ∙ empty
-    none_pending_passed old t true over empty h = absurd (true≢false (sym h))
+    -- Time passed, and the core took a tick if something was due and it may.
+    pub went_passed : (old : Hub C K) (t : TimedCore C K) (may due : Bool) → IsReady machine t
+        → (machine t.core).settings ≡ (machine old.timed.core).settings
+        → ((may && due) ≡ false → PassesOver given machine compared old.timed t)
+        → ((may && due) ≡ true → LooksAndSteps given machine compared old.timed 0 Tick t)
+        → (may ≡ true → (state_of machine compared old).pending ≡ []) → IsInOrder (state_of machine compared old)
+        → WentInOrder machine compared given 0 old [] [] (record old { timed = t; is_sorted = may && not due })
+    went_passed old t true true ready settings over ticked empty o = (
+      order_ready old (record old { timed = t; is_sorted = false }) ready settings refl (λ sorted. absurd (true≢false (sym sorted))) o,
+      went_stepped 0 t.time.moment Tick old t false (timed_late machine compared given old.timed t 0 Tick (ticked refl)) (empty refl),
+    )
+    went_passed old t true false ready settings over ticked empty o = (
+      order_ready old (record old { timed = t; is_sorted = true }) ready settings refl (λ sorted.
+          ap (λ (x : Outbox). option_to_list old.held ++ x.given) (outs_over machine compared given old.timed t (over refl))
+          ∙ empty refl) o,
+      went_over 0 old t true (over refl),
+    )
+    went_passed old t false due ready settings over ticked empty o = (
+      order_ready old (record old { timed = t; is_sorted = false }) ready settings refl (λ sorted. absurd (true≢false (sym sorted))) o,
+      went_over 0 old t false (over refl),
+    )
 
     -- A seat took an answer after its hub stayed the same for all seats.
     pub takes_on : (seat : ℕ) (first next last : Hub C K) (place after : Action) (took : Bool)

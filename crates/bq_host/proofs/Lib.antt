@@ -7,6 +7,6 @@ pub mod ListLemmas
 pub mod MailLemmas
 pub mod MarkLemmas
 pub mod SendLemmas
-pub mod TimedWentLemmas
+pub mod TimedRunLemmas
 pub mod WakeLemmas
 pub mod WentLemmas

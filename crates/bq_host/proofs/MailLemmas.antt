@@ -1,14 +1,14 @@
 -- An answer is put into the mail of a seat, or taken out of it.
 use Rattle.std.proofs.Common.{◌≡◌, ◌≢◌, ℕ, ◌<◌, Bool, false, List, [], ◌∷◌, ◌++◌}
 use Rattle.std.proofs.Common.{arith, length, refl, sym, ap, ◌∙◌, inl, inr, append-nil, append_assoc, slice_set}
-use Rattle.std.specs.Prelude.{◌==◌, if◌then◌else◌, slice_index_or}
+use Rattle.std.specs.Prelude.{◌==◌, slice_index_or}
 use Rattle.std.proofs.lemmas.{Bool.{cases_Bool, eq-eqb, eqb-true, eqb-false}, Grind.common_steps}
 use Rattle.std.proofs.lemmas.List.{get_or-set_other, get_or-set_same, get_or_default, length-set, set-get_or}
 use Rattle.bq_job.specs.declared.answer.Answer.{Answer}
+use Rattle.bq_job.specs.machine.Dispatch.{GivenAnswer}
 use Rattle.bq_job.specs.promise.Runs.{answers_to}
-use Rattle.bq_job.proofs.RunLemmas.{run_none}
-use Rattle.bq_host.specs.{MailStates.{MailState, waiting}, Went.SeatWent}
-use Rattle.bq_host.proofs.HasComparedLemmas.{compared_still}
+use Rattle.bq_host.specs.{MailStates.{MailState, timed_of, waiting}, Went.SeatWent}
+use Rattle.bq_host.proofs.{TimedRunLemmas.ran_none, WentLemmas.{only, seat_took}}
 
 not_equal : (a b : ℕ) → a ≢ b → (a == b) ≡ false
 not_equal a b h = grind (arith, common_steps, cases_Bool, eqb-true)
@@ -30,55 +30,34 @@ pub still_at : (items : List (List Answer)) (i : ℕ) (old new : List Answer) �
 still_at items i old new below at is =
     ap (λ (x : List Answer). slice_set items i x) (is ∙ at) ∙ set-get_or items i old
 
--- The seat took these answers, and nothing else happened.
-seat_took : (d n : MailState) (seat : ℕ) (taken : List Answer) → n.core ≡ d.core → n.known ≡ d.known → n.compared ≡ d.compared
-    → n.heard ≡ d.heard → length n.mails ≡ length d.mails → ((t : ℕ) → waiting t d ≡ (if t == seat then taken else []) ++ waiting t n)
-    → SeatWent seat d [] [] taken n
-seat_took d n seat taken core known compared heard many tied = record {
-  history = [];
-  took = λ t. if t == seat then taken else [];
-  went = record {
-    given = [];
-    runs = rw core (run_none d.core);
-    timed = record { picked = tt; last_is = heard };
-    many = many;
-    tied = λ t here. append-nil (waiting t d) ∙ tied t;
-    compared = compared_still d n core known compared;
-  };
-  submitted_is = refl;
-  taken_is = ap (λ (b : Bool). if b then taken else []) (eq-eqb seat seat refl);
-  others_still = λ t differs. refl;
-  others_took = λ t differs. ap (λ (b : Bool). if b then taken else []) (not_equal t seat differs);
-}
-
 -- the seat took its oldest answer
-pub seat_takes : (d n : MailState) (seat i : ℕ) (old rest taken : List Answer) → i ≡ seat → i < length d.mails
+pub seat_takes : (d : MailState) (seat i : ℕ) (old rest taken : List Answer) → i ≡ seat → i < length d.mails
     → old ≡ slice_index_or d.mails i old → old ≡ taken ++ rest
-    → n.core ≡ d.core → n.known ≡ d.known → n.compared ≡ d.compared → n.heard ≡ d.heard → n.pending ≡ d.pending
-    → n.mails ≡ slice_set d.mails i rest → SeatWent seat d [] [] taken n
-seat_takes d n seat i old rest taken same below at is core known compared heard pending mails =
-    seat_took d n seat taken core known compared heard (ap length mails ∙ length-set d.mails i rest) tied_at
+    → SeatWent seat d [] [] taken (record d { mails = slice_set d.mails i rest })
+seat_takes d seat i old rest taken same below at is =
+    seat_took d (record d { mails = slice_set d.mails i rest }) seat [] taken (ran_none (timed_of d))
+    (length-set d.mails i rest) (λ t here. tied_at t)
   where
-    tied_at : (t : ℕ) → waiting t d ≡ (if t == seat then taken else []) ++ waiting t n
+    tied_at : (t : ℕ) → waiting t d ≡ only seat taken t ++ (slice_index_or (slice_set d.mails i rest) t [] ++ answers_to t d.pending)
     tied_at t = elim (cases_Bool (t == seat)) [
       | inl e ↦
           let here : t ≡ i = eqb-true t seat e ∙ sym same in
           let before : slice_index_or d.mails i [] ≡ taken ++ rest = get_or_default d.mails i [] old below ∙ sym at ∙ is in
-          rw (e, here, pending, mails, get_or-set_same d.mails i rest [] below, before) (append_assoc taken rest (answers_to i d.pending))
-      | inr e ↦ rw (e, pending, mails, get_or-set_other d.mails i t rest [] (λ h. eqb-false t seat e (h ∙ same))) refl
+          rw (e, here, get_or-set_same d.mails i rest [] below, before) (append_assoc taken rest (answers_to i d.pending))
+      | inr e ↦ rw (e, get_or-set_other d.mails i t rest [] (λ h. eqb-false t seat e (h ∙ same))) refl
     ]
 
 -- A seat whose mail is empty took the oldest pending answer, which was its own.
-pub seat_takes_pending : (d n : MailState) (seat : ℕ) (answer : Answer) → slice_index_or d.mails seat [] ≡ []
-    → d.pending ≡ (seat, answer) ∷ n.pending
-    → n.core ≡ d.core → n.known ≡ d.known → n.compared ≡ d.compared → n.heard ≡ d.heard → n.mails ≡ d.mails
-    → SeatWent seat d [] [] (answer ∷ []) n
-seat_takes_pending d n seat answer empty pending core known compared heard mails =
-    seat_took d n seat (answer ∷ []) core known compared heard (ap length mails) tied_at
+pub seat_takes_pending : (d : MailState) (seat : ℕ) (answer : Answer) (rest : List GivenAnswer) (sorted : Bool)
+    → slice_index_or d.mails seat [] ≡ [] → d.pending ≡ (seat, answer) ∷ rest
+    → SeatWent seat d [] [] (answer ∷ []) (record d { pending = rest; sorted = sorted })
+seat_takes_pending d seat answer rest sorted empty pending =
+    seat_took d (record d { pending = rest; sorted = sorted }) seat [] (answer ∷ [])
+    (ran_none (timed_of d)) refl (λ t here. tied_at t)
   where
-    tied_at : (t : ℕ) → waiting t d ≡ (if t == seat then answer ∷ [] else []) ++ waiting t n
+    tied_at : (t : ℕ) → waiting t d ≡ only seat (answer ∷ []) t ++ (slice_index_or d.mails t [] ++ answers_to t rest)
     tied_at t = elim (cases_Bool (t == seat)) [
       | inl e ↦ let here : t ≡ seat = eqb-true t seat e in
-          rw (e, here, pending, mails, empty, eq-eqb seat seat refl) refl
-      | inr e ↦ rw (e, pending, mails, not_equal seat t (λ h. eqb-false t seat e (sym h))) refl
+          rw (e, here, pending, empty, eq-eqb seat seat refl) refl
+      | inr e ↦ rw (e, pending, not_equal seat t (λ h. eqb-false t seat e (sym h))) refl
     ]

@@ -120,16 +120,15 @@ pub wakes_full : (first mails next last : List (List Answer)) (old w mid new : W
 wakes_full first mails next last old w mid new seat so_far same still kept woken =
     wakes_then first next last old mid new (rw (same, still) so_far) (rw (kept, woken) (wakes_added next seat mid))
 
+-- a state with the answers of another one
+abbrev with_answers : MailState → MailState → MailState
+with_answers answers d = record d { mails = answers.mails; pending = answers.pending; sorted = answers.sorted }
+
 -- Of answers that wait for seats, none was put into a mail.
 pub sorted_moved : (first mid next : MailState) (pending : List GivenAnswer) (sorted : Bool) → IsSorted first mid
     → next ≡ record mid { pending = pending; sorted = sorted } → pending ≡ mid.pending → IsSorted first next
 sorted_moved first mid next pending sorted s moved same = record {
-  core = ap (λ d. d.core) moved ∙ s.core;
-  heard = ap (λ d. d.heard) moved ∙ s.heard;
-  most = ap (λ d. d.most) moved ∙ s.most;
-  known = ap (λ d. d.known) moved ∙ s.known;
-  due = ap (λ d. d.due) moved ∙ s.due;
-  compared = ap (λ d. d.compared) moved ∙ s.compared;
+  rest = ap (with_answers next) moved ∙ ap (with_answers next) s.rest;
   many = ap (λ d. length d.mails) moved ∙ s.many;
   waiting_is = λ t below.
       ap (λ d. waiting t d) moved ∙ ap (λ xs. slice_index_or mid.mails t [] ++ answers_to t xs) same ∙ s.waiting_is t below;
@@ -142,12 +141,7 @@ pub sorted_put : (first mid next : MailState) (pending : List GivenAnswer) (sort
     → ((t : ℕ) → t < length next.mails → slice_index_or mails t [] ≡ slice_index_or next.mails t [] ++ answers_to t ((seat, answer) ∷ []))
     → IsSorted first (record next { mails = mails })
 sorted_put first mid next pending sorted mails seat answer s moved oldest many put = record {
-  core = ap (λ d. d.core) moved ∙ s.core;
-  heard = ap (λ d. d.heard) moved ∙ s.heard;
-  most = ap (λ d. d.most) moved ∙ s.most;
-  known = ap (λ d. d.known) moved ∙ s.known;
-  due = ap (λ d. d.due) moved ∙ s.due;
-  compared = ap (λ d. d.compared) moved ∙ s.compared;
+  rest = ap (with_answers (record next { mails = mails })) moved ∙ ap (with_answers (record next { mails = mails })) s.rest;
   many = many ∙ as_many;
   waiting_is = λ t below. at t (subst (λ n. t < n) (sym as_many) below) ∙ s.waiting_is t below;
 }

@@ -8,6 +8,7 @@ pub mod LastParts
 pub mod MailStates
 pub mod Marks
 pub mod Timed
+pub mod TimedRuns
 pub mod Told
 pub mod WakeLists
 pub mod Went

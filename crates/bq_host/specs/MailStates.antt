@@ -7,6 +7,7 @@ use Rattle.bq_job.specs.declared.settings.Settings.{Settings}
 use Rattle.bq_job.specs.machine.Dispatch.{GivenAnswer}
 use Rattle.bq_job.specs.machine.Machine.{Machine, new_machine}
 use Rattle.bq_job.specs.promise.Runs.{answers_to}
+use Rattle.bq_host.specs.TimedRuns.{TimedState}
 use Rattle.bq_host.specs.declared.timed_core.TimedCore.{TimedCore}
 
 pub record MailState : Type 0 where
@@ -40,6 +41,10 @@ mail_state machine compared timed held mails sorted = record {
   compared = compared timed.core;
 }
 
+-- the core with its clock, without answers
+abbrev pub timed_of : MailState → TimedState
+timed_of d = record { core = d.core; heard = d.heard; known = d.known; compared = d.compared }
+
 -- the answers that wait for a seat
 abbrev pub waiting : ℕ → MailState → List Answer
 waiting seat d = slice_index_or d.mails seat [] ++ answers_to seat d.pending
@@ -64,11 +69,6 @@ pub record IsInOrder (d : MailState) : Type 0 where
 
 -- Answers moved from one place to another, which makes no difference to any seat.
 pub record IsSorted (first last : MailState) : Type 0 where
-  pub core : last.core ≡ first.core
-  pub heard : last.heard ≡ first.heard
-  pub most : last.most ≡ first.most
-  pub known : last.known ≡ first.known
-  pub due : last.due ≡ first.due
-  pub compared : last.compared ≡ first.compared
+  pub rest : last ≡ record first { mails = last.mails; pending = last.pending; sorted = last.sorted }
   pub many : length last.mails ≡ length first.mails
   pub waiting_is : (seat : ℕ) → seat < length first.mails → waiting seat last ≡ waiting seat first

@@ -4,19 +4,12 @@ use Rattle.std.specs.Prelude.{ℕ, ◌≡◌, ◌≢◌, ◌<◌, List, [], ◌+
 use Rattle.bq_job.specs.declared.answer.Answer.{Answer}
 use Rattle.bq_job.specs.declared.step.Step.{Step}
 use Rattle.bq_job.specs.machine.Dispatch.{GivenAnswer}
-use Rattle.bq_job.specs.machine.Machine.{Machine}
 use Rattle.bq_job.specs.promise.History.{IsTimedFrom, steps_at}
 use Rattle.bq_job.specs.promise.Runs.{Entry, Run, answers_to}
 use Rattle.bq_line.specs.GivenReadings.{GaveReadings}
 use Rattle.bq_host.specs.Clocks.{Gives}
-use Rattle.bq_host.specs.Compared.{AreWithin, LooksOnce}
-use Rattle.bq_host.specs.MailStates.{MailState, waiting}
-
--- Along this history, counted from this many comparisons on, the core stayed within the bounds of
--- its steps, and was asked for the next due moment at most once since the last step.
-abbrev pub HasCompared : Machine → List Entry → List GivenAnswer → ℕ → MailState → Type 0
-HasCompared start history given from d = (count : ℕ) × AreWithin start history given d.core from count
-    × LooksOnce d.known d.core count d.compared
+use Rattle.bq_host.specs.MailStates.{MailState, timed_of, waiting}
+use Rattle.bq_host.specs.TimedRuns.{Compares}
 
 -- The core took the steps of this history at moments of these readings, within its bounds of comparisons, and at each seat these
 -- answers were taken out.
@@ -27,8 +20,7 @@ pub record CoreWent (first : MailState) (readings : List (Option ℕ)) (history 
   pub timed : IsTimedFrom first.heard readings history last.heard
   pub many : length last.mails ≡ length first.mails
   pub tied : (seat : ℕ) → seat < length first.mails → waiting seat first ++ answers_to seat given ≡ taken seat ++ waiting seat last
-  pub compared : (start : Machine) (before : List Entry) (gave : List GivenAnswer) (from : ℕ) → HasCompared start before gave from first
-      → HasCompared start (before ++ history) (gave ++ given) from last
+  pub compared : Compares (timed_of first) history given (timed_of last)
 
 -- The same as one seat sees it: it alone submitted these steps and took these answers.
 pub record SeatWent (seat : ℕ) (first : MailState) (readings : List (Option ℕ))

@@ -339,38 +339,10 @@ impl<C: Clock + Drop, K: QueueCore + Drop> Hub<C, K> {
         ensures same { result ≡ false → K.machine self.new.timed.core ≡ K.machine self.old.timed.core }
         ensures went { WentInOrder K.machine K.comparisons C.given 0 self.old [] [] self.new }
     {
-        if self.sort(0) {
-            self.tick()
-        } else {
-            self.is_due()
-        }
-    }
-
-    // Reads the clock if anything will ever be due. Returns whether something is due by now.
-    fn is_due(&mut self) -> bool
-        requires order { IsInOrder (state_of K.machine K.comparisons self.old) }
-        ensures due { result
-            ≡ not (is_before self.new.timed.time.moment (next_due (K.machine self.old.timed.core))) }
-        ensures known { self.new.timed.due ≡ next_due (K.machine self.old.timed.core) }
-        ensures same { K.machine self.new.timed.core ≡ K.machine self.old.timed.core }
-        ensures went { WentInOrder K.machine K.comparisons C.given 0 self.old [] [] self.new }
-    {
-        self.timed.is_due(self.is_fresh)
-    }
-
-    // The same, and takes a tick then.
-    fn tick(&mut self) -> bool
-        requires order { IsInOrder (state_of K.machine K.comparisons self.old) }
-        requires empty { (state_of K.machine K.comparisons self.old).pending ≡ [] }
-        ensures due { result
-            ≡ not (is_before self.new.timed.time.moment (next_due (K.machine self.old.timed.core))) }
-        ensures known { self.new.timed.due ≡ next_due (K.machine self.old.timed.core) }
-        ensures same { result ≡ false → K.machine self.new.timed.core ≡ K.machine self.old.timed.core }
-        ensures went { WentInOrder K.machine K.comparisons C.given 0 self.old [] [] self.new }
-    {
-        let ticks = self.timed.tick_if_due(0, self.is_fresh);
-        self.is_sorted = !ticks;
-        ticks
+        let may_tick = self.sort(0);
+        let is_due = self.timed.tick_if_due(0, self.is_fresh, may_tick);
+        self.is_sorted = may_tick & !is_due;
+        is_due
     }
 }
 

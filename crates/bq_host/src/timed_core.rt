@@ -1,5 +1,5 @@
 //! A core with its clock, and the moment that the clock's readings amount to.
-ghost use Rattle.std.specs.Prelude.{◌≡◌, ◌<◌, ◌↔◌, ◌+◌, [], false, not, true, IfOk, IsErrOf, IsTrue};
+ghost use Rattle.std.specs.Prelude.{◌≡◌, ◌<◌, ◌↔◌, ◌+◌, ◌&&◌, [], false, not, true, IfOk, IsErrOf, IsTrue};
 ghost use Rattle.bq_job.specs.beside.NextDue.{is_before, next_due};
 ghost use Rattle.bq_job.specs.machine.Machine.{new_machine};
 ghost use Rattle.bq_core_api.specs.Limits.{are_in_range};
@@ -166,17 +166,17 @@ impl<C: Clock + Drop, K: QueueCore + Drop> TimedCore<C, K> {
         }
     }
 
-    /// Takes a tick if something is due by now, and returns whether it did. The clock is read
+    /// Returns whether something is due by now, and takes a tick then, if it may. The clock is read
     /// once, unless nothing will ever be due; the tick is taken at the moment of that reading.
     ///
     /// `is_fresh` says that the last reading is as good as a new one: if nothing was due then, the
     /// clock is not read.
-    pub fn tick_if_due(&mut self, seat: Seat, is_fresh: bool) -> bool
+    pub fn tick_if_due(&mut self, seat: Seat, is_fresh: bool, may_tick: bool) -> bool
         requires ready { IsReady K.machine self.old }
         ensures ready { IsReady K.machine self.new }
-        ensures over { result ≡ false → PassesOver C.given K.machine K.comparisons self.old self.new }
-        ensures ticked { result ≡ true → LooksAndSteps C.given K.machine K.comparisons self.old seat Step.Tick self.new }
-        ensures ticks { result
+        ensures over { (may_tick && result) ≡ false → PassesOver C.given K.machine K.comparisons self.old self.new }
+        ensures ticked { (may_tick && result) ≡ true → LooksAndSteps C.given K.machine K.comparisons self.old seat Step.Tick self.new }
+        ensures is_due { result
             ≡ not (is_before self.new.time.moment (next_due (K.machine self.old.core))) }
         ensures due { self.new.due ≡ next_due (K.machine self.old.core) }
         ensures settings { (K.machine self.new.core).settings ≡ (K.machine self.old.core).settings }
@@ -184,7 +184,9 @@ impl<C: Clock + Drop, K: QueueCore + Drop> TimedCore<C, K> {
         if !self.is_due(is_fresh) {
             return false;
         }
-        self.tick(seat);
+        if may_tick {
+            self.tick(seat);
+        }
         true
     }
 
@@ -207,9 +209,9 @@ impl<C: Clock + Drop, K: QueueCore + Drop> TimedCore<C, K> {
         );
     }
 
-    /// Returns whether something is due by now. The clock is read once, unless nothing will
-    /// ever be due, or the last reading is fresh and nothing was due then.
-    pub fn is_due(&mut self, is_fresh: bool) -> bool
+    // Returns whether something is due by now. The clock is read once, unless nothing will
+    // ever be due, or the last reading is fresh and nothing was due then.
+    fn is_due(&mut self, is_fresh: bool) -> bool
         requires ready { IsReady K.machine self.old }
         ensures ready { IsReady K.machine self.new }
         ensures over { PassesOver C.given K.machine K.comparisons self.old self.new }

@@ -12,16 +12,17 @@ use Rattle.bq_job.specs.promise.History.{moment_heard}
 use Rattle.bq_core_api.specs.Outbox.{Outbox}
 use Rattle.bq_link.specs.Submissions.{Invariant}
 use Rattle.bq_host.specs.Clocks.{Gives}
-use Rattle.bq_host.specs.Timed.{HasHeard, HasLooked, IsReady, LooksAndSteps, PassesOver}
+use Rattle.bq_host.specs.Timed.{HasHeard, IsReady, LooksAndSteps, PassesOver}
 use Rattle.bq_host.specs.declared.timed_core.HeardClock.{HeardClock}
 use Rattle.bq_host.specs.declared.timed_core.TimedCore.{TimedCore}
 use Rattle.bq_thread_work.specs.Sending.{AreStuck}
-use Rattle.bq_thread_work.specs.Worked.{FindsWork, HasTicked, HasWorked, IsInOrder, TookOne, WorkWent, WorksOn, driver_state}
+use Rattle.bq_thread_work.specs.Worked.{FindsWork, HasTicked, IsInOrder, TookOne, WorkWent, WorksOn, driver_state}
 use Rattle.bq_thread_work.specs.declared.core_work.polling.Polling.{Polling}
 use Rattle.bq_thread_work.specs.declared.core_work.sender.Sender.{Sender}
 use Rattle.bq_thread_work.specs.declared.core_work.yielding.Yielding.{Yielding}
 use Rattle.bq_thread_work.specs.declared.core_work.core_driver.CoreDriver.{CoreDriver}
-use Rattle.bq_thread_work.proofs.WorkedLemmas.{pending_on, worked_heard, worked_looked, worked_tick}
+use Rattle.bq_host.proofs.TimedRunLemmas.{machine_over, outs_over, timed_heard, timed_late, timed_over}
+use Rattle.bq_thread_work.proofs.WorkedLemmas.{pending_on, worked_over, worked_tick}
 
 -- Nothing was done.
 pub on_still : {C K : Type 0} (given : Gives C) (machine : K → Machine) (compared : K → ℕ) (h : CoreDriver C K) → IsInOrder machine h
@@ -49,41 +50,21 @@ on_both given machine compared old mid new a b = record {
   work = λ settings from first w. b.work settings from first (a.work settings from first w);
 }
 
--- The core was asked for the next due moment, if it was not known.
-looked_on : {C K : Type 0} (machine : K → Machine) (compared : K → ℕ) (old : CoreDriver C K) (looked : TimedCore C K)
-    → HasLooked machine compared old.timed looked
-    → (settings : Settings) (from : ℕ) (readings : List (Option ℕ)) → HasWorked settings from readings (driver_state machine compared old)
-    → HasWorked settings from readings (driver_state machine compared (record old { timed = looked }))
-looked_on machine compared old looked l settings from readings w =
-    worked_looked settings from readings (driver_state machine compared old)
-    (driver_state machine compared (record old { timed = looked })) w l.same (ap (λ (h : HeardClock _). h.moment) l.time) refl (ap (λ (o :
-    Outbox). old.sender.kept.items ++ o.given) l.outs) refl l.known
-    l.once
-
 -- Time passed, and no step was taken.
 pub on_over : {C K : Type 0} (given : Gives C) (machine : K → Machine) (compared : K → ℕ) (old : CoreDriver C K) (t : TimedCore C K)
     → IsInOrder machine old → IsReady machine t → PassesOver given machine compared old.timed t
     → WorksOn given machine compared old (record old { timed = t })
-on_over {C} {K} given machine compared old t order ready (looked, l, rest) = record {
+on_over {C} {K} given machine compared old t order ready over = record {
   order = record { ready = ready; sender = order.sender; many = order.many; all = order.all };
   end = (refl, refl);
-  settings = elim rest [
-    | inl e ↦ rw e (ap (λ (m : Machine). m.settings) l.same)
-    | inr h ↦ ap (λ (x : TimedCore C K). (machine x.core).settings) h.2 ∙ ap (λ (m : Machine). m.settings) l.same
-  ];
-  work = λ settings from first w. elim rest [
-    | inl e ↦ rw e (w.0, (rw l.time w.1), looked_on machine compared old looked l settings from w.0 w.2)
-    | inr h ↦ (
-      w.0 ++ h.0 ∷ [],
-      h.1.gave first w.0 (rw l.time w.1),
-      worked_heard settings from w.0 (driver_state machine compared (record old { timed = looked }))
-          (driver_state machine compared (record old { timed = t })) h.0
-          (looked_on machine compared old looked l settings from w.0 w.2)
-          (ap (λ (x : TimedCore C K). machine x.core) h.2) h.1.heard refl
-          (ap (λ (x : TimedCore C K). old.sender.kept.items ++ x.outs.given) h.2) refl (ap (λ (x : TimedCore C K). x.is_due_known) h.2)
-          (ap (λ (x : TimedCore C K). compared x.core) h.2),
-    )
-  ];
+  settings = ap (λ (m : Machine). m.settings) (machine_over machine compared given old.timed t over);
+  work = λ settings from first w.
+      let r = timed_over machine compared given old.timed t over in (
+        w.0 ++ r.0,
+        r.1 first w.0 w.1,
+        worked_over settings from w.0 r.0 (driver_state machine compared old) (driver_state machine compared (record old { timed = t })) w.2
+            r.2 refl (ap (λ (o : Outbox). old.sender.kept.items ++ o.given) (outs_over machine compared given old.timed t over)) refl,
+      );
 }
 
 -- A reading never lowers the latest moment.
@@ -104,32 +85,32 @@ on_heard {C} {K} given machine compared old time reading order h = record {
   };
   end = (refl, refl);
   settings = refl;
-  work = λ settings from first w. (
-    w.0 ++ reading ∷ [],
-    h.gave first w.0 w.1,
-    worked_heard settings from w.0 (driver_state machine compared old)
-        (driver_state machine compared (record old { timed = record old.timed { time = time } })) reading w.2 refl h.heard refl refl refl
-        refl refl,
-  );
+  work = λ settings from first w.
+      let new : TimedCore C K = record old.timed { time = time } in
+      let r = timed_heard machine compared given old.timed new (reading, h, refl) in (
+        w.0 ++ r.0,
+        r.1 first w.0 w.1,
+        worked_over settings from w.0 r.0 (driver_state machine compared old) (driver_state machine compared (record old { timed = new }))
+            w.2 r.2 refl refl refl,
+      );
 }
 
 -- Time passed, and the core took a tick.
 pub on_ticked : {C K : Type 0} (given : Gives C) (machine : K → Machine) (compared : K → ℕ) (old : CoreDriver C K) (t : TimedCore C K)
     → IsInOrder machine old → IsReady machine t → old.timed.outs.given ≡ [] → LooksAndSteps given machine compared old.timed 0 Tick t
     → WorksOn given machine compared old (record old { timed = t })
-on_ticked {C} {K} given machine compared old t order ready none (looked, l, s) = record {
+on_ticked {C} {K} given machine compared old t order ready none late = record {
   order = record { ready = ready; sender = order.sender; many = order.many; all = order.all };
   end = (refl, refl);
-  settings = s.settings ∙ ap (λ (m : Machine). m.settings) l.same;
-  work = λ settings from first w. (
-    w.0 ++ s.reading ∷ [],
-    s.time.gave first w.0 (rw l.time w.1),
-    worked_tick settings from w.0 (driver_state machine compared (record old { timed = looked }))
-        (driver_state machine compared (record old { timed = t })) s.reading s.outcome t.outs.given
-        (looked_on machine compared old looked l settings from w.0 w.2) s.step s.time.heard refl
-        (pending_on old.sender.kept.items old.sender.kept.items looked.outs.given t.outs.given refl
-        (ap (λ (o : Outbox). o.given) l.outs ∙ none)) refl s.unknown,
-  );
+  settings = late.2.settings ∙ ap (λ (m : Machine). m.settings) late.1.same;
+  work = λ settings from first w.
+      let r = timed_late machine compared given old.timed t 0 Tick late in (
+        w.0 ++ r.0,
+        r.1 first w.0 w.1,
+        worked_tick settings from w.0 r.0 (driver_state machine compared old) (driver_state machine compared (record old { timed = t }))
+            t.time.moment t.outs.given w.2 r.2 refl
+            (pending_on old.sender.kept.items old.sender.kept.items old.timed.outs.given t.outs.given refl none) refl,
+      );
 }
 
 pub on_passed : {C K : Type 0} (given : Gives C) (machine : K → Machine) (compared : K → ℕ) (old : CoreDriver C K) (t : TimedCore C K)
@@ -140,14 +121,6 @@ pub on_passed : {C K : Type 0} (given : Gives C) (machine : K → Machine) (comp
 on_passed given machine compared old t true order ready none over ticked =
     on_ticked given machine compared old t order ready none (ticked refl)
 on_passed given machine compared old t false order ready none over ticked = on_over given machine compared old t order ready (over refl)
-
--- If no step was taken, the model is the same.
-pub still_over : {C K : Type 0} (given : Gives C) (machine : K → Machine) (compared : K → ℕ) (old t : TimedCore C K)
-    → PassesOver given machine compared old t → machine t.core ≡ machine old.core
-still_over {C} {K} given machine compared old t (looked, l, rest) = elim rest [
-  | inl e ↦ ap (λ (x : TimedCore C K). machine x.core) e ∙ l.same
-  | inr h ↦ ap (λ (x : TimedCore C K). machine x.core) h.2 ∙ l.same
-]
 
 pub has_ticked : {C K : Type 0} (given : Gives C) (machine : K → Machine) (compared : K → ℕ) (old : CoreDriver C K) (t : TimedCore C K)
     → LooksAndSteps given machine compared old.timed 0 Tick t → HasTicked machine old (record old { timed = t })

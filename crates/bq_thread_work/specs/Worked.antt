@@ -6,14 +6,13 @@ use Rattle.bq_job.specs.declared.settings.Settings.{Settings}
 use Rattle.bq_job.specs.declared.step.Step.{Step}
 use Rattle.bq_job.specs.declared.step.Step.TheVariants.{Gone, Tick}
 use Rattle.bq_job.specs.machine.Dispatch.{GivenAnswer}
-use Rattle.bq_job.specs.promise.History.{IsTimedFrom}
-use Rattle.bq_job.specs.machine.Machine.{Machine, new_machine}
-use Rattle.bq_job.specs.promise.Runs.{Entry, Run, answers_to}
+use Rattle.bq_job.specs.machine.Machine.{Machine}
+use Rattle.bq_job.specs.promise.Runs.{Entry, answers_to}
 use Rattle.bq_job.specs.machine.Steps.{IsStep, Outcome}
 use Rattle.bq_link.specs.EndStates.{CoreState, IntakeState, IsSameCore, sent_to}
 use Rattle.bq_link.specs.Submissions.{AreBelow, Invariant, steps_of}
-use Rattle.bq_host.specs.Compared.{AreWithin, LooksOnce}
 use Rattle.bq_host.specs.Timed.{IsReady}
+use Rattle.bq_host.specs.TimedRuns.{HasRun, TimedState, new_timed, timed_state}
 use Rattle.bq_host.specs.Clocks.{Gives}
 use Rattle.bq_thread_work.specs.CoreWork.{HasGone, no_ticks, steps_made}
 use Rattle.bq_thread_work.specs.Flags.{AreAllSet}
@@ -21,28 +20,20 @@ use Rattle.bq_thread_work.specs.Sending.{AreStuck, IsAtRest}
 use Rattle.bq_thread_work.specs.declared.core_work.gone_ends.GoneEnds.{GoneEnds}
 use Rattle.bq_thread_work.specs.declared.core_work.core_driver.CoreDriver.{CoreDriver}
 
--- the state of the core's thread without its clock
+-- the state of the core's thread
 pub record DriverState : Type 0 where
-  pub core : Machine
+  pub timed : TimedState
   pub end : CoreState
   -- the answers that were not sent yet, and a flag for each end that has gone
   pub pending : List GivenAnswer
   pub gone : List Bool
-  -- the latest moment of the clock
-  pub heard : ℕ
-  -- whether the next due moment is known, and the comparisons so far
-  pub known : Bool
-  pub compared : ℕ
 
 abbrev pub driver_state : {C K : Type 0} → (K → Machine) → (K → ℕ) → CoreDriver C K → DriverState
 driver_state machine compared h = record {
-  core = machine h.timed.core;
+  timed = timed_state machine compared h.timed;
   end = h.sender.end;
   pending = h.sender.kept.items ++ h.timed.outs.given;
   gone = h.gone.flags.items;
-  heard = h.timed.time.moment;
-  known = h.timed.is_due_known;
-  compared = compared h.timed.core;
 }
 
 -- What the core did since the start: it took the steps that arrived at its end, and ticks, each at
@@ -51,15 +42,11 @@ driver_state machine compared h = record {
 pub record HasWorked (settings : Settings) (from : ℕ) (readings : List (Option ℕ)) (h : DriverState) : Type 0 where
   pub history : List Entry
   pub given : List GivenAnswer
-  pub runs : Run (new_machine settings) history given h.core
-  pub timed : IsTimedFrom 0 readings history h.heard
+  pub ran : HasRun (new_timed settings from) readings history given h.timed
   pub taken_is : steps_made history ≡ no_ticks h.end.taken
   pub numbers : AreBelow (length h.end.rings) h.end.taken
   pub sent_is : (seat : ℕ) → seat < length h.end.rings → answers_to seat given ≡ sent_to h.end seat ++ answers_to seat h.pending
   pub marked : (seat : ℕ) → slice_index_or h.gone seat false ≡ true → HasGone (steps_of seat h.end.taken)
-  pub count : ℕ
-  pub within : AreWithin (new_machine settings) history given h.core from count
-  pub looked : LooksOnce h.known h.core count h.compared
 
 -- the same with the clock, which gave these readings from the first on
 abbrev pub IsAtWork : {C K : Type 0} → Gives C → (K → Machine) → (K → ℕ) → Settings → ℕ → C → CoreDriver C K → Type 0

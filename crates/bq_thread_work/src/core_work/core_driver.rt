@@ -292,7 +292,7 @@ impl<C: Clock + Drop, K: QueueCore + Drop> CoreDriver<C, K> {
             → K.machine self.new.timed.core ≡ K.machine self.old.timed.core }
         ensures ticked { result ≡ true → HasTicked K.machine self.old self.new }
     {
-        self.timed.tick_if_due(0, false)
+        self.timed.tick_if_due(0, false, true)
     }
 
     // Records an end as gone if its step says so.

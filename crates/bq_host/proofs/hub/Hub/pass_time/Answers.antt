@@ -16,8 +16,8 @@ returns-clause-due g c =
     let t = c.tick_if_due-ticks in
     let s = c.sort-all.ensures.sorted in
     rest_is t.result t.new.self.timed.time.moment c.sort-all.new.self.timed.time.moment c.sort-all.new.self.timed.due
-    (next_due (g.K.QueueCore.machine c.args.self.now.timed.core)) c.rest.result c.rest.ensures t.ensures.due s.heard
-    (s.due ∙ t.ensures.known)
+    (next_due (g.K.QueueCore.machine c.args.self.now.timed.core)) c.rest.result c.rest.ensures t.ensures.due (ap (λ d. d.heard) s.rest)
+    (ap (λ d. d.due) s.rest ∙ t.ensures.known)
 
 pub returns-clause-within : goal.returns-clause-within
 returns-clause-within g c =
@@ -25,5 +25,5 @@ returns-clause-within g c =
     let s = c.sort-all.ensures.sorted in
     limit_is t.result t.new.self.timed.time.moment c.sort-all.new.self.timed.time.moment c.sort-all.new.self.timed.due
     (next_due (g.K.QueueCore.machine c.args.self.now.timed.core))
-    (next_due (g.K.QueueCore.machine c.sort-all.new.self.timed.core)) c.rest.result c.rest.ensures t.ensures.due s.heard
-    (s.due ∙ t.ensures.known) (λ no. ap next_due (s.core ∙ t.ensures.same no))
+    (next_due (g.K.QueueCore.machine c.sort-all.new.self.timed.core)) c.rest.result c.rest.ensures t.ensures.due (ap (λ d. d.heard) s.rest)
+    (ap (λ d. d.due) s.rest ∙ t.ensures.known) (λ no. ap next_due (ap (λ d. d.core) s.rest ∙ t.ensures.same no))

@@ -1,4 +1,4 @@
-use Rattle.std.proofs.Common.{Bool}
+use Rattle.std.proofs.Common.{ap, Bool}
 use Rattle.bq_host.specs.Hubs.{state_of}
 use Rattle.bq_host.specs.MailStates.{IsSorted, MailState}
 use Rattle.bq_host.proofs.WentLemmas.{order_sorted}
@@ -7,12 +7,7 @@ use Rattle.bq_host.proofs.hub.Hub.sort_out.Goals as goal
 -- The mark about answers makes no difference to where they are.
 marked : (first last : MailState) (sorted : Bool) → IsSorted first last → IsSorted first (record last { sorted = sorted })
 marked first last sorted s = record {
-  core = s.core;
-  heard = s.heard;
-  most = s.most;
-  known = s.known;
-  due = s.due;
-  compared = s.compared;
+  rest = ap (λ (d : MailState). record d { sorted = sorted }) s.rest;
   many = s.many;
   waiting_is = s.waiting_is;
 }

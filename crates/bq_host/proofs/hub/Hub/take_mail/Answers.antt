@@ -1,7 +1,6 @@
 use Rattle.std.proofs.Common.{[], refl, arith, rules}
 use Rattle.bq_host.specs.Hubs.{state_of}
-use Rattle.bq_host.proofs.WentLemmas.{gave_none}
-use Rattle.bq_host.proofs.MailLemmas.{seat_takes}
+use Rattle.bq_host.proofs.{MailLemmas.seat_takes, TimedRunLemmas.gave_none}
 use Rattle.bq_host.proofs.WakeLemmas.{wakes_taken}
 use Rattle.bq_host.proofs.hub.Hub.take_mail.Goals as goal
 
@@ -12,10 +11,9 @@ returns-clause-went g c = (
     (
       [],
       gave_none g.C.Clock.given c.args.self.now.timed.time.clock,
-      seat_takes (state_of g.K.QueueCore.machine g.K.QueueCore.comparisons c.args.self.now) _ c.args.seat c.from.result
+      seat_takes (state_of g.K.QueueCore.machine g.K.QueueCore.comparisons c.args.self.now) c.args.seat c.from.result
           c.index_mut.result.now c.take_first.new.self _ c.from.ensures (let e = c.from.ensures in let b = c.requires.ready.1 in
-          omega arith) c.index_mut.ensures.value c.take_first.ensures.oldest
-          refl refl refl refl refl refl,
+          omega arith) c.index_mut.ensures.value c.take_first.ensures.oldest,
     ),
     wakes_taken c.args.self.now.mails.items c.from.result c.index_mut.result.now c.take_first.new.self _ c.args.self.now.woken
         (let e = c.from.ensures in let b = c.requires.ready.1 in

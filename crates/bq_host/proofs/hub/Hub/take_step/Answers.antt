@@ -1,23 +1,20 @@
-use Rattle.std.proofs.Common.{◌∙◌, ap, false, refl}
+use Rattle.std.proofs.Common.{ap, ◌∙◌, false, refl}
 use Rattle.std.proofs.lemmas.Bool.{false≢true}
 use Rattle.bq_host.specs.Told.{noted}
-use Rattle.bq_host.proofs.TimedWentLemmas.{timed_step}
-use Rattle.bq_host.proofs.HubLemmas.{order_ready}
-use Rattle.bq_host.proofs.WakeLemmas.{wakes_none}
+use Rattle.bq_host.proofs.HubLemmas.{order_ready, went_stepped}
+use Rattle.bq_host.proofs.TimedRunLemmas.{timed_step}
 use Rattle.bq_host.proofs.hub.Hub.take_step.Goals as goal
 
 pub returns-clause-went : goal.returns-clause-went
 returns-clause-went g c =
     let t = c.take_step_quietly-notice in
+    let machine = g.K.QueueCore.machine in
+    let compared = g.K.QueueCore.comparisons in
     let old = c.args.self.now in (
-      order_ready g.K.QueueCore.machine g.K.QueueCore.comparisons old
-          (record old { timed = t.new.self; is_sorted = false }) t.ensures.ready t.ensures.taken.settings refl
+      order_ready machine compared old (record old { timed = t.new.self; is_sorted = false }) t.ensures.ready t.ensures.taken.settings refl
           (λ sorted. absurd (false≢true sorted)) c.requires.order,
-      (
-        timed_step g.K.QueueCore.machine g.K.QueueCore.comparisons g.C.Clock.given c.args.seat old.held old.mails.items c.args.what.now
-            old.timed t.new.self old.is_sorted false t.ensures.taken c.requires.empty,
-        wakes_none old.mails.items old.woken,
-      ),
+      went_stepped machine compared g.C.Clock.given c.args.seat t.new.self.time.moment c.args.what.now old t.new.self false
+          (timed_step machine compared g.C.Clock.given old.timed t.new.self c.args.seat c.args.what.now t.ensures.taken) c.requires.empty,
     )
 
 pub returns-clause-noted : goal.returns-clause-noted

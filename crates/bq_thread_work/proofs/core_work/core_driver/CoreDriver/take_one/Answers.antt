@@ -1,5 +1,6 @@
-use Rattle.std.proofs.Common.{◌∙◌, ◌++◌, ◌∷◌, [], ap, inl, subst, sym}
+use Rattle.std.proofs.Common.{◌∙◌, ◌++◌, ap, inl, subst, sym}
 use Rattle.bq_link.specs.EndStates.{CoreState}
+use Rattle.bq_host.proofs.TimedRunLemmas.{timed_step}
 use Rattle.bq_thread_work.specs.Sending.{AreStuck}
 use Rattle.bq_thread_work.specs.Worked.{driver_state}
 use Rattle.bq_thread_work.specs.declared.core_work.sender.Sender.{Sender}
@@ -11,23 +12,23 @@ returns-in-Some-clause-on g c =
     let t = c.take_step.ensures.taken in
     let old = c.args.self.now in
     let new = c.take_step.new.self in
-    let state = driver_state g.K.QueueCore.machine g.K.QueueCore.comparisons in
+    let machine = g.K.QueueCore.machine in
+    let compared = g.K.QueueCore.comparisons in
     let sender = c.take_step.ensures.sender ∙ c.in-Some.ensures.taken in
     let end = ap (λ (s : Sender). s.end) sender in
     record {
       order = c.take_step.ensures.order;
       end = (ap (λ (e : CoreState). e.intake) end, ap (λ (e : CoreState). e.rings) end);
       settings = t.settings;
-      work = λ settings from first w. (
-        w.0 ++ t.reading ∷ [],
-        t.time.gave first w.0 w.1,
-        worked_step settings from w.0 (state old)
-            (state new) c.in-Some.taken.0 c.in-Some.taken.1 t.reading t.outcome new.timed.outs.given c.in-Some.ensures.number
-            w.2 t.step t.time.heard
-            end
-            (pending_on new.sender.kept.items old.sender.kept.items old.timed.outs.given new.timed.outs.given
-            (ap (λ (s : Sender). s.kept.items) sender) c.requires.none) c.take_step.ensures.marked t.unknown,
-      );
+      work = λ settings from first w.
+          let r = timed_step machine compared g.C.Clock.given old.timed new.timed c.in-Some.taken.0 c.in-Some.taken.1 t in (
+            w.0 ++ r.0,
+            r.1 first w.0 w.1,
+            worked_step settings from w.0 r.0 (driver_state machine compared old) (driver_state machine compared new) new.timed.time.moment
+                c.in-Some.taken.0 c.in-Some.taken.1 new.timed.outs.given c.in-Some.ensures.number w.2 r.2 end
+                (pending_on new.sender.kept.items old.sender.kept.items old.timed.outs.given new.timed.outs.given
+                (ap (λ (s : Sender). s.kept.items) sender) c.requires.none) c.take_step.ensures.marked,
+          );
     }
 
 pub returns-in-None-clause-on : goal.returns-in-None-clause-on

@@ -1,4 +1,5 @@
-use Rattle.bq_thread_work.proofs.TurnLemmas.{has_ticked, on_passed, still_over}
+use Rattle.bq_host.proofs.TimedRunLemmas.{machine_over}
+use Rattle.bq_thread_work.proofs.TurnLemmas.{has_ticked, on_passed}
 use Rattle.bq_thread_work.proofs.core_work.core_driver.CoreDriver.tick_if_due.Goals as goal
 
 pub returns-clause-on : goal.returns-clause-on
@@ -8,7 +9,7 @@ returns-clause-on g c =
     c.requires.order t.ready c.requires.none t.over t.ticked
 
 pub returns-clause-still : goal.returns-clause-still
-returns-clause-still g c = λ e. still_over g.C.Clock.given g.K.QueueCore.machine g.K.QueueCore.comparisons c.args.self.now.timed
+returns-clause-still g c = λ e. machine_over g.K.QueueCore.machine g.K.QueueCore.comparisons g.C.Clock.given c.args.self.now.timed
     c.tick_if_due.new.self (c.tick_if_due.ensures.over e)
 
 pub returns-clause-ticked : goal.returns-clause-ticked

@@ -1,0 +1,164 @@
+-- What a core with its clock did, one thing after another.
+use Rattle.std.proofs.Common.{◌≡◌, ℕ, List, [], ◌∷◌, ◌++◌, Option, refl, sym, ap, ◌∙◌, subst, inl, inr, append-nil, append_assoc}
+use Rattle.std.proofs.lemmas.List.{map-append}
+use Rattle.bq_job.specs.declared.step.Step.{Step}
+use Rattle.bq_job.specs.machine.Dispatch.{GivenAnswer}
+use Rattle.bq_job.specs.machine.Machine.{Machine}
+use Rattle.bq_job.specs.promise.History.{ArePickedFrom, IsTimedFrom, last_heard, moment_heard, moments_heard}
+use Rattle.bq_job.specs.promise.Runs.{Entry, Run}
+use Rattle.bq_job.proofs.RunLemmas.{run_append, run_from, run_none}
+use Rattle.bq_line.specs.GivenReadings.{GaveReadings}
+use Rattle.bq_core_api.specs.Outbox.{Outbox}
+use Rattle.bq_host.specs.Clocks.{Gives}
+use Rattle.bq_host.specs.Timed.{HasLooked, LooksAndSteps, OnlyHears, PassesOver, TakesStep}
+use Rattle.bq_host.specs.TimedRuns.{HasRun, TimedState, timed_state}
+use Rattle.bq_host.specs.declared.timed_core.HeardClock.{HeardClock}
+use Rattle.bq_host.specs.declared.timed_core.TimedCore.{TimedCore}
+use Rattle.bq_host.proofs.HasComparedLemmas.{compared_looked, compared_on, compared_step, compared_still}
+
+abbrev pub entry_of : ℕ → ℕ → Step → Entry
+entry_of at seat what = record { moment = at; seat = seat; what = what }
+
+-- a clock that was not read gave no reading
+pub gave_none : {C : Type 0} (given : C → List (Option ℕ) → C → Type 0) (clock : C) → GaveReadings given clock [] clock
+gave_none given clock first before h = rw (append-nil before) h
+
+pub gave_then : {C : Type 0} (given : C → List (Option ℕ) → C → Type 0) (a b c : C) (readings reads : List (Option ℕ))
+    → GaveReadings given a readings b → GaveReadings given b reads c → GaveReadings given a (readings ++ reads) c
+gave_then given a b c readings reads h i first before g =
+    rw (← append_assoc before readings reads) (i first (before ++ readings) (h first before g))
+
+moments_append : (last : ℕ) (xs ys : List (Option ℕ))
+    → moments_heard last (xs ++ ys) ≡ moments_heard last xs ++ moments_heard (last_heard last xs) ys
+moments_append last [] ys = refl
+moments_append last (x ∷ xs) ys = ap (λ ms. moment_heard last x ∷ ms) (moments_append (moment_heard last x) xs ys)
+
+heard_append : (last : ℕ) (xs ys : List (Option ℕ)) → last_heard last (xs ++ ys) ≡ last_heard (last_heard last xs) ys
+heard_append last [] ys = refl
+heard_append last (x ∷ xs) ys = heard_append (moment_heard last x) xs ys
+
+picked_later : (xs ms ns : List ℕ) → ArePickedFrom xs ns → ArePickedFrom xs (ms ++ ns)
+picked_later xs [] ns h = h
+picked_later [] (m ∷ ms) ns h = tt
+picked_later (x ∷ xs) (m ∷ ms) ns h = inr (picked_later (x ∷ xs) ms ns h)
+
+picked_append : (xs ys ms ns : List ℕ) → ArePickedFrom xs ms → ArePickedFrom ys ns → ArePickedFrom (xs ++ ys) (ms ++ ns)
+picked_append [] ys ms ns h i = picked_later ys ms ns i
+picked_append (x ∷ xs) ys [] ns h i = absurd h
+picked_append (x ∷ xs) ys (m ∷ ms) ns (inl h) i = inl (h.0, picked_append xs ys ms ns h.1 i)
+picked_append (x ∷ xs) ys (m ∷ ms) ns (inr h) i = inr (picked_append (x ∷ xs) ys ms ns h i)
+
+-- two parts of a history are timed by the readings of both
+timed_on : (first next last : ℕ) (readings reads : List (Option ℕ)) (history more : List Entry)
+    → IsTimedFrom first readings history next
+    → IsTimedFrom next reads more last → IsTimedFrom first (readings ++ reads) (history ++ more) last
+timed_on first next last readings reads history more a b = record {
+  picked = rw (map-append (λ (e : Entry). e.moment) history more, moments_append first readings reads)
+      (picked_append _ _ _ _ a.picked (rw a.last_is at b.picked));
+  last_is = b.last_is ∙ ap (λ (n : ℕ). last_heard n reads) a.last_is ∙ sym (heard_append first readings reads);
+}
+
+-- The core did nothing, and its clock was not read.
+pub ran_none : (state : TimedState) → HasRun state [] [] [] state
+ran_none state = record {
+  runs = run_none state.core;
+  timed = record { picked = tt; last_is = refl };
+  compared = compared_still state state refl refl refl;
+}
+
+-- One thing was done after another.
+pub ran_then : (first next last : TimedState) (readings reads : List (Option ℕ)) (history more : List Entry)
+    (given later : List GivenAnswer) → HasRun first readings history given next → HasRun next reads more later last
+    → HasRun first (readings ++ reads) (history ++ more) (given ++ later) last
+ran_then first next last readings reads history more given later a b = record {
+  runs = run_append first.core next.core last.core history more given later a.runs b.runs;
+  timed = timed_on first.heard next.heard last.heard readings reads history more a.timed b.timed;
+  compared = compared_on first next last history more given later a.compared b.compared;
+}
+
+module _ {C K : Type 0} (machine : K → Machine) (compared : K → ℕ) (given : Gives C) where
+  -- The same with the clock, which gave the readings.
+  abbrev pub TimedRan : TimedCore C K → List Entry → List GivenAnswer → TimedCore C K → Type 0
+  TimedRan old history answers new = (readings : List (Option ℕ)) × GaveReadings given old.time.clock readings new.time.clock
+      × HasRun (timed_state machine compared old) readings history answers (timed_state machine compared new)
+
+  timed_then : (old mid new : TimedCore C K) (history more : List Entry) (answers later : List GivenAnswer)
+      → TimedRan old history answers mid → TimedRan mid more later new → TimedRan old (history ++ more) (answers ++ later) new
+  timed_then old mid new history more answers later a b = (
+    a.0 ++ b.0,
+    gave_then given old.time.clock mid.time.clock new.time.clock a.0 b.0 a.1 b.1,
+    ran_then (timed_state machine compared old) (timed_state machine compared mid) (timed_state machine compared new) a.0 b.0 history more
+        answers later a.2 b.2,
+  )
+
+  -- The core took a step.
+  pub timed_step : (old new : TimedCore C K) (seat : ℕ) (what : Step) → TakesStep given machine compared old seat what new
+      → TimedRan old (entry_of new.time.moment seat what ∷ []) new.outs.given new
+  timed_step old new seat what s = (
+    s.reading ∷ [],
+    s.time.gave,
+    record {
+      runs = subst (λ answers. Run (machine old.core) (entry_of new.time.moment seat what ∷ []) answers (machine new.core))
+          (append-nil new.outs.given)
+          (run_from (machine old.core) (machine new.core) (machine new.core) (entry_of new.time.moment seat what) [] s.outcome
+          new.outs.given [] s.step.step (run_none (machine new.core)));
+      timed = record { picked = inl (s.time.heard, tt); last_is = s.time.heard };
+      compared = compared_step (timed_state machine compared old) (timed_state machine compared new) new.time.moment seat what s.outcome
+          new.outs.given s.step s.unknown;
+    },
+  )
+
+  -- The core was asked for the next due moment, if it was not known.
+  timed_looked : (old looked : TimedCore C K) → HasLooked machine compared old looked → TimedRan old [] [] looked
+  timed_looked old looked l = (
+    [],
+    subst (λ c. GaveReadings given old.time.clock [] c) (sym (ap (λ (h : HeardClock C). h.clock) l.time))
+        (gave_none given old.time.clock),
+    record {
+      runs = subst (λ m. Run (machine old.core) [] [] m) (sym l.same) (run_none (machine old.core));
+      timed = record { picked = tt; last_is = ap (λ (h : HeardClock C). h.moment) l.time };
+      compared = compared_looked (timed_state machine compared old) (timed_state machine compared looked) l.known l.same l.once;
+    },
+  )
+
+  -- The clock was read.
+  pub timed_heard : (old new : TimedCore C K) → OnlyHears given old new → TimedRan old [] [] new
+  timed_heard old new (reading, h, same) = (
+    reading ∷ [],
+    h.gave,
+    subst (λ (t : TimedCore C K). HasRun (timed_state machine compared old) (reading ∷ []) [] [] (timed_state machine compared t))
+        (sym same)
+        (record {
+          runs = run_none (machine old.core);
+          timed = record { picked = tt; last_is = h.heard };
+          compared = compared_still (timed_state machine compared old)
+              (timed_state machine compared (record old { time = new.time })) refl refl refl;
+        }),
+  )
+
+  -- Time passed, and no step was taken.
+  pub timed_over : (old new : TimedCore C K) → PassesOver given machine compared old new → TimedRan old [] [] new
+  timed_over old new (looked, l, rest) = elim rest [
+    | inl e ↦ subst (TimedRan old [] []) (sym e) (timed_looked old looked l)
+    | inr h ↦ timed_then old looked new [] [] [] [] (timed_looked old looked l) (timed_heard looked new h)
+  ]
+
+  -- Time passed, and the core took a step.
+  pub timed_late : (old new : TimedCore C K) (seat : ℕ) (what : Step) → LooksAndSteps given machine compared old seat what new
+      → TimedRan old (entry_of new.time.moment seat what ∷ []) new.outs.given new
+  timed_late old new seat what (looked, l, s) =
+      timed_then old looked new [] (entry_of new.time.moment seat what ∷ []) [] new.outs.given (timed_looked old looked l)
+      (timed_step looked new seat what s)
+
+  -- If no step was taken, no answer was given, and the core represents the same model.
+  pub outs_over : (old new : TimedCore C K) → PassesOver given machine compared old new → new.outs ≡ old.outs
+  outs_over old new (looked, l, rest) = elim rest [
+    | inl e ↦ ap (λ (x : TimedCore C K). x.outs) e ∙ l.outs
+    | inr h ↦ ap (λ (x : TimedCore C K). x.outs) h.2 ∙ l.outs
+  ]
+
+  pub machine_over : (old new : TimedCore C K) → PassesOver given machine compared old new → machine new.core ≡ machine old.core
+  machine_over old new (looked, l, rest) = elim rest [
+    | inl e ↦ ap (λ (x : TimedCore C K). machine x.core) e ∙ l.same
+    | inr h ↦ ap (λ (x : TimedCore C K). machine x.core) h.2 ∙ l.same
+  ]
