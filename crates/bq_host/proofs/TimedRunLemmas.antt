@@ -10,7 +10,7 @@ use Rattle.bq_job.proofs.RunLemmas.{run_append, run_from, run_none}
 use Rattle.bq_line.specs.GivenReadings.{GaveReadings}
 use Rattle.bq_core_api.specs.Outbox.{Outbox}
 use Rattle.bq_host.specs.Clocks.{Gives}
-use Rattle.bq_host.specs.Timed.{HasLooked, LooksAndSteps, OnlyHears, PassesOver, TakesStep}
+use Rattle.bq_host.specs.Timed.{KnowsDue, LooksAndSteps, OnlyHears, PassesOver, TakesStep}
 use Rattle.bq_host.specs.TimedRuns.{HasRun, TimedState, timed_state}
 use Rattle.bq_host.specs.declared.timed_core.HeardClock.{HeardClock}
 use Rattle.bq_host.specs.declared.timed_core.TimedCore.{TimedCore}
@@ -109,7 +109,7 @@ module _ {C K : Type 0} (machine : K → Machine) (compared : K → ℕ) (given 
   )
 
   -- The core was asked for the next due moment, if it was not known.
-  timed_looked : (old looked : TimedCore C K) → HasLooked machine compared old looked → TimedRan old [] [] looked
+  timed_looked : (old looked : TimedCore C K) → KnowsDue machine compared old looked → TimedRan old [] [] looked
   timed_looked old looked l = (
     [],
     subst (λ c. GaveReadings given old.time.clock [] c) (sym (ap (λ (h : HeardClock C). h.clock) l.time))

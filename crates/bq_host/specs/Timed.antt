@@ -48,7 +48,7 @@ pub record TakesStep {C K : Type 0} (given : Gives C) (machine : K → Machine) 
   pub settings : (machine new.core).settings ≡ (machine old.core).settings
 
 -- The next due moment is known; the core was asked for it if it was not known before.
-pub record HasLooked {C K : Type 0} (machine : K → Machine) (compared : K → ℕ) (old new : TimedCore C K) : Type 0 where
+pub record KnowsDue {C K : Type 0} (machine : K → Machine) (compared : K → ℕ) (old new : TimedCore C K) : Type 0 where
   pub known : new.is_due_known ≡ true
   pub due : new.due ≡ next_due (machine old.core)
   pub same : machine new.core ≡ machine old.core
@@ -64,14 +64,14 @@ OnlyHears given old new = (reading : Option ℕ) × HasHeard given old.time read
 -- No step was taken. If anything will ever be due, the clock was read once.
 abbrev pub PassesOver : {C K : Type 0} → Gives C → (K → Machine) → (K → ℕ) → TimedCore C K → TimedCore C K → Type 0
 PassesOver {C} {K} given machine compared old new =
-    (looked : TimedCore C K) × HasLooked machine compared old looked × ((new ≡ looked) ⊎ OnlyHears given looked new)
+    (looked : TimedCore C K) × KnowsDue machine compared old looked × ((new ≡ looked) ⊎ OnlyHears given looked new)
 
 -- The clock was read once, since something will be due.
 abbrev pub HearsDue : {C K : Type 0} → Gives C → (K → Machine) → (K → ℕ) → TimedCore C K → TimedCore C K → Type 0
 HearsDue {C} {K} given machine compared old new =
-    (looked : TimedCore C K) × HasLooked machine compared old looked × OnlyHears given looked new
+    (looked : TimedCore C K) × KnowsDue machine compared old looked × OnlyHears given looked new
 
 -- The core was asked for the next due moment and then took this step at the moment of one reading.
 abbrev pub LooksAndSteps : {C K : Type 0} → Gives C → (K → Machine) → (K → ℕ) → TimedCore C K → ℕ → Step → TimedCore C K → Type 0
 LooksAndSteps {C} {K} given machine compared old seat what new =
-    (looked : TimedCore C K) × HasLooked machine compared old looked × TakesStep given machine compared looked seat what new
+    (looked : TimedCore C K) × KnowsDue machine compared old looked × TakesStep given machine compared looked seat what new

@@ -4,7 +4,7 @@ ghost use Rattle.bq_job.specs.beside.NextDue.{is_before, next_due};
 ghost use Rattle.bq_job.specs.machine.Machine.{new_machine};
 ghost use Rattle.bq_core_api.specs.Limits.{are_in_range};
 ghost use Rattle.bq_host.specs.Told.{HasLogged, concern_of, told_after};
-ghost use Rattle.bq_host.specs.Timed.{HasHeard, HasLooked, HearsDue, IsNewTimed, IsReady, LooksAndSteps, OnlyHears, PassesOver, TakesStep};
+ghost use Rattle.bq_host.specs.Timed.{HasHeard, KnowsDue, HearsDue, IsNewTimed, IsReady, LooksAndSteps, OnlyHears, PassesOver, TakesStep};
 
 use crate::fault::RunFault;
 use crate::notices::{Notices, concern_of};
@@ -221,7 +221,7 @@ impl<C: Clock + Drop, K: QueueCore + Drop> TimedCore<C, K> {
         ensures due { self.new.due ≡ next_due (K.machine self.old.core) }
         ensures same { K.machine self.new.core ≡ K.machine self.old.core }
     {
-        let Some(due) = self.look() else {
+        let Some(due) = self.next_due() else {
             return false;
         };
         if is_fresh && self.time.moment < due {
@@ -233,11 +233,11 @@ impl<C: Clock + Drop, K: QueueCore + Drop> TimedCore<C, K> {
 
     // Returns the next moment at which something is due. The core is asked at most once after each
     // step.
-    fn look(&mut self) -> Option<Moment>
+    fn next_due(&mut self) -> Option<Moment>
         requires ready { IsReady K.machine self.old }
         ensures ready { IsReady K.machine self.new }
         ensures due { result ≡ next_due (K.machine self.old.core) }
-        ensures looked { HasLooked K.machine K.comparisons self.old self.new }
+        ensures known { KnowsDue K.machine K.comparisons self.old self.new }
     {
         if !self.is_due_known {
             self.due = self.core.next_due();
