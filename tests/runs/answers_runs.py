@@ -154,6 +154,24 @@ def run_last_answer_at_once(bqd):
         is_soon(answered(both * 25 + b"list-tube", b"-used\r\npeek 1\r\n", count=26))
 
 
+def run_answers_before_a_long_body(bqd):
+    """Answers to commands that arrive with the beginning of a put come at once, although the rest of its body has not
+    arrived."""
+    with Server(bqd, "--seats", "1") as server:
+        client, body = server.client(), body_of(LARGE)
+        numbers = iter(range(1, 10000))
+
+        def answered():
+            begun = time.monotonic()
+            client.sends(b"list-tube-used\r\n" * 20 + b"put 0 0 600 %d\r\n" % LARGE + body[:1000])
+            client.hears(SMALL * 20)
+            took = time.monotonic() - begun
+            client.asks(body[1000:] + b"\r\n", b"INSERTED %d\r\n" % next(numbers))
+            return took
+
+        is_soon(answered)
+
+
 class BusyPrograms:
     """Programs that keep all processors busy meanwhile: two for each processor that this one may use."""
 
