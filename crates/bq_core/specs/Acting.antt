@@ -1,6 +1,7 @@
 -- The command's own effect, as the core carries it out.
 use Rattle.std.specs.Prelude.{◌&&◌, ◌++◌, ◌||◌, ◌∷◌, ◌≡◌, Bool, IsTrue, List, None, Some, [], false, true, ℕ}
-use Rattle.bq_job.specs.{declared.{answer.Answer.Answer, request.Request.Request, step.Step.Step}, machine.{Effect, Memory, acted, addressed}}
+use Rattle.bq_job.specs.declared.{answer.Answer.Answer, request.Request.Request, step.Step.Step}
+use Rattle.bq_job.specs.machine.{Effect, Memory, acted, addressed}
 use Rattle.bq_job.specs.machine.{is_growth_refused}
 use Rattle.bq_job.specs.declared.answer.Answer.TheVariants as answers
 use Rattle.bq_job.specs.declared.request.Request.TheVariants as requests

@@ -48,7 +48,8 @@ HasLooked {C} {K} given seat old look new =
     × Tells look (oldest_for seat at_look.locked.outboxes) × (new ≡ once_fetched seat at_look)
 
 -- The step was taken, and then the oldest answer for its seat was taken out.
-abbrev pub HasServed : {C K : Type 0} → (C → List (Option ℕ) → C → Type 0) → ℕ → Step → LockedDesk C K → Option Answer → LockedDesk C K → Type 0
+abbrev pub HasServed : {C K : Type 0} → (C → List (Option ℕ) → C → Type 0) → ℕ → Step → LockedDesk C K → Option Answer
+    → LockedDesk C K → Type 0
 HasServed {C} {K} given seat what old answer new =
     (at_step : LockedDesk C K) × HasTaken given seat what old at_step × (answer ≡ oldest_for seat at_step.locked.outboxes)
     × (new ≡ once_fetched seat at_step)

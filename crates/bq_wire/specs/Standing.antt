@@ -1,5 +1,6 @@
 -- The texts that a reader represents: the bytes of a request that is not complete.
-use Rattle.std.specs.Prelude.{ℕ, ◌≡◌, ◌<◌, ◌≤◌, ◌+◌, ◌-◌, false, MatchBool, List, [], ◌++◌, length, take, Option, Some, None, IfSome, if◌then◌else◌}
+use Rattle.std.specs.Prelude.{ℕ, ◌≡◌, ◌<◌, ◌≤◌, ◌+◌, ◌-◌, false, MatchBool, List, [], ◌++◌, length, take}
+use Rattle.std.specs.Prelude.{Option, Some, None, IfSome, if◌then◌else◌}
 use Rattle.bq_job.specs.reading.Line.{first_line}
 use Rattle.bq_job.specs.reading.LineRead as line_read
 use Rattle.bq_job.specs.reading.LineRead.{longest_line}

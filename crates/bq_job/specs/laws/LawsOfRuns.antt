@@ -1,7 +1,8 @@
 -- What holds of whole runs.
 use Rattle.std.specs.Prelude.{ℕ, Bool, true, false, ◌≡◌, ◌==◌, ◌⊎◌, IsTrue, not, List, [], ◌∷◌, ◌++◌, Contains, Option}
 use Rattle.std.specs.List.{list_any}
-use Rattle.bq_job.specs.machine.{Chain, DispatchTurn, GivenAnswer, Machine.Machine, Settings, acted, addressed, after_timers, at_moment, forgetting}
+use Rattle.bq_job.specs.machine.{Chain, DispatchTurn, GivenAnswer, Machine.Machine, Settings}
+use Rattle.bq_job.specs.machine.{acted, addressed, after_timers, at_moment, forgetting}
 use Rattle.bq_job.specs.{laws.LeastJob.GetsLeast, machine.{is_connected_at, is_held_by, is_reserved}}
 use Rattle.bq_job.specs.{promise.{Entry, IsRun, Transition}, Types.{Answer, Job}}
 use Rattle.bq_job.specs.declared.answer.Answer.TheVariants as answers

@@ -2,7 +2,8 @@
 -- bytes of each connection, and what happened to jobs.
 use Rattle.std.specs.{List.{list_all, list_any}, Prelude.{◌++◌, ◌==◌, ◌∷◌, ◌≡◌, ◌≤◌, Bool, Contains, IsTrue, List}}
 use Rattle.std.specs.Prelude.{Option, [], ℕ, count_by, false, flat_map, length, map}
-use Rattle.bq_job.specs.promise.{AreDoorsOwed, AreLinesOwed, AreSeatsUpTo, Entry, GoesBy, IsControlDone, IsRun, IsTimedBy, LineOver, Transition}
+use Rattle.bq_job.specs.promise.{AreDoorsOwed, AreLinesOwed, AreSeatsUpTo, Entry, GoesBy, IsControlDone, IsRun, IsTimedBy}
+use Rattle.bq_job.specs.promise.{LineOver, Transition}
 use Rattle.bq_job.specs.laws.Undisturbed.{IsHandedOut, IsHandedOutBefore, IsPutBefore, IsUndisturbed, is_deletion, is_hand_out}
 use Rattle.bq_job.specs.declared.{answer.Answer.TheVariants.{Deleted, Inserted}, job.Job.Job}
 use Rattle.bq_job.specs.{declared.step.Step.TheVariants.Drain, laws.Happenings.{Happening, Part, happenings}}
