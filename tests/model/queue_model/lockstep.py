@@ -210,6 +210,9 @@ class Run:
 
     def play(self, action):
         """Carries out an action. Raises Left if it means nothing now."""
+        # Moments that are not near are not held apart, but `peek-delayed` and `kick` go by their order. Two steps in one
+        # millisecond of the server would have one moment there.
+        time.sleep(0.002)
         self.judged(self.pass_moments)
         self.judged(getattr(self, "do_" + action.kind), action)
 
