@@ -233,7 +233,7 @@ impl Order {
         let seat = self.visit.seat();
         let took = self.pace.note(part, seat, self.reading);
         // Mostly the visit ends so, and what it had left makes no difference.
-        if rests(part, news.stands) {
+        if matches!(news.stands, Stands::Rests) {
             self.let_rest(seats, mails, seat, news.still);
             return self.begin_next(seats, mails, part);
         }
@@ -496,9 +496,4 @@ fn is_this(some: Option<usize>, seat: usize) -> bool
         Some(some) => some == seat,
         None => false,
     }
-}
-
-// Returns true if a visit ends in this part because no bytes have come.
-fn rests(part: Part, stands: Stands) -> bool {
-    matches!(part, Part::Answers) && matches!(stands, Stands::Awaits)
 }

@@ -18,12 +18,12 @@ use crate::control_turns::ControlTurns;
 use crate::doors::Doors;
 use crate::row::Row;
 use crate::sleeper::Sleeper;
-use crate::still::stands_of;
+use crate::still::{has_no_mail, is_still, stands_of};
 use crate::turns::{Began, ControlReads, Extent, News, SoFar, Stands, Turn, Turns};
 use crate::waiting::end_turn;
 use bq_core_api::QueueCore;
-use bq_host::Hub;
 use bq_host::hub_seat::attend;
+use bq_host::{Hub, Mail};
 use bq_job::Seat;
 use bq_line::Door;
 use bq_line::attendant::{Attendant, LinePlace, Progress};
@@ -31,7 +31,8 @@ use bq_line::buffers::Buffers;
 use bq_line::clock::Clock;
 use bq_line::control_line::ControlInput;
 use bq_line::line::{Line, ReadBuffer};
-use bq_seat::PIECE_ROOM;
+use bq_seat::{Does, PIECE_ROOM};
+use std::alloc::Global;
 use std::snapshot::Snapshot;
 
 // How many actions a turn has at most: a seat reads, submits a step, takes the answer and writes it.
@@ -245,11 +246,11 @@ fn serve_seat<L: Line + Drop, D: Door<Line = L>, C: Clock + Drop, K: QueueCore +
     ensures between { (a : Attendant L) → (slice_index_or row.old.seats.items seat a).place ≡ places.Between
         → (seat < length row.old.seats.items) → (row.new ≡ row.old) × (core.new ≡ core.old) }
 {
-    if !may_act(row, seat, extent) {
+    if !may_act(row, &core.mails, seat, extent) {
         return Progress::NothingToDo;
     }
     let progress = act_with_buffer(row, core, seat, buffers, buffer, extent);
-    if !row.seats[seat].polls_mail() {
+    if !takes_next(&row.seats[seat]) {
         let _all = core.sort(0);
     }
     progress
@@ -257,12 +258,17 @@ fn serve_seat<L: Line + Drop, D: Door<Line = L>, C: Clock + Drop, K: QueueCore +
 
 // Returns true if this is a seat that acts in a turn of this extent. It is not between two
 // connections then.
-fn may_act<L: Line + Drop, D: Door<Line = L>>(row: &Row<L, D>, seat: usize, extent: Extent) -> bool
+fn may_act<L: Line + Drop, D: Door<Line = L>>(
+    row: &Row<L, D>,
+    mails: &Vec<Mail, Global>,
+    seat: usize,
+    extent: Extent,
+) -> bool
     ensures within { result ≡ true → seat < length row.now.seats.items }
     ensures line { result ≡ true → (a : Attendant L) → (slice_index_or row.now.seats.items seat a).place ≡ places.Between → ⊥ }
 {
     match row.seats.get(seat) {
-        Some(seat) => acts(seat, extent),
+        Some(at) => acts(at, extent, mails, seat),
         None => false,
     }
 }
@@ -270,22 +276,45 @@ fn may_act<L: Line + Drop, D: Door<Line = L>>(row: &Row<L, D>, seat: usize, exte
 // Returns true if a seat acts in a turn of this extent. Mostly its connection has bytes, or it has a
 // command already.
 #[inline(always)]
-fn acts<L: Line + Drop>(seat: &Attendant<L>, extent: Extent) -> bool
-    ensures line { result ≡ true → seat.now.place ≡ places.Between → ⊥ }
+fn acts<L: Line + Drop>(
+    at: &Attendant<L>,
+    extent: Extent,
+    mails: &Vec<Mail, Global>,
+    seat: usize,
+) -> bool
+    ensures line { result ≡ true → at.now.place ≡ places.Between → ⊥ }
 {
-    if extent == Extent::Command && has_command(seat) {
+    if extent == Extent::Command && has_command(at) {
         return true;
     }
-    goes_with(extent, stands_of(seat))
+    let stands = stands_of(at);
+    goes_with(extent, stands) && !waits_on(at, stands, mails, seat)
+}
+
+// Returns true if a seat waits for an answer that has not come, and no bytes have come either.
+fn waits_on<L: Line + Drop>(
+    at: &Attendant<L>,
+    stands: Stands,
+    mails: &Vec<Mail, Global>,
+    seat: usize,
+) -> bool {
+    matches!(stands, Stands::Waits) && is_still(at, has_no_mail(mails, seat))
 }
 
 // Returns true if a seat has a command that is under way, or bytes of its connection may have come.
+// One that checks for an answer is not counted.
 #[inline(always)]
 fn has_command<L: Line + Drop>(seat: &Attendant<L>) -> bool
     ensures line { result ≡ true → seat.now.place ≡ places.Between → ⊥ }
 {
     match &seat.place {
-        LinePlace::On(line, action, _) => !action.is_read() || line.may_give(),
+        LinePlace::On(line, action, _) => {
+            if action.is_read() {
+                line.may_give()
+            } else {
+                !matches!(action.does(), Does::PollMail)
+            }
+        }
         _ => false,
     }
 }
@@ -296,11 +325,11 @@ fn goes_with(extent: Extent, stands: Stands) -> bool
 {
     match stands {
         Stands::Between => false,
-        Stands::Done | Stands::Awaits => matches!(extent, Extent::Action),
+        Stands::Done | Stands::Rests | Stands::Awaits => matches!(extent, Extent::Action),
         Stands::Reads => matches!(extent, Extent::Action | Extent::Read | Extent::Command),
         Stands::Submits => matches!(extent, Extent::Action | Extent::Step | Extent::Command),
         Stands::Writes => matches!(extent, Extent::Action | Extent::Command | Extent::Answer),
-        Stands::ReadsOn | Stands::Other => !matches!(extent, Extent::Answer),
+        Stands::ReadsOn | Stands::Waits | Stands::Other => !matches!(extent, Extent::Answer),
     }
 }
 
@@ -376,8 +405,8 @@ fn act_to_extent<L: Line + Drop, D: Door<Line = L>, C: Clock + Drop, K: QueueCor
 }
 
 // Returns true if the turn of a seat goes on after an action with this result, before which it did
-// `done` others. A seat that submitted a step looks for the answer at once: mostly the core gave it.
-// In a turn for a command it also writes the answer, and submits a step after its first action.
+// `done` others. In a turn for a command it also writes the answer, and submits a step after its first
+// action.
 fn goes_on<L: Line + Drop, D: Door<Line = L>>(
     row: &Row<L, D>,
     seat: usize,
@@ -391,7 +420,14 @@ fn goes_on<L: Line + Drop, D: Door<Line = L>>(
         return false;
     }
     let seat = &row.seats[seat];
-    seat.polls_mail() || extent == Extent::Command && (seat.writes() || done == 0 && seat.submits())
+    takes_next(seat) || extent == Extent::Command && (seat.writes() || done == 0 && seat.submits())
+}
+
+// Returns true if a seat takes an answer next. That to a `reserve` that waits was looked for when its
+// step was submitted, so that it comes later.
+#[inline(always)]
+fn takes_next<L: Line + Drop>(seat: &Attendant<L>) -> bool {
+    seat.polls_mail() && !seat.machine.would_read()
 }
 
 fn act<L: Line + Drop, D: Door<Line = L>, C: Clock + Drop, K: QueueCore + Drop>(

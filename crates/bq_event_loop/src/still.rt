@@ -96,7 +96,19 @@ fn stands_on<L: Line>(line: &L, action: &NextAction, machine: &SeatMachine) -> S
         Does::Read => read_stands(line, machine),
         Does::Submit => Stands::Submits,
         Does::Write => Stands::Writes,
+        Does::PollMail => poll_stands(machine),
         _ => Stands::Other,
+    }
+}
+
+fn poll_stands(machine: &SeatMachine) -> Stands
+    ensures between { result ≡ Stands.Between → ⊥ }
+    ensures done { result ≡ Stands.Done → ⊥ }
+{
+    if machine.would_read() {
+        Stands::Waits
+    } else {
+        Stands::Other
     }
 }
 

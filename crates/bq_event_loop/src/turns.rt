@@ -61,17 +61,21 @@ pub enum Stands {
     Between,
     /// Nothing: no more connections come.
     Done,
+    /// Nothing moves at it until its connection is ready or it has mail: it is the still seat.
+    Rests,
     /// It reads a command, and no bytes have come as far as its connection knows.
     Awaits,
     /// It reads a command.
     Reads,
     /// It reads while an answer is outstanding.
     ReadsOn,
+    /// It checks for the answer to a `reserve` that waits.
+    Waits,
     /// It submits a step.
     Submits,
     /// It writes.
     Writes,
-    /// It checks for an answer, or its connection ends.
+    /// It checks for another answer, or its connection ends.
     Other,
 }
 

@@ -101,7 +101,7 @@ fn note_seat<L: Line + Drop, D: Door<Line = L>>(
     ensures rest { news.new ≡ record news.old { stands = news.new.stands; tries_again = news.new.tries_again; still = news.new.still } }
 {
     if row.rests(seat) {
-        news.stands = Stands::Awaits;
+        news.stands = Stands::Rests;
         news.tries_again = false;
         news.still = Some(seat);
     } else {
@@ -144,17 +144,22 @@ fn note_rest<L: Line + Drop, D: Door<Line = L>>(
     ensures keeps { KeepsRow L.Line D.Door row.old row.new }
     ensures only { ChangesOnly seat row.old.seats.items row.new.seats.items }
     ensures still { IsStillSeat L.Line news.new.still row.new.seats.items mails.now.items }
-    ensures rest { news.new ≡ record news.old { tries_again = news.new.tries_again; still = news.new.still } }
+    ensures rest { news.new ≡ record news.old { stands = news.new.stands; tries_again = news.new.tries_again; still = news.new.still } }
 {
-    news.tries_again = row.tries_again(seat);
     row.hand_on(seat);
     news.still = still_seat(row, mails, seat);
+    if news.still.is_some() {
+        news.stands = Stands::Rests;
+        news.tries_again = false;
+    } else {
+        news.tries_again = row.tries_again(seat);
+    }
 }
 
 // Returns true if a seat that stands so may rest: it has nothing to do, or nothing moved.
 fn may_rest(stands: Stands, progress: Progress) -> bool {
     match stands {
-        Stands::Done | Stands::Awaits => true,
+        Stands::Done | Stands::Awaits | Stands::Waits => true,
         _ => !progress.has_moved(),
     }
 }

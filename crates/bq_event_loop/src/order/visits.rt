@@ -197,7 +197,7 @@ impl Visit {
         match stands {
             Stands::Between => Some(Pause::IsFree),
             Stands::Done => Some(Pause::IsDone),
-            Stands::Awaits => Some(Pause::Rests),
+            Stands::Rests | Stands::Awaits => Some(Pause::Rests),
             _ => self.end_on_line(stands, tries_again),
         }
     }
@@ -298,9 +298,9 @@ fn is_writing(stands: Stands) -> bool
 // Returns true if a part that is not the last ends before the next action.
 fn ends_part(part: Part, stands: Stands) -> bool {
     match stands {
-        Stands::Between | Stands::Done | Stands::Awaits | Stands::Writes => true,
+        Stands::Between | Stands::Done | Stands::Rests | Stands::Awaits | Stands::Writes => true,
         Stands::Submits => matches!(part, Part::Reads),
         Stands::Reads => !matches!(part, Part::Reads),
-        Stands::ReadsOn | Stands::Other => false,
+        Stands::ReadsOn | Stands::Waits | Stands::Other => false,
     }
 }

@@ -12,8 +12,8 @@ returns-then-not-may_act g c = record {
 pub sort-all-requires : goal.sort-all-requires
 sort-all-requires g c = record { order = c.act_with_buffer-progress.ensures.order }
 
-pub returns-then-not-polls_mail : goal.returns-then-not-polls_mail
-returns-then-not-polls_mail g c =
+pub returns-then-not-takes_next : goal.returns-then-not-takes_next
+returns-then-not-takes_next g c =
     let a = c.act_with_buffer-progress.ensures in
     let sorted = c.sort-all.ensures.went in
     record {
@@ -27,8 +27,8 @@ returns-then-not-polls_mail g c =
       between = λ a is within. absurd (c.may_act.ensures.line c.if-not-may_act.false a is);
     }
 
-pub returns-else-not-polls_mail : goal.returns-else-not-polls_mail
-returns-else-not-polls_mail g c = record {
+pub returns-else-not-takes_next : goal.returns-else-not-takes_next
+returns-else-not-takes_next g c = record {
   acted = c.act_with_buffer-progress.ensures;
   between = λ a is within. absurd (c.may_act.ensures.line c.if-not-may_act.false a is);
 }
