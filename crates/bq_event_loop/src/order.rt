@@ -4,10 +4,12 @@
 //! the wait. A seat can act if its connection became ready, it has mail, or its last visit was cut
 //! short. Of the seats that came into the queue since the last wait, all connections are read
 //! first, then all steps are taken, and then all answers are written, so that each part finds its
-//! code and data in the processor's caches. Seats that were in the queue before come last.
+//! code and data in the processor's caches. Seats that were in the queue before come last. Seats that
+//! are woken during the last part are visited in the same round, unless a visit was cut short.
 ghost use Rattle.std.specs.Prelude.{◌≡◌, ◌⊎◌, ℕ, true, false, None, Some, IfOk, IfSome};
 ghost use Rattle.bq_event_loop.specs.Known.{AreIdle, AreKnownTo, AreSameLists, IsFreeSeat, IsListedIn, IsNextOf, IsStillSeat, KnowsAll, is_listed};
 ghost use Rattle.bq_event_loop.specs.Known.{is_looking};
+ghost use Rattle.bq_event_loop.specs.Listings.{enqueued};
 ghost use Rattle.bq_event_loop.specs.Sleeping.{visited_by};
 
 use crate::seat_queue::SeatQueue;
@@ -58,6 +60,9 @@ pub struct Order {
     // part of the round.
     fresh: usize,
     visited: usize,
+    // Whether the last part may be made once more in this round, for seats that were woken meanwhile:
+    // it was not yet, and no seat that goes on is in the queue.
+    may_repeat: bool,
     // The current visit or, if the stage does not say that one is under way, the last one.
     visit: Visit,
 }
@@ -79,6 +84,7 @@ impl Order {
             pace: Pace::begin(0),
             fresh: 0,
             visited: 0,
+            may_repeat: true,
             visit: Visit::new(0, Part::Answers, Share::Commands),
         })
     }
@@ -185,7 +191,7 @@ impl Order {
         if is_this(free, seat) {
             self.queue.set_free(seat);
         } else {
-            self.queue.enqueue(seat);
+            self.enqueue(seat);
         }
     }
 
@@ -209,6 +215,7 @@ impl Order {
         self.queue.begin_round();
         self.fresh = self.queue.round().saturating_sub(waited);
         self.visited = 0;
+        self.may_repeat = true;
         self.pace = Pace::begin(self.reading);
         let part = Part::first(self.fresh);
         self.begin_next(seats, mails, part)
@@ -316,11 +323,27 @@ impl Order {
                 self.stage = Stage::Visits(next);
                 Turn::Nothing
             }
-            None => {
-                self.stage = Stage::Control;
-                Turn::Time
-            }
+            None => self.end_visits(),
         }
+    }
+
+    // Ends the last part of the round: the time passes. Seats that were woken meanwhile, mostly workers
+    // by a put, are visited before it, but only once in a round.
+    #[inline(always)]
+    fn end_visits(&mut self) -> Turn
+        ensures lists { AreSameLists self.old.queue self.new.queue }
+        ensures idle { visited_by self.new.stage self.new.visit ≡ None }
+        ensures turn { (result ≡ Turn.Nothing) ⊎ (result ≡ Turn.Time) }
+    {
+        if self.queue.is_empty() || !self.may_repeat {
+            self.stage = Stage::Control;
+            return Turn::Time;
+        }
+        self.may_repeat = false;
+        self.queue.begin_round();
+        self.fresh = 0;
+        self.stage = Stage::Visits(Part::Answers);
+        Turn::Nothing
     }
 
     // Returns the next turn of the visit, if it has one. Otherwise it ends here.
@@ -406,8 +429,17 @@ impl Order {
         ensures seats { self.new.queue.seats ≡ self.old.queue.seats }
     {
         if !is_this(still, seat) {
-            self.queue.enqueue(seat);
+            self.enqueue(seat);
         }
+    }
+
+    // Puts a seat that goes on at the end of the queue. The system is asked before it is visited again.
+    fn enqueue(&mut self, seat: usize)
+        ensures queue { self.new.queue ≡ enqueued seat self.old.queue }
+        ensures rest { self.new ≡ record self.old { queue = self.new.queue; may_repeat = false } }
+    {
+        self.may_repeat = false;
+        self.queue.enqueue(seat);
     }
 
     // Puts a seat that goes on at the end of the queue.
@@ -421,7 +453,7 @@ impl Order {
         ensures known { AreKnownTo L.Line self.new.queue None seats.now.value.items mails.now.value.items }
         ensures seats { self.new.queue.seats ≡ self.old.queue.seats }
     {
-        self.queue.enqueue(seat);
+        self.enqueue(seat);
     }
 
     // Returns true if a visit is under way, or a seat checks for a client.

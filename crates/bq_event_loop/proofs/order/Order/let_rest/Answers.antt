@@ -3,8 +3,8 @@ use Rattle.bq_event_loop.proofs.order.Order.let_rest.Goals as goal
 
 pub returns-then-not-is_this-clause-known : goal.returns-then-not-is_this-clause-known
 returns-then-not-is_this-clause-known g c =
-    known_enqueued g.L.Line c.args.seats.now.value.items c.args.mails.now.value.items c.args.self.now.queue c.enqueue.new.self c.args.seat
-    c.enqueue.ensures c.requires.known
+    known_enqueued g.L.Line c.args.seats.now.value.items c.args.mails.now.value.items c.args.self.now.queue c.enqueue.new.self.queue
+    c.args.seat c.enqueue.ensures.queue c.requires.known
 
 pub returns-else-not-is_this-clause-known : goal.returns-else-not-is_this-clause-known
 returns-else-not-is_this-clause-known g c =

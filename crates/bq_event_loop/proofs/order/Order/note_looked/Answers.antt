@@ -8,5 +8,5 @@ returns-then-is_this-clause-known g c =
 
 pub returns-else-is_this-clause-known : goal.returns-else-is_this-clause-known
 returns-else-is_this-clause-known g c =
-    known_enqueued g.L.Line c.args.seats.now.value.items c.args.mails.now.value.items c.args.self.now.queue c.enqueue.new.self c.args.seat
-    c.enqueue.ensures c.requires.known
+    known_enqueued g.L.Line c.args.seats.now.value.items c.args.mails.now.value.items c.args.self.now.queue c.enqueue.new.self.queue
+    c.args.seat c.enqueue.ensures.queue c.requires.known
