@@ -4,6 +4,8 @@ Each connection has a tube of its own. In a cycle all of them put a job, then al
 for some cycles and anew for three times as many, and the difference leaves its start and its end out. The count does not
 depend on what else the computer does.
 
+In the last column but one, a worker waits in its reserve when another connection puts the job.
+
 In the last column one connection sends 50 commands at once. A server may divide its time between connections by the
 clock, and valgrind makes it some 50 times slower. So the server reads a clock that goes 50 times slower too (slow_clock.c),
 and its own instructions are left out.
@@ -77,6 +79,17 @@ def all_at_once(clients):
         it.ask_all([b"delete %s\r\n" % job[1] for job in jobs], b"DELETED")
 
 
+def handed_over(clients):
+    """A worker begins to wait, a producer puts a job, and the worker has it and deletes it."""
+    producer, worker = clients
+    worker.socket.sendall(b"reserve\r\n")
+    time.sleep(0.003)
+    producer.ask(PUT, b"INSERTED")
+    job = worker.answers.readline().split()[1]
+    worker.answers.read(len(BODY) + 2)
+    worker.ask(b"delete %s\r\n" % job, b"DELETED")
+
+
 def counted(words, port, connections, cycles, cycle=one_at_a_time, clock=None):
     """Returns the instructions of a server that serves so many cycles of each connection. `clock` is a library that it
     takes its time from in place of the system's."""
@@ -90,8 +103,9 @@ def counted(words, port, connections, cycles, cycle=one_at_a_time, clock=None):
     )
     clients = [Client(port) for _ in range(connections)]
     for number, it in enumerate(clients):
-        it.ask(b"use t%d\r\n" % number, b"USING")
-        it.ask(b"watch t%d\r\n" % number, b"WATCHING")
+        tube = 0 if cycle is handed_over else number
+        it.ask(b"use t%d\r\n" % tube, b"USING")
+        it.ask(b"watch t%d\r\n" % tube, b"WATCHING")
         it.ask(b"ignore default\r\n", b"WATCHING")
     for _ in range(cycles):
         cycle(clients)
@@ -115,19 +129,27 @@ def instructions(words_of, free_port, connections):
     return round(difference(words_of, free_port, connections, cycles) / (2 * cycles * connections))
 
 
+def instructions_handed_over(words_of, free_port):
+    """The same for each job that a waiting worker is handed."""
+    return round(difference(words_of, free_port, 2, CYCLES, cycle=handed_over) / (2 * CYCLES))
+
+
 def instructions_at_once(words_of, free_port, clock):
     """The same for each of the jobs of commands that one connection sends at once."""
     return round(difference(words_of, free_port, 1, BATCHES, cycle=all_at_once, clock=clock) / (2 * BATCHES * BATCH))
 
 
 def table(servers, free_port):
-    """Prints a row for each server, with 1, 16 and 64 connections, and with commands that are sent at once."""
-    print("| instructions of a put, a reserve and a delete | 1 connection | 16 | 64 | 50 at once |\n|---|---|---|---|---|")
+    """Prints a row for each server: with 1, 16 and 64 connections, with a worker that waits, and with commands that are
+    sent at once."""
+    heads = "1 connection | 16 | 64 | a worker waits | 50 at once"
+    print(f"| instructions of a put, a reserve and a delete | {heads} |\n|---|---|---|---|---|---|")
     with tempfile.TemporaryDirectory() as folder:
         clock = f"{folder}/slow_clock.so"
         source = pathlib.Path(__file__).with_name("slow_clock.c")
         subprocess.run(["cc", "-O2", "-shared", "-fPIC", "-o", clock, str(source)], check=True)
         for name, words_of in servers.items():
             row = [f"{instructions(words_of, free_port, it):,}" for it in (1, 16, 64)]
+            row.append(f"{instructions_handed_over(words_of, free_port):,}")
             row.append(f"{instructions_at_once(words_of, free_port, clock):,}")
             print(f"| {name} | {' | '.join(row)} |", flush=True)
