@@ -1,6 +1,6 @@
-ghost use Rattle.std.specs.Prelude.{◌≡◌, ◌≤◌, ◌<◌, ◌+◌, ℕ, List, [], None, length, take, nat_le, true, ◌-◌};
+ghost use Rattle.std.specs.Prelude.{◌≡◌, ◌≤◌, ◌<◌, ◌+◌, ℕ, List, [], None, IfSome, length, take, nat_le, true, ◌-◌};
 ghost use Rattle.std.specs.Option.{ForSome};
-ghost use Rattle.bq_job.specs.reading.Reading.{IsPutRequest};
+ghost use Rattle.bq_job.specs.reading.Reading.{IsPutRequest, put_with_body};
 ghost use Rattle.bq_wire.specs.Asked.{put_line_of};
 ghost use Rattle.bq_wire.specs.PutBodies.{IsBodySoFar, HasBodyRoom, TakesBytes, Stores};
 
@@ -137,6 +137,9 @@ impl PutBody {
             → result ≡ Request.Refused Refusal.OutOfMemory }
         ensures request { (after : List ℕ) → IsBodySoFar self after
             → IsPutRequest max_job_size (put_line_of self.put) after result }
+        // If the body was kept, its bytes alone decide.
+        ensures kept { IfSome self.store (λ _. (after : List ℕ) → IsBodySoFar self after
+            → self.put.bytes ≤ max_job_size → result ≡ put_with_body (put_line_of self.put) after) }
     {
         if self.put.bytes > max_job_size {
             return refused(Refusal::JobTooBig);
