@@ -39,6 +39,19 @@ module _ (name k : List ℕ) (other : is_same_name name k ≡ false) where
   unfolding number_at
   number_inserted n ns = ap as_number (found_inserted n ns)
 
+-- a tube that was added has its number
+module _ (name : List ℕ) (n : ℕ) where
+  given_at : (p : List ℕ × ℕ) (ns rest : List (List ℕ × ℕ)) (a : Ordering) → slice_cmp nat_cmp name p.0 ≡ a
+      → lookup (is_named_at name) rest ≡ Some n
+      → lookup (is_named_at name) (match_ordering a ((name, n) ∷ p ∷ ns) ((p.0, n) ∷ ns) (p ∷ rest)) ≡ Some n
+  given_at p ns rest Less is h = grind (arith, ties name name, same_itself name)
+  given_at p ns rest Equal is h = grind (arith, common_steps)
+  given_at p ns rest Greater is h = grind (arith, common_steps)
+
+  pub number_given : (ns : List (List ℕ × ℕ)) → lookup (is_named_at name) (insert_entry (slice_cmp nat_cmp) ns name n) ≡ Some n
+  number_given [] = grind (arith, ties name name, same_itself name)
+  number_given (p ∷ ns) = given_at p ns _ (slice_cmp nat_cmp name p.0) refl (number_given ns)
+
 -- the numbers of the tubes of a table
 module _ (k : Numbering) (kept : Tabled KeptTube) (paired : IsPaired k) (same : k.numbers ≡ kept.numbers)
     (keys : keys_of kept.entries ≡ keys_of kept.numbers) where

@@ -36,6 +36,7 @@ const LAST_ID: JobId = u64::MAX - 1;
 /// has changed.
 pub fn make_room(state: &mut CoreParts, alloc: Global) -> Result<(), NoMemory>
     ensures room { IfOk result (λ _. 0 < state.new.jobs.room) }
+    ensures refused { OnErr result (state.old.jobs.room ≡ 0) }
     ensures after { machine_of state.new ≡ machine_of state.old }
     ensures seats { state.new.seats ≡ state.old.seats }
     ensures tubes { state.new.tubes ≡ state.old.tubes }
@@ -305,6 +306,8 @@ pub fn provide_tube(
 ) -> Result<TubeNumber, NoMemory>
     ensures after { machine_of state.new ≡ machine_of state.old }
     ensures entry { IfOk result (λ _. has_entry tube.now state.new.tubes.entries ≡ true) }
+    ensures number { IfOk result (λ n. HasNumber tube.now n state.new.tubes.numbers) }
+    ensures refused { OnErr result (has_entry tube.now state.old.tubes.entries ≡ false) }
     ensures seats { state.new.seats ≡ state.old.seats }
     ensures wanted { state.new.known.wanted ≡ state.old.known.wanted }
     ensures asks { Asks 0 state.old.jobs state.new.jobs }

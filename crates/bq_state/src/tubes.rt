@@ -120,12 +120,13 @@ impl Tubes {
 
     /// Gives an entry and a number to a tube that has none, and returns the number. The allocations
     /// for that come before any change.
-    #[tactic(auto, using(crate::proofs::NamedLemmas::new_parts))]
+    #[tactic(auto, using(crate::proofs::NamedLemmas::new_parts, crate::proofs::NumberLemmas::number_given))]
     pub(crate) fn provide(&mut self, alloc: Global, name: &TubeName) -> Result<TubeNumber, NoMemory>
         requires { has_entry name.now self.old.entries ≡ false }
         ensures after { self.new
             ≡ (if is_ok result then tubes_with name.now self.new.numbers self.old else self.old) }
         ensures extends { Extends self.old.numbers self.new.numbers }
+        ensures number { IfOk result (λ n. HasNumber name.now n self.new.numbers) }
     {
         pauses::make_room(&mut self.ends, alloc, self.kept.len())?;
         let number = self.kept.insert(alloc, name, TubeEntry::new())?;
