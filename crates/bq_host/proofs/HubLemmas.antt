@@ -16,15 +16,23 @@ use Rattle.bq_seat.specs.declared.machine.Action.{Action}
 use Rattle.bq_line.specs.GivenReadings.{GaveReadings}
 use Rattle.bq_line.specs.Links.{Calls, TakesInPlace}
 use Rattle.bq_host.specs.Clocks.{Gives}
-use Rattle.bq_host.specs.Hubs.{WentAt, WentInOrder, state_of, with_pending}
+use Rattle.bq_host.specs.Hubs.{KeepsFresh, OnlyMoves, WentAt, WentInOrder, state_of, with_pending}
 use Rattle.bq_host.specs.MailStates.{IsInOrder, IsSorted}
 use Rattle.bq_host.specs.Timed.{IsReady, LooksAndSteps, PassesOver}
 use Rattle.bq_host.specs.WakeLists.{Wakes}
-use Rattle.bq_host.specs.declared.{hub.Hub.Hub, timed_core.TimedCore.TimedCore}
+use Rattle.bq_host.specs.declared.{hub.Hub.Hub, timed_core.HeardClock.HeardClock, timed_core.TimedCore.TimedCore}
 use Rattle.bq_host.proofs.WakeLemmas.{wakes_none, wakes_then}
 use Rattle.bq_host.proofs.MailLemmas.{seat_takes_pending}
 use Rattle.bq_host.proofs.TimedRunLemmas.{TimedRan, entry_of, gave_none, gave_then, outs_over, timed_late, timed_over}
 use Rattle.bq_host.proofs.WentLemmas.{none_held, seat_none, seat_on, seat_sorted, seat_stepped, seat_still}
+
+-- The mark of a fresh reading is kept while answers move.
+pub fresh_on : {C K : Type 0} (given : Gives C) (first next last : Hub C K) → KeepsFresh given first next → OnlyMoves next last
+    → KeepsFresh given first last
+fresh_on {C} {K} given first next last k m f = elim (k (sym m.fresh ∙ f)) [
+  | inl e ↦ inl e
+  | inr r ↦ inr (r.0, r.1, subst (λ (t : HeardClock C). GaveReadings given first.timed.time.clock (r.0 ∷ r.1) t.clock) (sym m.time) r.2)
+]
 
 module _ {C K : Type 0} (machine : K → Machine) (compared : K → ℕ) where
   -- A hub is in order if its core is ready and its marks about answers are right.

@@ -8,15 +8,15 @@ use Rattle.bq_line.specs.Carried.{HasGone, MayCall}
 use Rattle.bq_line.specs.Links.{Calls, TakesFurther, TakesInPlace}
 use Rattle.bq_line.proofs.CarriedLemmas.{gone}
 use Rattle.bq_host.specs.Clocks.{Gives}
-use Rattle.bq_host.specs.Hubs.{WentAt}
+use Rattle.bq_host.specs.Hubs.{KeepsFresh, OnlyMoves, WentAt}
 use Rattle.bq_host.specs.declared.{hub.Hub.Hub, hub_seat.HubSeat.HubSeat}
-use Rattle.bq_host.proofs.HubLemmas.{went_none, went_then}
+use Rattle.bq_host.proofs.HubLemmas.{fresh_on, went_none, went_then}
 
 module _ {C K : Type 0} (machine : K → Machine) (compared : K → ℕ) (given : Gives C) where
   abbrev pub LinkWent : HubSeat C K → List Step → List Answer → HubSeat C K → Type 0
   LinkWent first submitted taken last =
       (last.hub.ghost_name ≡ first.hub.ghost_name) × (last.seat ≡ first.seat)
-      × WentAt machine compared given first.seat first.hub.now submitted taken last.hub.now
+      × WentAt machine compared given first.seat first.hub.now submitted taken last.hub.now × KeepsFresh given first.hub.now last.hub.now
 
   -- If the seat submitted nothing and took nothing, the hub did no more than the link, whose hub it is by its ghost name.
   pub still_at : (first last : HubSeat C K) (hub : Hub C K) → (first.hub.ghost_name ≡ last.hub.ghost_name → hub ≡ last.hub.now)
@@ -26,6 +26,15 @@ module _ {C K : Type 0} (machine : K → Machine) (compared : K → ℕ) (given 
   still_at first last hub is (inr e) =
       inr (is (ap (λ (l : HubSeat C K). l.hub.ghost_name) (sym e.0)) ∙ ap (λ (l : HubSeat C K). l.hub.now) e.0, refl, refl)
 
+  -- The mark of a fresh reading is kept, whether the link was used or not.
+  pub fresh_at : (first last : HubSeat C K) (hub : Hub C K) (submitted : List Step) (taken : List Answer)
+      → (first.hub.ghost_name ≡ last.hub.ghost_name → hub ≡ last.hub.now) → Calls LinkWent first submitted taken last
+      → KeepsFresh given first.hub.now hub
+  fresh_at first last hub submitted taken is (inl w) = subst (KeepsFresh given first.hub.now) (sym (is (sym w.0))) w.3
+  fresh_at first last hub submitted taken is (inr e) = λ f.
+      inl (subst (λ (h : Hub C K). h.is_fresh ≡ true) (is (ap (λ (l : HubSeat C K). l.hub.ghost_name) (sym e.0))
+      ∙ ap (λ (l : HubSeat C K). l.hub.now) e.0) f)
+
   -- One action, whether the link was used or not.
   pub link_gone : (first last : HubSeat C K) (action : Action) (submitted : List Step) (taken : List Answer)
       → HasGone LinkWent first action submitted taken last → MayCall action submitted taken
@@ -33,13 +42,13 @@ module _ {C K : Type 0} (machine : K → Machine) (compared : K → ℕ) (given 
   link_gone first last action submitted taken h c =
       gone LinkWent (λ s t. LinkWent first s t last) first last action submitted taken (λ s t w. w)
       (λ e. subst (λ (l : HubSeat C K). LinkWent first [] [] l) (sym e)
-      (refl, refl, went_none machine compared given first.seat first.hub.now)) h c
+      (refl, refl, went_none machine compared given first.seat first.hub.now, λ f. inl f)) h c
 
   -- Whatever the seat did before, it then took an answer, or there was none.
   pub took_further : (old new : HubSeat C K) (place next : Action) (took : Bool) → new.hub.ghost_name ≡ old.hub.ghost_name
       → new.seat ≡ old.seat → TakesInPlace (WentAt machine compared given old.seat) old.hub.now place took next new.hub.now
-      → TakesFurther LinkWent old place took next new
-  took_further old new place next true name seat t = (
+      → OnlyMoves old.hub.now new.hub.now → TakesFurther LinkWent old place took next new
+  took_further old new place next true name seat t m = (
     t.0,
     t.1,
     λ first submitted taken w. (
@@ -47,14 +56,16 @@ module _ {C K : Type 0} (machine : K → Machine) (compared : K → ℕ) (given 
       seat ∙ w.1,
       rw (append-nil submitted) at (went_then machine compared given first.seat old.seat first.hub.now old.hub.now new.hub.now submitted []
           taken (t.0 ∷ []) w.1 w.2 t.2),
+      fresh_on given first.hub.now old.hub.now new.hub.now w.3 m,
     ),
   )
-  took_further old new place next false name seat t = (
+  took_further old new place next false name seat t m = (
     t.0,
     λ first submitted taken w. (
       name ∙ w.0,
       seat ∙ w.1,
       rw (append-nil submitted, append-nil taken) at (went_then machine compared given first.seat old.seat first.hub.now old.hub.now
           new.hub.now submitted [] taken [] w.1 w.2 t.1),
+      fresh_on given first.hub.now old.hub.now new.hub.now w.3 m,
     ),
   )

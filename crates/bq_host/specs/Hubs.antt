@@ -1,9 +1,10 @@
 -- The state of a hub, and what happens at it.
-use Rattle.std.specs.Prelude.{ℕ, ◌<◌, Bool, List, length, Option}
+use Rattle.std.specs.Prelude.{ℕ, ◌≡◌, ◌⊎◌, ◌<◌, ◌∷◌, true, Bool, List, length, Option}
 use Rattle.bq_job.specs.declared.answer.Answer.{Answer}
 use Rattle.bq_job.specs.declared.step.Step.{Step}
 use Rattle.bq_job.specs.machine.Dispatch.{GivenAnswer}
 use Rattle.bq_job.specs.machine.Machine.{Machine}
+use Rattle.bq_line.specs.GivenReadings.{GaveReadings}
 use Rattle.bq_host.specs.{Clocks.Gives, MailStates.{IsInOrder, MailState, mail_state}, Went.SeatWentBy}
 use Rattle.bq_host.specs.WakeLists.{Wakes}
 use Rattle.bq_host.specs.declared.hub.Hub.{Hub}
@@ -34,3 +35,18 @@ WentInOrder machine compared given seat old submitted taken new =
 abbrev pub with_pending : {C K : Type 0} → Option GivenAnswer → List GivenAnswer → Bool → Hub C K → Hub C K
 with_pending held given sorted h =
     record h { held = held; timed = record h.timed { outs = record h.timed.outs { given = given } }; is_sorted = sorted }
+
+-- What stays the same while answers move: the clock, the mark of a fresh reading, what was logged, and what is still to be logged.
+pub record OnlyMoves {C K : Type 0} (old new : Hub C K) : Type 0 where
+  pub time : new.timed.time ≡ old.timed.time
+  pub fresh : new.is_fresh ≡ old.is_fresh
+  pub notices : new.timed.notices ≡ old.timed.notices
+  pub unlogged : new.unlogged ≡ old.unlogged
+
+-- The clock was read.
+abbrev pub IsRead : {C : Type 0} → Gives C → C → C → Type 0
+IsRead given old new = (reading : Option ℕ) × (more : List (Option ℕ)) × GaveReadings given old (reading ∷ more) new
+
+-- If the last reading counts as fresh now, it did before, or the clock was read since.
+abbrev pub KeepsFresh : {C K : Type 0} → Gives C → Hub C K → Hub C K → Type 0
+KeepsFresh given old new = new.is_fresh ≡ true → (old.is_fresh ≡ true) ⊎ IsRead given old.timed.time.clock new.timed.time.clock

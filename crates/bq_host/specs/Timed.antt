@@ -1,5 +1,5 @@
 -- The effect of each operation on a core with its clock.
-use Rattle.std.specs.Prelude.{ℕ, ◌≡◌, ◌⊎◌, ◌<◌, ◌+◌, ◌∷◌, [], Option, true, false}
+use Rattle.std.specs.Prelude.{ℕ, ◌≡◌, ◌⊎◌, ◌<◌, ◌+◌, ◌&&◌, ◌∷◌, [], Bool, not, nat_lt, Option, Some, None, true, false}
 use Rattle.bq_job.specs.beside.NextDue.{next_due}
 use Rattle.bq_job.specs.declared.settings.Settings.{Settings}
 use Rattle.bq_job.specs.declared.step.Step.{Step}
@@ -17,6 +17,17 @@ use Rattle.bq_host.specs.declared.timed_core.TimedCore.{TimedCore}
 pub record HasHeard {C : Type 0} (given : Gives C) (old : HeardClock C) (reading : Option ℕ) (new : HeardClock C) : Type 0 where
   pub gave : GaveReadings given old.clock (reading ∷ []) new.clock
   pub heard : new.moment ≡ moment_heard old.moment reading
+
+-- Whether the clock is read before it is judged whether something is due by now. It is not read if nothing will ever be due, nor
+-- if its last reading is fresh and nothing was due by that moment.
+abbrev pub is_read_for : Bool → ℕ → Option ℕ → Bool
+is_read_for fresh moment None = false
+is_read_for fresh moment (Some due) = not (fresh && nat_lt moment due)
+
+-- The clock was read once, or not at all.
+abbrev pub HearsIf : {C : Type 0} → Gives C → Bool → HeardClock C → HeardClock C → Type 0
+HearsIf given true old new = (reading : Option ℕ) × HasHeard given old reading new
+HearsIf given false old new = new ≡ old
 
 -- A new core with its clock: it has this model, nothing was compared, and no reading was taken.
 pub record IsNewTimed {C K : Type 0} (machine : K → Machine) (compared : K → ℕ) (settings : Settings) (clock : C)

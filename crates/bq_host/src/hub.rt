@@ -6,7 +6,7 @@ ghost use Rattle.std.specs.Option.{option_to_list};
 ghost use Rattle.bq_job.specs.declared.answer.Answer.{Answer};
 ghost use Rattle.bq_job.specs.promise.Runs.{answers_to};
 ghost use Rattle.bq_host.specs.MailStates.{IsInOrder};
-ghost use Rattle.bq_host.specs.Hubs.{IsInOrderFor, WentAt, WentInOrder, state_of, with_pending};
+ghost use Rattle.bq_host.specs.Hubs.{IsInOrderFor, KeepsFresh, OnlyMoves, WentAt, WentInOrder, state_of, with_pending};
 ghost use Rattle.bq_host.specs.Told.{concern_of, none_unlogged, noted, told_after};
 ghost use Rattle.bq_host.specs.WakeLists.{Wakes, none_waits, to_wake};
 
@@ -46,6 +46,7 @@ pub struct Hub<C, K> {
 impl<C: Clock + Drop, K: QueueCore + Drop> Hub<C, K> {
     ghost use Rattle.bq_job.specs.beside.NextDue.{is_before, next_due};
     ghost use Rattle.bq_host.specs.DueTimes.{IsLimit, time_left};
+    ghost use Rattle.bq_host.specs.Timed.{HearsIf, is_read_for};
     ghost use Rattle.bq_host.specs.MailStates.{IsNewMailState, IsSorted};
     ghost use Rattle.bq_core_api.specs.Limits.{are_in_range};
     ghost use Rattle.bq_line.specs.Links.{TakesInPlace, as_submitted};
@@ -60,6 +61,7 @@ impl<C: Clock + Drop, K: QueueCore + Drop> Hub<C, K> {
         ensures order { IfOk result (λ hub. IsInOrder (state_of K.machine K.comparisons hub)) }
         ensures clock { IfOk result (λ hub. hub.timed.time.clock ≡ clock) }
         ensures woken { IfOk result (λ hub. hub.woken ≡ none_waits 0) }
+        ensures not_fresh { IfOk result (λ hub. hub.is_fresh ≡ false) }
         ensures bad_configuration { IsErrOf result RunFault.BadConfiguration ↔ IsTrue
             (not (are_in_range config)) }
         ensures no_thread { IsErrOf result RunFault.ThreadRefused ↔ ⊥ }
@@ -98,6 +100,9 @@ impl<C: Clock + Drop, K: QueueCore + Drop> Hub<C, K> {
         ensures order { IsInOrder (state_of K.machine K.comparisons self.new) }
         ensures taken { result ≡ true → WentAt K.machine K.comparisons C.given seat self.old (as_submitted step.now) [] self.new }
         ensures left { result ≡ false → WentAt K.machine K.comparisons C.given seat self.old [] [] self.new }
+        ensures only { result ≡ false → OnlyMoves self.old self.new }
+        ensures fresh { KeepsFresh C.given self.old self.new }
+        ensures read { result ≡ true → HearsIf C.given true self.old.timed.time self.new.timed.time }
     {
         if !self.sort(seat) {
             return false;
@@ -112,6 +117,7 @@ impl<C: Clock + Drop, K: QueueCore + Drop> Hub<C, K> {
         requires order { IsInOrder (state_of K.machine K.comparisons self.old) }
         requires empty { (state_of K.machine K.comparisons self.old).pending ≡ [] }
         ensures went { WentInOrder K.machine K.comparisons C.given seat self.old (as_submitted what.now) [] self.new }
+        ensures read { HearsIf C.given true self.old.timed.time self.new.timed.time }
         ensures noted { self.new.unlogged ≡ noted (told_after (concern_of what.now) self.new.timed.outs self.new.timed.time.moment
             self.old.timed.notices).0 self.old.unlogged }
     {
@@ -127,6 +133,7 @@ impl<C: Clock + Drop, K: QueueCore + Drop> Hub<C, K> {
         requires ready { IsInOrderFor K.machine K.comparisons seat self.old }
         ensures order { IsInOrder (state_of K.machine K.comparisons self.new) }
         ensures went { TakesInPlace (WentAt K.machine K.comparisons C.given seat) self.old place.old result place.new self.new }
+        ensures only { OnlyMoves self.old self.new }
     {
         if self.held.is_none() && self.has_no_mail(seat) {
             return self.take_new(seat, place);
@@ -148,6 +155,7 @@ impl<C: Clock + Drop, K: QueueCore + Drop> Hub<C, K> {
         requires ready { IsInOrderFor K.machine K.comparisons seat self.old }
         ensures order { IsInOrder (state_of K.machine K.comparisons self.new) }
         ensures went { TakesInPlace (WentAt K.machine K.comparisons C.given seat) self.old place.old result place.new self.new }
+        ensures only { OnlyMoves self.old self.new }
     {
         let _all = self.sort(seat);
         match self.take_mail(seat) {
@@ -167,6 +175,7 @@ impl<C: Clock + Drop, K: QueueCore + Drop> Hub<C, K> {
         requires none_held { self.old.held ≡ None }
         ensures order { IsInOrder (state_of K.machine K.comparisons self.new) }
         ensures went { TakesInPlace (WentAt K.machine K.comparisons C.given seat) self.old place.old result place.new self.new }
+        ensures only { OnlyMoves self.old self.new }
     {
         let Some((first, answer)) = self.next_new() else {
             return false;
@@ -213,6 +222,7 @@ impl<C: Clock + Drop, K: QueueCore + Drop> Hub<C, K> {
         ensures many { length self.new.mails.items ≡ length self.old.mails.items }
         ensures went { WentInOrder K.machine K.comparisons C.given seat self.old [] (option_to_list result) self.new }
         ensures none { IsNone result → slice_index_or self.new.mails.items seat [] ≡ [] }
+        ensures only { OnlyMoves self.old self.new }
     {
         self.mails[usize::from(seat)].take_first()
     }
@@ -225,6 +235,7 @@ impl<C: Clock + Drop, K: QueueCore + Drop> Hub<C, K> {
         ensures many { length self.new.mails.items ≡ length self.old.mails.items }
         ensures none { result ≡ true → (state_of K.machine K.comparisons self.new).pending ≡ [] }
         ensures sorted { IsSorted (state_of K.machine K.comparisons self.old) (state_of K.machine K.comparisons self.new) }
+        ensures only { OnlyMoves self.old self.new }
         ensures went { WentInOrder K.machine K.comparisons C.given seat self.old [] [] self.new }
     {
         if self.is_sorted {
@@ -239,6 +250,7 @@ impl<C: Clock + Drop, K: QueueCore + Drop> Hub<C, K> {
         ensures order { IsInOrder (state_of K.machine K.comparisons self.new) }
         ensures sorted { IsSorted (state_of K.machine K.comparisons self.old) (state_of K.machine K.comparisons self.new) }
         ensures clock { self.new.timed.time.clock ≡ self.old.timed.time.clock }
+        ensures only { OnlyMoves self.old self.new }
         ensures wakes { Wakes self.old.mails.items self.new.mails.items self.old.woken self.new.woken }
         ensures none { result ≡ true → (state_of K.machine K.comparisons self.new).pending ≡ [] }
     {
@@ -251,6 +263,7 @@ impl<C: Clock + Drop, K: QueueCore + Drop> Hub<C, K> {
     fn deliver(&mut self) -> bool
         ensures sorted { IsSorted (state_of K.machine K.comparisons self.old) (state_of K.machine K.comparisons self.new) }
         ensures clock { self.new.timed.time.clock ≡ self.old.timed.time.clock }
+        ensures only { OnlyMoves self.old self.new }
         ensures wakes { Wakes self.old.mails.items self.new.mails.items self.old.woken self.new.woken }
         ensures none { result ≡ true → (state_of K.machine K.comparisons self.new).pending ≡ [] }
     {
@@ -305,6 +318,8 @@ impl<C: Clock + Drop, K: QueueCore + Drop> Hub<C, K> {
     pub fn pass_time(&mut self) -> Option<u64>
         requires order { IsInOrder (state_of K.machine K.comparisons self.old) }
         ensures went { WentInOrder K.machine K.comparisons C.given 0 self.old [] [] self.new }
+        ensures read { HearsIf C.given (is_read_for self.old.is_fresh self.old.timed.time.moment (next_due (K.machine self.old.timed.core)))
+            self.old.timed.time self.new.timed.time }
         ensures due { result ≡ (if is_before self.new.timed.time.moment (next_due (K.machine self.old.timed.core))
             then time_left (next_due (K.machine self.old.timed.core)) self.new.timed.time.moment else Some 0) }
         ensures within { IsLimit result (next_due (K.machine self.new.timed.core)) self.new.timed.time.moment }
@@ -335,6 +350,8 @@ impl<C: Clock + Drop, K: QueueCore + Drop> Hub<C, K> {
         requires order { IsInOrder (state_of K.machine K.comparisons self.old) }
         ensures due { result
             ≡ not (is_before self.new.timed.time.moment (next_due (K.machine self.old.timed.core))) }
+        ensures read { HearsIf C.given (is_read_for self.old.is_fresh self.old.timed.time.moment (next_due (K.machine self.old.timed.core)))
+            self.old.timed.time self.new.timed.time }
         ensures known { self.new.timed.due ≡ next_due (K.machine self.old.timed.core) }
         ensures same { result ≡ false → K.machine self.new.timed.core ≡ K.machine self.old.timed.core }
         ensures went { WentInOrder K.machine K.comparisons C.given 0 self.old [] [] self.new }

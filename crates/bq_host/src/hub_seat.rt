@@ -7,7 +7,7 @@ ghost use Rattle.bq_line.specs.Links.{Calls};
 ghost use Rattle.bq_line.specs.Streams.{StaysOver};
 ghost use Rattle.bq_line.specs.Tending.{GoesOn, IsPlaced, MayEndAt, door_seen};
 ghost use Rattle.bq_host.specs.MailStates.{IsInOrder};
-ghost use Rattle.bq_host.specs.Hubs.{IsInOrderFor, WentAt, state_of};
+ghost use Rattle.bq_host.specs.Hubs.{IsInOrderFor, KeepsFresh, WentAt, state_of};
 
 use crate::hub::Hub;
 use bq_core_api::QueueCore;
@@ -31,7 +31,8 @@ impl<'a, C: Clock + Drop, K: QueueCore + Drop> Link for HubSeat<'a, C, K> {
 
     // After the link is dropped, the hub is known by its ghost name.
     ghost went = { λ first submitted taken last. (last.hub.ghost_name ≡ first.hub.ghost_name) × (last.seat ≡ first.seat) ×
-        WentAt K.machine K.comparisons C.given first.seat first.hub.now submitted taken last.hub.now };
+        WentAt K.machine K.comparisons C.given first.seat first.hub.now submitted taken last.hub.now ×
+        KeepsFresh C.given first.hub.now last.hub.now };
 
     fn submit(&mut self, step: &mut Step) -> bool {
         self.hub.submit(self.seat, step)
@@ -66,6 +67,7 @@ pub fn attend<L: Line + Drop, D: Door<Line = L>, C: Clock + Drop, K: QueueCore +
     ensures still { (result ≡ Progress.Moved → ⊥) → Calls (WentAt K.machine K.comparisons C.given seat) hub.old [] [] hub.new }
     ensures went { let at = door_seen D.is_out D.is_at_end D.lines_over in
         GoesOn (WentAt K.machine K.comparisons C.given seat) hub.old hub.new L.seen attendant.old (at door.old) attendant.new (at door.new) }
+    ensures fresh { KeepsFresh C.given hub.old hub.new }
     ensures same { (first : D) → D.same first door.old → D.same first door.new }
 {
     let alloc = hub.timed.alloc;
@@ -88,6 +90,7 @@ pub fn act<L: Line, C: Clock + Drop, K: QueueCore + Drop>(
     ensures order { IsInOrder (state_of K.machine K.comparisons hub.new) }
     ensures carried { (submitted : List Step) × (taken : List Answer) × WentAt K.machine K.comparisons C.given seat hub.old submitted taken hub.new ×
         CarriedPart result machine.old (L.seen line.old) action.old sent.old machine.new (L.seen line.new) action.new sent.new submitted taken }
+    ensures fresh { KeepsFresh C.given hub.old hub.new }
     ensures stays { StaysOver L.lies_over line.old line.new }
 {
     let alloc = hub.timed.alloc;

@@ -4,7 +4,7 @@ ghost use Rattle.bq_job.specs.beside.NextDue.{is_before, next_due};
 ghost use Rattle.bq_job.specs.machine.Machine.{new_machine};
 ghost use Rattle.bq_core_api.specs.Limits.{are_in_range};
 ghost use Rattle.bq_host.specs.Told.{HasLogged, concern_of, told_after};
-ghost use Rattle.bq_host.specs.Timed.{HasHeard, KnowsDue, HearsDue, IsNewTimed, IsReady, LooksAndSteps, OnlyHears, PassesOver, TakesStep};
+ghost use Rattle.bq_host.specs.Timed.{HasHeard, KnowsDue, HearsDue, HearsIf, IsNewTimed, IsReady, LooksAndSteps, OnlyHears, PassesOver, TakesStep, is_read_for};
 
 use crate::fault::RunFault;
 use crate::notices::{Notices, concern_of};
@@ -176,6 +176,7 @@ impl<C: Clock + Drop, K: QueueCore + Drop> TimedCore<C, K> {
         ensures ready { IsReady K.machine self.new }
         ensures over { (may_tick && result) ≡ false → PassesOver C.given K.machine K.comparisons self.old self.new }
         ensures ticked { (may_tick && result) ≡ true → LooksAndSteps C.given K.machine K.comparisons self.old seat Step.Tick self.new }
+        ensures read { HearsIf C.given (is_read_for is_fresh self.old.time.moment (next_due (K.machine self.old.core))) self.old.time self.new.time }
         ensures is_due { result
             ≡ not (is_before self.new.time.moment (next_due (K.machine self.old.core))) }
         ensures due { self.new.due ≡ next_due (K.machine self.old.core) }
@@ -216,6 +217,7 @@ impl<C: Clock + Drop, K: QueueCore + Drop> TimedCore<C, K> {
         ensures ready { IsReady K.machine self.new }
         ensures over { PassesOver C.given K.machine K.comparisons self.old self.new }
         ensures heard { result ≡ true → HearsDue C.given K.machine K.comparisons self.old self.new }
+        ensures read { HearsIf C.given (is_read_for is_fresh self.old.time.moment (next_due (K.machine self.old.core))) self.old.time self.new.time }
         ensures is_due { result
             ≡ not (is_before self.new.time.moment (next_due (K.machine self.old.core))) }
         ensures due { self.new.due ≡ next_due (K.machine self.old.core) }

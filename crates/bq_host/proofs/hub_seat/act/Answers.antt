@@ -1,5 +1,5 @@
 use Rattle.std.proofs.Common.{subst, sym}
-use Rattle.bq_host.specs.Hubs.{WentAt}
+use Rattle.bq_host.specs.Hubs.{KeepsFresh, WentAt}
 use Rattle.bq_host.proofs.HubSeatLemmas.{link_gone}
 use Rattle.bq_host.proofs.hub_seat.act.Goals as goal
 
@@ -18,3 +18,13 @@ returns-clause-carried g c =
       subst (WentAt machine compared given c.args.seat c.args.hub.now h.0 h.1) (sym (c.hub-1.given.1 (sym p.0))) p.2,
       h.3,
     )
+
+pub returns-clause-fresh : goal.returns-clause-fresh
+returns-clause-fresh g c =
+    let given = g.C.Clock.given in
+    let h = c.carry_out.ensures.carried in
+    let p =
+    link_gone g.K.QueueCore.machine g.K.QueueCore.comparisons given
+    (record { hub = record { ref_ptr = c.args.hub.ref_ptr; ghost_name = c.link-1.given; now = c.args.hub.now }; seat = c.args.seat })
+    c.carry_out.new.link c.args.action.now h.0 h.1 h.2 h.3.1 in
+    subst (KeepsFresh given c.args.hub.now) (sym (c.hub-1.given.1 (sym p.0))) p.3

@@ -1,5 +1,5 @@
 use Rattle.std.proofs.Common.{◌≡◌, length}
-use Rattle.bq_host.specs.Hubs.{state_of}
+use Rattle.bq_host.specs.Hubs.{OnlyMoves, state_of}
 use Rattle.bq_host.specs.MailStates.{IsSorted}
 use Rattle.bq_host.specs.WakeLists.{Wakes}
 use Rattle.bq_host.proofs.hub.Hub.deliver.Given as goal
@@ -9,6 +9,7 @@ invariant-loop-seat g l = record {
   sorted : IsSorted (state_of g.K.QueueCore.machine g.K.QueueCore.comparisons l.fn.self)
       (state_of g.K.QueueCore.machine g.K.QueueCore.comparisons l.self);
   clock : l.self.timed.time.clock ≡ l.fn.self.timed.time.clock;
+  only : OnlyMoves l.fn.self l.self;
   wakes : Wakes l.fn.self.mails.items l.self.mails.items l.fn.self.woken l.self.woken;
 }
 

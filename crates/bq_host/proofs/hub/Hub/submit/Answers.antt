@@ -1,4 +1,4 @@
-use Rattle.std.proofs.Common.{[], refl}
+use Rattle.std.proofs.Common.{[], inr, refl}
 use Rattle.bq_line.specs.Links.{as_submitted}
 use Rattle.bq_host.proofs.HubLemmas.{went_then}
 use Rattle.bq_host.proofs.hub.Hub.submit.Goals as goal
@@ -7,3 +7,7 @@ pub returns-clause-taken : goal.returns-clause-taken
 returns-clause-taken g c = λ e.
     went_then g.K.QueueCore.machine g.K.QueueCore.comparisons g.C.Clock.given c.args.seat c.args.seat c.args.self.now c.sort.new.self
     c.take_step.new.self [] (as_submitted c.args.step.now) [] [] refl c.sort.ensures.went.1 c.take_step.ensures.went.1
+
+pub returns-clause-fresh : goal.returns-clause-fresh
+returns-clause-fresh g c =
+    let h = rw c.sort.ensures.only.time at c.take_step.ensures.read in λ f. inr (h.0, [], h.1.gave)
