@@ -21,6 +21,10 @@ concern_of (steps.Ask (requests.Put pri delay ttr body)) = concerns.Put
 concern_of (steps.Ask (requests.Refused refusals.OutOfMemory)) = concerns.Refused
 concern_of _ = concerns.Other
 
+-- Nothing was logged.
+abbrev pub none_told : Notices
+none_told = record { is_draining = false; refused = None; full = None }
+
 -- The first drain is logged.
 abbrev pub after_drain : Notices → Option Notice × Notices
 after_drain told = if told.is_draining then (None, told) else (Some notices.Draining, record told { is_draining = true })

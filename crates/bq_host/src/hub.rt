@@ -7,7 +7,7 @@ ghost use Rattle.bq_job.specs.declared.answer.Answer.{Answer};
 ghost use Rattle.bq_job.specs.promise.Runs.{answers_to};
 ghost use Rattle.bq_host.specs.MailStates.{IsInOrder};
 ghost use Rattle.bq_host.specs.Hubs.{IsInOrderFor, KeepsFresh, OnlyMoves, WentAt, WentInOrder, state_of, with_pending};
-ghost use Rattle.bq_host.specs.Told.{concern_of, none_unlogged, noted, told_after};
+ghost use Rattle.bq_host.specs.Told.{HasLogged, concern_of, none_told, none_unlogged, noted, told_after};
 ghost use Rattle.bq_host.specs.WakeLists.{Wakes, none_waits, to_wake};
 
 use crate::fault::RunFault;
@@ -62,6 +62,8 @@ impl<C: Clock + Drop, K: QueueCore + Drop> Hub<C, K> {
         ensures clock { IfOk result (λ hub. hub.timed.time.clock ≡ clock) }
         ensures woken { IfOk result (λ hub. hub.woken ≡ none_waits 0) }
         ensures not_fresh { IfOk result (λ hub. hub.is_fresh ≡ false) }
+        ensures none_told { IfOk result (λ hub. hub.timed.notices ≡ none_told) }
+        ensures none_noted { IfOk result (λ hub. hub.unlogged ≡ none_unlogged) }
         ensures bad_configuration { IsErrOf result RunFault.BadConfiguration ↔ IsTrue
             (not (are_in_range config)) }
         ensures no_thread { IsErrOf result RunFault.ThreadRefused ↔ ⊥ }
@@ -103,6 +105,10 @@ impl<C: Clock + Drop, K: QueueCore + Drop> Hub<C, K> {
         ensures only { result ≡ false → OnlyMoves self.old self.new }
         ensures fresh { KeepsFresh C.given self.old self.new }
         ensures read { result ≡ true → HearsIf C.given true self.old.timed.time self.new.timed.time }
+        ensures told { result ≡ true → HasLogged (concern_of step.now) self.new.timed.outs self.new.timed.time.moment
+            self.old.timed.notices self.new.timed.notices }
+        ensures noted { result ≡ true → self.new.unlogged ≡ noted (told_after (concern_of step.now) self.new.timed.outs
+            self.new.timed.time.moment self.old.timed.notices).0 self.old.unlogged }
     {
         if !self.sort(seat) {
             return false;
@@ -118,6 +124,8 @@ impl<C: Clock + Drop, K: QueueCore + Drop> Hub<C, K> {
         requires empty { (state_of K.machine K.comparisons self.old).pending ≡ [] }
         ensures went { WentInOrder K.machine K.comparisons C.given seat self.old (as_submitted what.now) [] self.new }
         ensures read { HearsIf C.given true self.old.timed.time self.new.timed.time }
+        ensures told { HasLogged (concern_of what.now) self.new.timed.outs self.new.timed.time.moment
+            self.old.timed.notices self.new.timed.notices }
         ensures noted { self.new.unlogged ≡ noted (told_after (concern_of what.now) self.new.timed.outs self.new.timed.time.moment
             self.old.timed.notices).0 self.old.unlogged }
     {
@@ -324,6 +332,7 @@ impl<C: Clock + Drop, K: QueueCore + Drop> Hub<C, K> {
             then time_left (next_due (K.machine self.old.timed.core)) self.new.timed.time.moment else Some 0) }
         ensures within { IsLimit result (next_due (K.machine self.new.timed.core)) self.new.timed.time.moment }
         ensures read_again { self.new.is_fresh ≡ false }
+        ensures notices { self.new.timed.notices ≡ self.old.timed.notices }
         ensures logged { self.new.unlogged ≡ none_unlogged }
     {
         let ticks = self.tick_if_due();
@@ -354,6 +363,7 @@ impl<C: Clock + Drop, K: QueueCore + Drop> Hub<C, K> {
             self.old.timed.time self.new.timed.time }
         ensures known { self.new.timed.due ≡ next_due (K.machine self.old.timed.core) }
         ensures same { result ≡ false → K.machine self.new.timed.core ≡ K.machine self.old.timed.core }
+        ensures notices { self.new.timed.notices ≡ self.old.timed.notices }
         ensures went { WentInOrder K.machine K.comparisons C.given 0 self.old [] [] self.new }
     {
         let may_tick = self.sort(0);

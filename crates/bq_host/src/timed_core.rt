@@ -3,7 +3,7 @@ ghost use Rattle.std.specs.Prelude.{◌≡◌, ◌<◌, ◌↔◌, ◌+◌, ◌&
 ghost use Rattle.bq_job.specs.beside.NextDue.{is_before, next_due};
 ghost use Rattle.bq_job.specs.machine.Machine.{new_machine};
 ghost use Rattle.bq_core_api.specs.Limits.{are_in_range};
-ghost use Rattle.bq_host.specs.Told.{HasLogged, concern_of, told_after};
+ghost use Rattle.bq_host.specs.Told.{HasLogged, concern_of, none_told, told_after};
 ghost use Rattle.bq_host.specs.Timed.{HasHeard, KnowsDue, HearsDue, HearsIf, IsNewTimed, IsReady, LooksAndSteps, OnlyHears, PassesOver, TakesStep, is_read_for};
 
 use crate::fault::RunFault;
@@ -90,6 +90,7 @@ impl<C: Clock + Drop, K: QueueCore + Drop> TimedCore<C, K> {
     /// `NoMemory`.
     pub fn new(alloc: Global, config: Config, clock: C) -> Result<TimedCore<C, K>, RunFault>
         ensures made { IfOk result (IsNewTimed K.machine K.comparisons config clock) }
+        ensures none_told { IfOk result (λ timed. timed.notices ≡ none_told) }
         ensures bad_configuration { IsErrOf result RunFault.BadConfiguration ↔ IsTrue
             (not (are_in_range config)) }
         ensures no_thread { IsErrOf result RunFault.ThreadRefused ↔ ⊥ }
@@ -105,6 +106,7 @@ impl<C: Clock + Drop, K: QueueCore + Drop> TimedCore<C, K> {
         ensures clock { result.time.clock ≡ clock }
         ensures none_heard { result.time.moment ≡ 0 }
         ensures unknown { result.is_due_known ≡ false }
+        ensures none_told { result.notices ≡ none_told }
     {
         TimedCore {
             alloc,
@@ -181,6 +183,7 @@ impl<C: Clock + Drop, K: QueueCore + Drop> TimedCore<C, K> {
             ≡ not (is_before self.new.time.moment (next_due (K.machine self.old.core))) }
         ensures due { self.new.due ≡ next_due (K.machine self.old.core) }
         ensures settings { (K.machine self.new.core).settings ≡ (K.machine self.old.core).settings }
+        ensures notices { self.new.notices ≡ self.old.notices }
     {
         if !self.is_due(is_fresh) {
             return false;
@@ -199,6 +202,7 @@ impl<C: Clock + Drop, K: QueueCore + Drop> TimedCore<C, K> {
         ensures time { self.new.time ≡ self.old.time }
         ensures due { self.new.due ≡ self.old.due }
         ensures settings { (K.machine self.new.core).settings ≡ (K.machine self.old.core).settings }
+        ensures notices { self.new.notices ≡ self.old.notices }
     {
         self.is_due_known = false;
         self.core.step_in_place(
@@ -222,6 +226,7 @@ impl<C: Clock + Drop, K: QueueCore + Drop> TimedCore<C, K> {
             ≡ not (is_before self.new.time.moment (next_due (K.machine self.old.core))) }
         ensures due { self.new.due ≡ next_due (K.machine self.old.core) }
         ensures same { K.machine self.new.core ≡ K.machine self.old.core }
+        ensures notices { self.new.notices ≡ self.old.notices }
     {
         let Some(due) = self.next_due() else {
             return false;
@@ -240,6 +245,7 @@ impl<C: Clock + Drop, K: QueueCore + Drop> TimedCore<C, K> {
         ensures ready { IsReady K.machine self.new }
         ensures due { result ≡ next_due (K.machine self.old.core) }
         ensures known { KnowsDue K.machine K.comparisons self.old self.new }
+        ensures notices { self.new.notices ≡ self.old.notices }
     {
         if !self.is_due_known {
             self.due = self.core.next_due();
