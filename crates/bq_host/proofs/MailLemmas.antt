@@ -1,13 +1,14 @@
 -- An answer is put into the mail of a seat, or taken out of it.
-use Rattle.std.proofs.Common.{◌≡◌, ◌≢◌, ℕ, ◌<◌, Bool, false, List, [], ◌∷◌, ◌++◌}
-use Rattle.std.proofs.Common.{arith, length, refl, sym, ap, ◌∙◌, inl, inr, append-nil, append_assoc, slice_set}
-use Rattle.std.specs.Prelude.{◌==◌, slice_index_or}
+use Rattle.std.proofs.Common.{◌≡◌, ◌≢◌, ◌⊎◌, ℕ, ◌<◌, ◌≤◌, Bool, true, false, true≢false, Option, Some, None, List, [], ◌∷◌, ◌++◌}
+use Rattle.std.proofs.Common.{arith, length, refl, sym, ap, ◌∙◌, subst, inl, inr, append-nil, append_assoc, slice_set}
+use Rattle.std.specs.Prelude.{◌==◌, IsNone, slice_index_or}
+use Rattle.std.specs.Option.{option_to_list}
 use Rattle.std.proofs.lemmas.{Bool.{cases_Bool, eq-eqb, eqb-true, eqb-false}, Grind.common_steps}
 use Rattle.std.proofs.lemmas.List.{get_or-set_other, get_or-set_same, get_or_default, length-set, set-get_or}
 use Rattle.bq_job.specs.declared.answer.Answer.{Answer}
 use Rattle.bq_job.specs.machine.Dispatch.{GivenAnswer}
 use Rattle.bq_job.specs.promise.Runs.{answers_to}
-use Rattle.bq_host.specs.{MailStates.{MailState, timed_of, waiting}, Went.SeatWent}
+use Rattle.bq_host.specs.{MailStates.{IsHeldUp, IsSorted, MailState, timed_of, waiting}, Went.SeatWent}
 use Rattle.bq_host.proofs.{TimedRunLemmas.ran_none, WentLemmas.{only, seat_took}}
 
 not_equal : (a b : ℕ) → a ≢ b → (a == b) ≡ false
@@ -29,6 +30,22 @@ pub still_at : (items : List (List Answer)) (i : ℕ) (old new : List Answer) �
     → new ≡ old → slice_set items i new ≡ items
 still_at items i old new below at is =
     ap (λ (x : List Answer). slice_set items i x) (is ∙ at) ∙ set-get_or items i old
+
+-- No answer was taken out of a mail.
+pub none_taken : (taken : Option Answer) (old rest : List Answer) → old ≡ option_to_list taken ++ rest → IsNone taken → rest ≡ old
+none_taken None old rest is none = sym is
+none_taken (Some answer) old rest is none = absurd (true≢false none)
+
+-- A seat whose mail is empty after all answers were sorted has none, unless an answer is held up.
+pub none_for : (all : Bool) (seat : ℕ) (old sorted new : MailState) → (all ≡ true → sorted.pending ≡ [])
+    → (all ≡ false → IsHeldUp sorted) → IsSorted old sorted → seat < length old.mails → new.pending ≡ sorted.pending
+    → new.mails ≡ sorted.mails → slice_index_or new.mails seat [] ≡ [] → (waiting seat old ≡ []) ⊎ IsHeldUp new
+none_for true seat old sorted new none held s below pending mails empty =
+    inl (sym (s.waiting_is seat below) ∙ ap (λ xs. slice_index_or sorted.mails seat [] ++ answers_to seat xs) (none refl)
+    ∙ append-nil (slice_index_or sorted.mails seat []) ∙ ap (λ ms. slice_index_or ms seat []) (sym mails) ∙ empty)
+none_for false seat old sorted new none held s below pending mails empty =
+    let h = held refl in
+    inr (h.0, h.1, h.2, pending ∙ h.3, subst (λ (ms : List (List Answer)). 4 ≤ length (slice_index_or ms h.0 [])) (sym mails) h.4)
 
 -- the seat took its oldest answer
 pub seat_takes : (d : MailState) (seat i : ℕ) (old rest taken : List Answer) → i ≡ seat → i < length d.mails

@@ -1,5 +1,5 @@
 -- The state of a core with its clock, and the answers that no seat has taken yet.
-use Rattle.std.specs.Prelude.{ℕ, ◌≡◌, ◌<◌, Bool, true, false, List, [], ◌++◌, Option, length, replicate, slice_index_or}
+use Rattle.std.specs.Prelude.{ℕ, ◌≡◌, ◌<◌, ◌≤◌, Bool, true, false, List, [], ◌∷◌, ◌++◌, Option, length, replicate, slice_index_or}
 use Rattle.std.specs.Option.{option_to_list}
 use Rattle.bq_job.specs.beside.NextDue.{next_due}
 use Rattle.bq_job.specs.declared.answer.Answer.{Answer}
@@ -72,3 +72,8 @@ pub record IsSorted (first last : MailState) : Type 0 where
   pub rest : last ≡ record first { mails = last.mails; pending = last.pending; sorted = last.sorted }
   pub many : length last.mails ≡ length first.mails
   pub waiting_is : (seat : ℕ) → seat < length first.mails → waiting seat last ≡ waiting seat first
+
+-- The oldest answer that is not in the mail waits for room: the mail of its seat is full.
+abbrev pub IsHeldUp : MailState → Type 0
+IsHeldUp d = (seat : ℕ) × (answer : Answer) × (more : List GivenAnswer) × (d.pending ≡ (seat, answer) ∷ more)
+    × (4 ≤ length (slice_index_or d.mails seat []))

@@ -1,7 +1,7 @@
 //! A hub, at which one thread serves seats: the core with its clock, and the answers that no seat has
 //! taken yet.
 ghost use Rattle.std.specs.Prelude.{◌≡◌, ◌<◌, ◌≤◌, ◌+◌, ◌++◌, ◌∷◌, [], ℕ, None, Option, Some, true, false};
-ghost use Rattle.std.specs.Prelude.{◌↔◌, ◌&&◌, not, IfErr, IfOk, IsErrOf, IsTrue, IsNone, MatchResult, length, slice_index_or, if◌then◌else◌};
+ghost use Rattle.std.specs.Prelude.{◌↔◌, ◌⊎◌, ◌&&◌, not, IfErr, IfOk, IsErrOf, IsTrue, IsNone, MatchResult, length, slice_index_or, if◌then◌else◌};
 ghost use Rattle.std.specs.Option.{option_to_list};
 ghost use Rattle.bq_job.specs.declared.answer.Answer.{Answer};
 ghost use Rattle.bq_job.specs.promise.Runs.{answers_to};
@@ -47,7 +47,7 @@ impl<C: Clock + Drop, K: QueueCore + Drop> Hub<C, K> {
     ghost use Rattle.bq_job.specs.beside.NextDue.{is_before, next_due};
     ghost use Rattle.bq_host.specs.DueTimes.{IsLimit, time_left};
     ghost use Rattle.bq_host.specs.Timed.{HearsIf, is_read_for};
-    ghost use Rattle.bq_host.specs.MailStates.{IsNewMailState, IsSorted};
+    ghost use Rattle.bq_host.specs.MailStates.{IsHeldUp, IsNewMailState, IsSorted, waiting};
     ghost use Rattle.bq_core_api.specs.Limits.{are_in_range};
     ghost use Rattle.bq_line.specs.Links.{TakesInPlace, as_submitted};
 
@@ -102,6 +102,7 @@ impl<C: Clock + Drop, K: QueueCore + Drop> Hub<C, K> {
         ensures order { IsInOrder (state_of K.machine K.comparisons self.new) }
         ensures taken { result ≡ true → WentAt K.machine K.comparisons C.given seat self.old (as_submitted step.now) [] self.new }
         ensures left { result ≡ false → WentAt K.machine K.comparisons C.given seat self.old [] [] self.new }
+        ensures held_up { result ≡ false → IsHeldUp (state_of K.machine K.comparisons self.new) }
         ensures only { result ≡ false → OnlyMoves self.old self.new }
         ensures fresh { KeepsFresh C.given self.old self.new }
         ensures read { result ≡ true → HearsIf C.given true self.old.timed.time self.new.timed.time }
@@ -136,11 +137,14 @@ impl<C: Clock + Drop, K: QueueCore + Drop> Hub<C, K> {
     }
 
     /// Takes the oldest answer to the seat, if there is one, and puts it into `place` as an action
-    /// that writes it. Returns false and leaves `place` as it was if there is none.
+    /// that writes it. Returns false and leaves `place` as it was if there is none, or if an older
+    /// answer that waits for room in the mail of its seat is in the way.
     pub fn take_to(&mut self, seat: Seat, place: &mut NextAction) -> bool
         requires ready { IsInOrderFor K.machine K.comparisons seat self.old }
         ensures order { IsInOrder (state_of K.machine K.comparisons self.new) }
         ensures went { TakesInPlace (WentAt K.machine K.comparisons C.given seat) self.old place.old result place.new self.new }
+        ensures none { result ≡ false → (waiting seat (state_of K.machine K.comparisons self.old) ≡ [])
+            ⊎ IsHeldUp (state_of K.machine K.comparisons self.new) }
         ensures only { OnlyMoves self.old self.new }
     {
         if self.held.is_none() && self.has_no_mail(seat) {
@@ -163,6 +167,8 @@ impl<C: Clock + Drop, K: QueueCore + Drop> Hub<C, K> {
         requires ready { IsInOrderFor K.machine K.comparisons seat self.old }
         ensures order { IsInOrder (state_of K.machine K.comparisons self.new) }
         ensures went { TakesInPlace (WentAt K.machine K.comparisons C.given seat) self.old place.old result place.new self.new }
+        ensures none { result ≡ false → (waiting seat (state_of K.machine K.comparisons self.old) ≡ [])
+            ⊎ IsHeldUp (state_of K.machine K.comparisons self.new) }
         ensures only { OnlyMoves self.old self.new }
     {
         let _all = self.sort(seat);
@@ -183,6 +189,8 @@ impl<C: Clock + Drop, K: QueueCore + Drop> Hub<C, K> {
         requires none_held { self.old.held ≡ None }
         ensures order { IsInOrder (state_of K.machine K.comparisons self.new) }
         ensures went { TakesInPlace (WentAt K.machine K.comparisons C.given seat) self.old place.old result place.new self.new }
+        ensures none { result ≡ false → (waiting seat (state_of K.machine K.comparisons self.old) ≡ [])
+            ⊎ IsHeldUp (state_of K.machine K.comparisons self.new) }
         ensures only { OnlyMoves self.old self.new }
     {
         let Some((first, answer)) = self.next_new() else {
@@ -230,6 +238,8 @@ impl<C: Clock + Drop, K: QueueCore + Drop> Hub<C, K> {
         ensures many { length self.new.mails.items ≡ length self.old.mails.items }
         ensures went { WentInOrder K.machine K.comparisons C.given seat self.old [] (option_to_list result) self.new }
         ensures none { IsNone result → slice_index_or self.new.mails.items seat [] ≡ [] }
+        ensures still { IsNone result → self.new.mails.items ≡ self.old.mails.items }
+        ensures rest { self.new ≡ record self.old { mails = self.new.mails } }
         ensures only { OnlyMoves self.old self.new }
     {
         self.mails[usize::from(seat)].take_first()
@@ -242,6 +252,7 @@ impl<C: Clock + Drop, K: QueueCore + Drop> Hub<C, K> {
         requires order { IsInOrder (state_of K.machine K.comparisons self.old) }
         ensures many { length self.new.mails.items ≡ length self.old.mails.items }
         ensures none { result ≡ true → (state_of K.machine K.comparisons self.new).pending ≡ [] }
+        ensures held_up { result ≡ false → IsHeldUp (state_of K.machine K.comparisons self.new) }
         ensures sorted { IsSorted (state_of K.machine K.comparisons self.old) (state_of K.machine K.comparisons self.new) }
         ensures only { OnlyMoves self.old self.new }
         ensures went { WentInOrder K.machine K.comparisons C.given seat self.old [] [] self.new }
@@ -261,6 +272,7 @@ impl<C: Clock + Drop, K: QueueCore + Drop> Hub<C, K> {
         ensures only { OnlyMoves self.old self.new }
         ensures wakes { Wakes self.old.mails.items self.new.mails.items self.old.woken self.new.woken }
         ensures none { result ≡ true → (state_of K.machine K.comparisons self.new).pending ≡ [] }
+        ensures held_up { result ≡ false → IsHeldUp (state_of K.machine K.comparisons self.new) }
     {
         let sorts = self.deliver();
         self.is_sorted = sorts;
@@ -274,6 +286,7 @@ impl<C: Clock + Drop, K: QueueCore + Drop> Hub<C, K> {
         ensures only { OnlyMoves self.old self.new }
         ensures wakes { Wakes self.old.mails.items self.new.mails.items self.old.woken self.new.woken }
         ensures none { result ≡ true → (state_of K.machine K.comparisons self.new).pending ≡ [] }
+        ensures held_up { result ≡ false → IsHeldUp (state_of K.machine K.comparisons self.new) }
     {
         if self.has_none_pending() {
             return true;

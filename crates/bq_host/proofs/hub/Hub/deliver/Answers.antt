@@ -59,3 +59,7 @@ loop-seat-preserved g c =
           i.wakes (ap (λ h. h.mails.items) rest) (ap (λ h. h.woken) rest)
           c.post.ensures.many c.in_default-post.ensures.posted c.post.ensures.woken;
     }
+
+pub returns-in-Err-clause-held_up : goal.returns-in-Err-clause-held_up
+returns-in-Err-clause-held_up g c = λ e.
+    (c.in-Some.seat, c.in-Err.back, c.next_pending.new.self.timed.outs.given, refl, c.in-Err.ensures.full)
