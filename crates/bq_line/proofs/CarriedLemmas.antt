@@ -37,22 +37,14 @@ ComesOn went result old seen sent link new later now after next action =
 
 -- Nothing of an answer is written yet.
 pub none_begun : (action : Action) (line : LineSeen) → line ≡ with_part action 0 line
-none_begun (actions.Submit step) line = refl
-none_begun actions.Read line = refl
-none_begun actions.PollMail line = refl
 none_begun (actions.Write answer) line = ap (λ w. record line { written = w }) (sym (append-nil line.written))
-none_begun (actions.LineOver end) line = refl
-none_begun actions.Stray line = refl
+none_begun _ line = refl
 
 -- If no answer is to be written, the connection's record is the same.
 same_before : (action : Action) (sent : ℕ) (line : LineSeen) → ((answer : Answer) → action ≡ actions.Write answer → ⊥)
     → with_part action sent line ≡ line
-same_before (actions.Submit step) sent line other = refl
-same_before actions.Read sent line other = refl
-same_before actions.PollMail sent line other = refl
 same_before (actions.Write answer) sent line other = absurd (other answer refl)
-same_before (actions.LineOver end) sent line other = refl
-same_before actions.Stray sent line other = refl
+same_before _ sent line other = refl
 
 ends_submitted : (result : Progress) (old : SeatMachine) (step : Step) (new : SeatMachine) (next : Action) (submitted : List Step)
     (taken : List Answer)
@@ -86,9 +78,7 @@ ends_as result old seen actions.Read new later next submitted taken other c =
 ends_as result old seen actions.PollMail new later next submitted taken other c =
     (ends_polled result old new next submitted taken c.2 c.1, tt)
 ends_as result old seen (actions.Write answer) new later next submitted taken other c = absurd (other answer refl)
-ends_as result old seen (actions.LineOver end) new later next submitted taken other c =
-    (record { can_end = c.result_is; still = λ moved. (c.none_submitted, c.none_taken) }, (c.none_submitted, c.none_taken))
-ends_as result old seen actions.Stray new later next submitted taken other c =
+ends_as result old seen _ new later next submitted taken other c =
     (record { can_end = c.result_is; still = λ moved. (c.none_submitted, c.none_taken) }, (c.none_submitted, c.none_taken))
 
 -- An action that writes no answer was carried out at once.
@@ -156,21 +146,14 @@ pub gone : {K : Type 0} (went : K → List Step → List Answer → K → Type 0
     → HasGone went first action submitted taken last → MayCall action submitted taken → P submitted taken
 gone went P first last (actions.Submit step) submitted taken calls alone h c = calls submitted taken h
 gone went P first last actions.PollMail submitted taken calls alone h c = calls submitted taken h
-gone went P first last actions.Read submitted taken calls alone h c = none P submitted taken c.0 c.1 (alone h)
-gone went P first last (actions.Write answer) submitted taken calls alone h c = none P submitted taken c.0 c.1 (alone h)
-gone went P first last (actions.LineOver end) submitted taken calls alone h c = none P submitted taken c.0 c.1 (alone h)
-gone went P first last actions.Stray submitted taken calls alone h c = none P submitted taken c.0 c.1 (alone h)
+gone went P first last _ submitted taken calls alone h c = none P submitted taken c.0 c.1 (alone h)
 
 -- What is known of a place follows from what is known of its action, which does not end the
 -- connection.
 ends_at : {L : Type 0} (result : Progress) (line : L) (action : Action) (sent : ℕ) → ((end : LineEnd) → action ≡ actions.LineOver end → ⊥)
     → CanEnd result action → MayEndAt result (places.On line action sent)
-ends_at result line (actions.Submit step) sent other c = c
-ends_at result line actions.Read sent other c = c
-ends_at result line actions.PollMail sent other c = c
-ends_at result line (actions.Write answer) sent other c = c
 ends_at result line (actions.LineOver end) sent other c = absurd (other end refl)
-ends_at result line actions.Stray sent other c = c
+ends_at result line _ sent other c = c
 
 pub ends_on : {L : Type 0} (result : Progress) (place : LinePlace L) (line : L) (action : Action) (sent : ℕ)
     → place ≡ places.On line action sent → ((end : LineEnd) → action ≡ actions.LineOver end → ⊥) → CanEnd result action

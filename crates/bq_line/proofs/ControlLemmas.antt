@@ -4,7 +4,7 @@ use Rattle.std.proofs.Common.{[], ◌∷◌, ◌++◌, refl, sym, ap, ◌∙◌,
 use Rattle.std.proofs.Common.{replicate, subst, inl, inr, Option, Some, None, IfSome, true≢false, if◌then◌else◌}
 use Rattle.std.proofs.lemmas.List.{replicate-append-replicate}
 use Rattle.std.proofs.lemmas.Bool.{cases_Bool}
-use Rattle.std.proofs.KnownBytes.{Consumes-nil, Consumes-trans}
+use Rattle.std.proofs.KnownBytes.{Consumes-trans}
 use Rattle.std.specs.Prelude.{nat_eq}
 use Rattle.std.specs.Cmp.Lexicographic.{pointwise}
 use Rattle.bq_job.specs.promise.ControlDid.{are_same, drain_word, drains, drains_from, one_if}
@@ -65,15 +65,6 @@ pub line_read : (kept : List ℕ) (byte : ℕ) → (byte == 10) ≡ true → Has
 line_read kept byte feed rest failed =
     ap (λ b. if b then one_if (are_same kept drain_word) + drains_from [] rest failed else drains_from (kept ++ byte ∷ []) rest failed) feed
 
--- nothing was read first
-pub read_none : (before : Option (List ℕ)) → Consumes before before []
-read_none before = Consumes-nil before
-
--- bytes followed by bytes
-pub read_on : (before next after : Option (List ℕ)) (text bytes : List ℕ) → Consumes before next text → Consumes next after bytes
-    → Consumes before after (text ++ bytes)
-read_on before next after text bytes h i = Consumes-trans before next after text bytes h i
-
 -- nothing more came
 pub read_same : (before next after : Option (List ℕ)) (text : List ℕ) → Consumes before next text → Consumes next after []
     → Consumes before after text
@@ -125,7 +116,7 @@ module _ {K : Type 0} {went : K → List Step → K → Type 0} {at_first left :
       → HasDrained went at_first after old later (after_heard (hears.Byte byte) seen) new
   drained_byte {after = after} byte read noted = record {
     count = h.count;
-    read = read_on at_first left after seen.text (byte ∷ []) h.read read;
+    read = Consumes-trans at_first left after seen.text (byte ∷ []) h.read read;
     well = h.well;
     counted = λ rest failed. ap (λ xs. drains xs failed) (append_assoc seen.text (byte ∷ []) rest) ∙ h.counted (byte ∷ rest) failed
         ∙ ap (λ n. h.count + n) (noted rest failed);
@@ -139,7 +130,7 @@ module _ {K : Type 0} {went : K → List Step → K → Type 0} {at_first left :
       → HasDrained went at_first after old [] (after_heard (hears.Byte byte) seen) last
   drained_line {after = after} {last = last} later byte read noted drained = record {
     count = h.count + one_if (are_same later drain_word);
-    read = read_on at_first left after seen.text (byte ∷ []) h.read read;
+    read = Consumes-trans at_first left after seen.text (byte ∷ []) h.read read;
     well = h.well;
     counted = λ rest failed.
         ap (λ xs. drains xs failed) (append_assoc seen.text (byte ∷ []) rest) ∙ h.counted (byte ∷ rest) failed

@@ -70,10 +70,6 @@ pub carried_counted : (result : Progress) (size : ℕ) (old new : SeatMachine) (
     (before submitted : List Step) (got taken : List Answer)
     → Carried result old seen action new later next submitted taken → IsOnLine size old seen action before got
     → (over_by action ≤ over_by next) × (polls_by next ≡ true → has_closed taken ≡ false)
-carried_counted result size old new seen later (actions.Submit step) next before submitted got taken c o =
-    ((omega arith), λ p. none_closed taken c.1)
-carried_counted result size old new seen later actions.Read next before submitted got taken c o =
-    ((omega arith), λ p. none_closed taken c.1)
 carried_counted result size old new seen later actions.PollMail next before submitted got taken c o =
     ((omega arith), λ p. by_turn result c.2 p)
   where
@@ -82,12 +78,11 @@ carried_counted result size old new seen later actions.PollMail next before subm
         ap has_closed m.1 ∙ (let e = mailed_unclosed size old new seen m.0 next before got m.2 o p in rw e refl)
     by_turn results.NoMail m p = none_closed taken m.0
     by_turn _ m p = absurd m
-carried_counted result size old new seen later (actions.Write answer) next before submitted got taken c o =
-    ((omega arith), λ p. none_closed taken c.1)
 carried_counted result size old new seen later (actions.LineOver end) next before submitted got taken c o =
     ((let e = ap over_by c.action_is in omega arith), λ p. none_closed taken c.none_taken)
 carried_counted result size old new seen later actions.Stray next before submitted got taken c o =
     ((omega arith), λ p. none_closed taken c.none_taken)
+carried_counted result size old new seen later _ next before submitted got taken c o = ((omega arith), λ p. none_closed taken c.1)
 
 -- ---- the steps of an open line
 
@@ -108,9 +103,7 @@ turn_closings steps.Close taken mail t = ap closings t.2 ∙ asked_steps_closing
     told : (b : Bool) → closings (end_if b) ≡ 0
     told true = refl
     told false = refl
-turn_closings steps.Drain taken mail t = absurd t
-turn_closings steps.Tick taken mail t = absurd t
-turn_closings steps.Gone taken mail t = absurd t
+turn_closings _ taken mail t = absurd t
 
 -- Unless the seat checks its mail next, only a connection that has ended is closed.
 on_closings : (size : ℕ) (machine : SeatMachine) (seen : LineSeen) (action : Action) (submitted : List Step) (taken : List Answer)
@@ -149,17 +142,13 @@ on_closes size machine seen _ submitted taken o = omega arith
 module _ {L : Type 0} (seen : L → LineSeen) (size : ℕ) where
   at_closings : (machine : SeatMachine) (place : LinePlace L) (submitted : List Step) (taken : List Answer)
       → IsAt seen size machine place submitted taken → is_polling place ≡ false → closings submitted ≤ over_now place
-  at_closings machine places.Between submitted taken at p = let e = ap closings at.0 in omega arith
   at_closings machine (places.On line action sent) submitted taken at p = on_closings size machine at.0 action submitted taken at.2 p
-  at_closings machine places.Leaving submitted taken at p = let e = ap closings at.0 in omega arith
-  at_closings machine places.Done submitted taken at p = let e = ap closings at.0 in omega arith
+  at_closings machine _ submitted taken at p = let e = ap closings at.0 in omega arith
 
   at_closes : (machine : SeatMachine) (place : LinePlace L) (submitted : List Step) (taken : List Answer)
       → IsAt seen size machine place submitted taken → over_now place ≤ closes taken
-  at_closes machine places.Between submitted taken at = omega arith
   at_closes machine (places.On line action sent) submitted taken at = on_closes size machine at.0 action submitted taken at.2
-  at_closes machine places.Leaving submitted taken at = omega arith
-  at_closes machine places.Done submitted taken at = omega arith
+  at_closes machine _ submitted taken at = omega arith
 
   -- The seat took at most one `Closed` for each connection that has ended, and went on. The core
   -- gave at most one to each close.

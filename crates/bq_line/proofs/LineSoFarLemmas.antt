@@ -93,13 +93,7 @@ pub line_so_far : (size : ℕ) (machine : SeatMachine) (line : LineSeen) (action
     → IsLineOwedSoFar size (with_part action sent line) submitted (taken ++ waiting)
 line_so_far size machine line (actions.Submit step) sent submitted taken waiting o =
     quiet size machine line (actions.Submit step) submitted (step ∷ []) taken waiting o refl refl refl refl
-line_so_far size machine line actions.Read sent submitted taken waiting o =
-    quiet size machine line actions.Read submitted [] taken waiting o (same_steps o.past.steps) refl refl refl
-line_so_far size machine line actions.PollMail sent submitted taken waiting o =
-    quiet size machine line actions.PollMail submitted [] taken waiting o (same_steps o.past.steps) refl refl refl
 line_so_far size machine line (actions.Write answer) sent submitted taken waiting o =
     writing size machine line answer sent submitted taken waiting o
-line_so_far size machine line (actions.LineOver end) sent submitted taken waiting o =
-    quiet size machine line (actions.LineOver end) submitted [] taken waiting o (same_steps o.past.steps) refl refl refl
-line_so_far size machine line actions.Stray sent submitted taken waiting o =
-    quiet size machine line actions.Stray submitted [] taken waiting o (same_steps o.past.steps) refl refl refl
+line_so_far size machine line action sent submitted taken waiting o =
+    quiet size machine line action submitted [] taken waiting o (same_steps o.past.steps) refl refl refl

@@ -184,10 +184,8 @@ module _ {size : ℕ} {old new : SeatMachine} {seen later : LineSeen} {next : Ac
 -- what was written of the answers given for writing, depending on how the connection ended
 written_of : (end : LineEnd) (fault : Option LineFault) (asked : List Request) (own : List Answer) (written : List ℕ) → IsFaultOf end fault
     → IsWrittenSo fault own written → IsWritten end asked own written × IsNoneUnwritten end own written
-written_of ends.Quit fault asked own written f w = (rw f at w, tt)
-written_of ends.EndOfInput fault asked own written f w = (rw f at w, tt)
 written_of ends.ReadFault fault asked own written f w = let all : written ≡ answers_text own = rw f at w in (inl all, all)
-written_of ends.WriteFault fault asked own written f w = (rw f at w, tt)
+written_of _ fault asked own written f w = (rw f at w, tt)
 
 -- A connection that has ended was served.
 pub line_served : (size : ℕ) (machine : SeatMachine) (seen : LineSeen) (end : LineEnd) (submitted : List Step) (taken : List Answer)
@@ -221,13 +219,8 @@ left_on h s = nothing_more h.none_submitted h.none_taken (rw (h.action_is, h.lin
 
 -- A step in its turn counts: it is not a tick.
 turn_counts : (step : Step) (taken : List Step) (mail : List Answer) → IsInTurn step taken mail → as_submitted step ≡ step ∷ []
-turn_counts steps.Connect taken mail h = refl
-turn_counts (steps.Ask request) taken mail h = refl
-turn_counts steps.End taken mail h = refl
-turn_counts steps.Close taken mail h = refl
-turn_counts steps.Drain taken mail h = refl
 turn_counts steps.Tick taken mail h = absurd h
-turn_counts steps.Gone taken mail h = refl
+turn_counts _ taken mail h = refl
 
 -- The connection continues with each action that was carried out.
 pub carried_on : (result : Progress) (size : ℕ) (old new : SeatMachine) (seen later : LineSeen) (action next : Action)
@@ -262,8 +255,7 @@ carried_on result size old new seen later actions.PollMail next submitted more t
     by_turn results.NoMail m = nothing_more h.1 m.0 (none_mailed_on h.0 m.1 s)
     by_turn results.Moved m = rw (h.1, append-nil submitted, m.1) (mailed_on h.0 m.2 s)
     by_turn _ m = absurd m
-carried_on result size old new seen later (actions.LineOver end) next submitted more taken got h s = left_on h s
-carried_on result size old new seen later actions.Stray next submitted more taken got h s = left_on h s
+carried_on result size old new seen later _ next submitted more taken got h s = left_on h s
 
 -- An unused connection is opened.
 pub opened_on : (size : ℕ) (old new : SeatMachine) (action : Action) (seen : LineSeen) → awaited old ≡ Awaited.ALine
