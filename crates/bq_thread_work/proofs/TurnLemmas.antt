@@ -1,28 +1,31 @@
 -- How the turns of the core's driver combine.
 use Rattle.std.proofs.Common.{◌≡◌, ℕ, Bool, true, false, not, List, [], ◌∷◌, ◌++◌, Option, Some, None}
-use Rattle.std.proofs.Common.{◌≤◌, ◌⊎◌, ◌∙◌, arith, refl, ap, sym, subst, inl, inr}
+use Rattle.std.proofs.Common.{◌≤◌, ◌⊎◌, ◌∙◌, append-nil, arith, refl, ap, sym, subst, inl, inr}
 use Rattle.std.proofs.Math.Nat.{le-max_left}
 use Rattle.bq_job.specs.beside.NextDue.{is_before, next_due}
 use Rattle.bq_job.specs.declared.settings.Settings.{Settings}
 use Rattle.bq_job.specs.declared.step.Step.{Step}
 use Rattle.bq_job.specs.declared.step.Step.TheVariants.{Tick}
+use Rattle.bq_job.specs.machine.Dispatch.{GivenAnswer}
 use Rattle.bq_job.specs.machine.Machine.{Machine}
 use Rattle.bq_job.specs.machine.Steps.{IsStep}
 use Rattle.bq_job.specs.promise.History.{moment_heard}
+use Rattle.bq_job.specs.promise.Runs.{Entry}
 use Rattle.bq_core_api.specs.Outbox.{Outbox}
 use Rattle.bq_link.specs.Submissions.{Invariant}
 use Rattle.bq_host.specs.Clocks.{Gives}
 use Rattle.bq_host.specs.Timed.{HasHeard, IsReady, LooksAndSteps, PassesOver}
 use Rattle.bq_host.specs.declared.timed_core.HeardClock.{HeardClock}
 use Rattle.bq_host.specs.declared.timed_core.TimedCore.{TimedCore}
+use Rattle.bq_thread_work.specs.CoreWork.{steps_made}
 use Rattle.bq_thread_work.specs.Sending.{AreStuck}
 use Rattle.bq_thread_work.specs.Worked.{FindsWork, HasTicked, IsInOrder, TookOne, WorkWent, WorksOn, driver_state}
 use Rattle.bq_thread_work.specs.declared.core_work.polling.Polling.{Polling}
 use Rattle.bq_thread_work.specs.declared.core_work.sender.Sender.{Sender}
 use Rattle.bq_thread_work.specs.declared.core_work.yielding.Yielding.{Yielding}
 use Rattle.bq_thread_work.specs.declared.core_work.core_driver.CoreDriver.{CoreDriver}
-use Rattle.bq_host.proofs.TimedRunLemmas.{machine_over, outs_over, timed_heard, timed_late, timed_over}
-use Rattle.bq_thread_work.proofs.WorkedLemmas.{pending_on, worked_over, worked_tick}
+use Rattle.bq_host.proofs.TimedRunLemmas.{TimedRan, entry_of, machine_over, outs_over, timed_heard, timed_late, timed_over}
+use Rattle.bq_thread_work.proofs.WorkedLemmas.{pending_on, worked_inside}
 
 -- Nothing was done.
 pub on_still : {C K : Type 0} (given : Gives C) (machine : K → Machine) (compared : K → ℕ) (h : CoreDriver C K) → IsInOrder machine h
@@ -50,21 +53,22 @@ on_both given machine compared old mid new a b = record {
   work = λ settings from first w. b.work settings from first (a.work settings from first w);
 }
 
--- Time passed, and no step was taken.
-pub on_over : {C K : Type 0} (given : Gives C) (machine : K → Machine) (compared : K → ℕ) (old : CoreDriver C K) (t : TimedCore C K)
-    → IsInOrder machine old → IsReady machine t → PassesOver given machine compared old.timed t
-    → WorksOn given machine compared old (record old { timed = t })
-on_over {C} {K} given machine compared old t order ready over = record {
+-- The core did this by itself: it took a tick, or none.
+on_timed : {C K : Type 0} (given : Gives C) (machine : K → Machine) (compared : K → ℕ) (old : CoreDriver C K) (t : TimedCore C K)
+    (history : List Entry) (now : List GivenAnswer) → IsInOrder machine old → IsReady machine t
+    → (machine t.core).settings ≡ (machine old.timed.core).settings → steps_made history ≡ []
+    → old.sender.kept.items ++ t.outs.given ≡ (old.sender.kept.items ++ old.timed.outs.given) ++ now
+    → TimedRan machine compared given old.timed history now t → WorksOn given machine compared old (record old { timed = t })
+on_timed given machine compared old t history now order ready same none pending r = record {
   order = record { ready = ready; sender = order.sender; many = order.many; all = order.all };
   end = (refl, refl);
-  settings = ap (λ (m : Machine). m.settings) (machine_over machine compared given old.timed t over);
-  work = λ settings from first w.
-      let r = timed_over machine compared given old.timed t over in (
-        w.0 ++ r.0,
-        r.1 first w.0 w.1,
-        worked_over settings from w.0 r.0 (driver_state machine compared old) (driver_state machine compared (record old { timed = t })) w.2
-            r.2 refl (ap (λ (o : Outbox). old.sender.kept.items ++ o.given) (outs_over machine compared given old.timed t over)) refl,
-      );
+  settings = same;
+  work = λ settings from first w. (
+    w.0 ++ r.0,
+    r.1 first w.0 w.1,
+    worked_inside settings from w.0 r.0 (driver_state machine compared old) (driver_state machine compared (record old { timed = t }))
+        history now w.2 r.2 none refl pending refl,
+  );
 }
 
 -- A reading never lowers the latest moment.
@@ -76,51 +80,31 @@ not_lowered last next (Some moment) e = rw e (le-max_left last moment)
 pub on_heard : {C K : Type 0} (given : Gives C) (machine : K → Machine) (compared : K → ℕ) (old : CoreDriver C K) (time : HeardClock C)
     (reading : Option ℕ) → IsInOrder machine old → HasHeard given old.timed.time reading time
     → WorksOn given machine compared old (record old { timed = record old.timed { time = time } })
-on_heard {C} {K} given machine compared old time reading order h = record {
-  order = record {
-    ready = record { room = order.ready.room; due = order.ready.due };
-    sender = order.sender;
-    many = order.many;
-    all = order.all;
-  };
-  end = (refl, refl);
-  settings = refl;
-  work = λ settings from first w.
-      let new : TimedCore C K = record old.timed { time = time } in
-      let r = timed_heard machine compared given old.timed new (reading, h, refl) in (
-        w.0 ++ r.0,
-        r.1 first w.0 w.1,
-        worked_over settings from w.0 r.0 (driver_state machine compared old) (driver_state machine compared (record old { timed = new }))
-            w.2 r.2 refl refl refl,
-      );
-}
+on_heard {C} {K} given machine compared old time reading order h =
+    let new : TimedCore C K = record old.timed { time = time } in
+    on_timed given machine compared old new [] [] order (record { room = order.ready.room; due = order.ready.due }) refl refl
+    (sym (append-nil (old.sender.kept.items ++ old.timed.outs.given)))
+    (timed_heard machine compared given old.timed new (reading, h, refl))
 
--- Time passed, and the core took a tick.
-pub on_ticked : {C K : Type 0} (given : Gives C) (machine : K → Machine) (compared : K → ℕ) (old : CoreDriver C K) (t : TimedCore C K)
-    → IsInOrder machine old → IsReady machine t → old.timed.outs.given ≡ [] → LooksAndSteps given machine compared old.timed 0 Tick t
-    → WorksOn given machine compared old (record old { timed = t })
-on_ticked {C} {K} given machine compared old t order ready none late = record {
-  order = record { ready = ready; sender = order.sender; many = order.many; all = order.all };
-  end = (refl, refl);
-  settings = late.2.settings ∙ ap (λ (m : Machine). m.settings) late.1.same;
-  work = λ settings from first w.
-      let r = timed_late machine compared given old.timed t 0 Tick late in (
-        w.0 ++ r.0,
-        r.1 first w.0 w.1,
-        worked_tick settings from w.0 r.0 (driver_state machine compared old) (driver_state machine compared (record old { timed = t }))
-            t.time.moment t.outs.given w.2 r.2 refl
-            (pending_on old.sender.kept.items old.sender.kept.items old.timed.outs.given t.outs.given refl none) refl,
-      );
-}
-
+-- Time passed, and the core took a tick, or no step.
 pub on_passed : {C K : Type 0} (given : Gives C) (machine : K → Machine) (compared : K → ℕ) (old : CoreDriver C K) (t : TimedCore C K)
     (ticks : Bool) → IsInOrder machine old → IsReady machine t → old.timed.outs.given ≡ []
     → (ticks ≡ false → PassesOver given machine compared old.timed t)
     → (ticks ≡ true → LooksAndSteps given machine compared old.timed 0 Tick t)
     → WorksOn given machine compared old (record old { timed = t })
 on_passed given machine compared old t true order ready none over ticked =
-    on_ticked given machine compared old t order ready none (ticked refl)
-on_passed given machine compared old t false order ready none over ticked = on_over given machine compared old t order ready (over refl)
+    let late = ticked refl in
+    on_timed given machine compared old t (entry_of t.time.moment 0 Tick ∷ []) t.outs.given order ready
+    (late.2.settings ∙ ap (λ (m : Machine). m.settings) late.1.same) refl
+    (pending_on old.sender.kept.items old.sender.kept.items old.timed.outs.given t.outs.given refl none)
+    (timed_late machine compared given old.timed t 0 Tick late)
+on_passed given machine compared old t false order ready none over ticked =
+    let passed = over refl in
+    on_timed given machine compared old t [] [] order ready
+    (ap (λ (m : Machine). m.settings) (machine_over machine compared given old.timed t passed)) refl
+    (ap (λ (o : Outbox). old.sender.kept.items ++ o.given) (outs_over machine compared given old.timed t passed)
+    ∙ sym (append-nil (old.sender.kept.items ++ old.timed.outs.given)))
+    (timed_over machine compared given old.timed t passed)
 
 pub has_ticked : {C K : Type 0} (given : Gives C) (machine : K → Machine) (compared : K → ℕ) (old : CoreDriver C K) (t : TimedCore C K)
     → LooksAndSteps given machine compared old.timed 0 Tick t → HasTicked machine old (record old { timed = t })

@@ -7,7 +7,7 @@ use Rattle.std.proofs.lemmas.List.{get_or-set_other, length-replicate}
 use Rattle.bq_job.specs.declared.answer.Answer.{Answer}
 use Rattle.bq_job.specs.declared.settings.Settings.{Settings}
 use Rattle.bq_job.specs.declared.step.Step.{Step}
-use Rattle.bq_job.specs.declared.step.Step.TheVariants.{Gone, Tick}
+use Rattle.bq_job.specs.declared.step.Step.TheVariants.{Gone}
 use Rattle.bq_job.specs.machine.Dispatch.{GivenAnswer}
 use Rattle.bq_job.specs.promise.Runs.{Entry, answers_to}
 use Rattle.bq_job.proofs.OneClientLemmas.{answers_append}
@@ -116,21 +116,13 @@ worked_alone settings from readings reads o n history now w ran none rings taken
     (ap no_ticks taken ∙ sym (append-nil (no_ticks o.end.taken)) ∙ ap (λ (all : List (ℕ × Step)). no_ticks o.end.taken ++ all) (sym none))
     (rw (rings, taken) w.numbers) sent (rw (taken, gone) w.marked)
 
--- The core took a tick.
-pub worked_tick : (settings : Settings) (from : ℕ) (readings reads : List (Option ℕ)) (o n : DriverState) (at : ℕ)
-    (now : List GivenAnswer) → HasWorked settings from readings o → HasRun o.timed reads (entry_of at 0 Tick ∷ []) now n.timed
+-- The core did this by itself, and no answer was sent: it took a tick, or none.
+pub worked_inside : (settings : Settings) (from : ℕ) (readings reads : List (Option ℕ)) (o n : DriverState) (history : List Entry)
+    (now : List GivenAnswer) → HasWorked settings from readings o → HasRun o.timed reads history now n.timed → steps_made history ≡ []
     → n.end ≡ o.end → n.pending ≡ o.pending ++ now → n.gone ≡ o.gone → HasWorked settings from (readings ++ reads) n
-worked_tick settings from readings reads o n at now w ran end pending gone =
-    worked_alone settings from readings reads o n (entry_of at 0 Tick ∷ []) now w ran refl (ap (λ (c : CoreState). c.rings) end)
+worked_inside settings from readings reads o n history now w ran none end pending gone =
+    worked_alone settings from readings reads o n history now w ran none (ap (λ (c : CoreState). c.rings) end)
     (ap (λ (c : CoreState). c.taken) end) (λ t within. rw (end, pending) refl) gone
-
--- No step was taken.
-pub worked_over : (settings : Settings) (from : ℕ) (readings reads : List (Option ℕ)) (o n : DriverState)
-    → HasWorked settings from readings o → HasRun o.timed reads [] [] n.timed → n.end ≡ o.end → n.pending ≡ o.pending → n.gone ≡ o.gone
-    → HasWorked settings from (readings ++ reads) n
-worked_over settings from readings reads o n w ran end pending gone =
-    worked_alone settings from readings reads o n [] [] w ran refl (ap (λ (c : CoreState). c.rings) end)
-    (ap (λ (c : CoreState). c.taken) end) (λ t within. rw (end, pending, append-nil o.pending) refl) gone
 
 -- Answers were sent.
 pub worked_sent : (settings : Settings) (from : ℕ) (readings : List (Option ℕ)) (o n : DriverState) → HasWorked settings from readings o
