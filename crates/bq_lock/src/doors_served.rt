@@ -7,7 +7,7 @@ ghost use Rattle.bq_line.specs.Tending.{AreSame, IsNewDoor, door_seen};
 
 use crate::bells::Bells;
 use crate::post::{Post, SeatPosts};
-use crate::shared_desk::{OwnedDesk, SharedDesk, SharedSeat};
+use crate::shared_desk::{SharedDesk, SharedSeat};
 use bq_host::{RunFault, Start};
 use bq_job::{NoMemory, Seat};
 use bq_line::Door;
@@ -16,13 +16,13 @@ use bq_line::control_line::{ControlLine, ControlReader};
 use bq_line::line::Line;
 use std::alloc::Global;
 use std::snapshot::Snapshot;
-use std::sync::{Mutex, Wait};
+use std::sync::Wait;
 use std::thread;
 use std::thread::{Promise, PromisedHandle, Scope, Threads};
 
-/// Serves the connections of all doors at the desk under the lock, each at a seat and in a thread
-/// of its own, until no more connections come at any of them. The calling thread reads the control
-/// line. The doors are returned in their order.
+/// Serves the connections of all doors at the desk, each at a seat and in a thread of its own, until
+/// no more connections come at any of them. The calling thread reads the control line. The doors are
+/// returned in their order.
 ///
 /// The error is `NoMemory` if an allocation failed, or `ThreadRefused` if a thread could not be
 /// started. After an error no door was opened, and the doors are dropped.
@@ -30,14 +30,14 @@ pub fn serve_at_desk<
     R: Threads + Wait + Sync,
     L: Line + Drop + Send,
     D: Door<Line = L> + Drop + Send,
-    K: OwnedDesk + Drop + Send,
+    K: SharedDesk + Sync,
     I: ControlReader,
 >(
     rt: &R,
     alloc: Global,
     max_job_size: u32,
     doors: Vec<D, Global>,
-    desk: &Mutex<K>,
+    desk: &K,
     control: &mut I,
 ) -> Result<Vec<D, Global>, RunFault>
     requires size { IsTrue (is_body_size max_job_size) }

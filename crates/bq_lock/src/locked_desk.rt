@@ -3,11 +3,12 @@ ghost use Rattle.std.specs.Prelude.{◌≡◌, ◌≤◌};
 
 use crate::bells::Rings;
 use crate::locked::Locked;
-use crate::shared_desk::{LONGEST_REST, Look, OwnedDesk};
+use crate::shared_desk::{LONGEST_REST, Look, SharedDesk};
 use bq_core_api::QueueCore;
 use bq_host::HeardClock;
 use bq_job::{Answer, Seat, Step};
 use bq_line::clock::Clock;
+use std::sync::{Mutex, Wait};
 
 /// The content of the one lock of a run: the core with its outboxes, and the clock.
 #[derive(Drop)]
@@ -90,16 +91,16 @@ impl<C: Clock + Drop, K: QueueCore + Drop> LockedDesk<C, K> {
     }
 }
 
-impl<C: Clock + Drop, K: QueueCore + Drop> OwnedDesk for LockedDesk<C, K> {
-    fn take(&mut self, seat: Seat, what: Step) -> Rings {
-        self.step(seat, what)
+impl<C: Clock + Drop, K: QueueCore + Drop> SharedDesk for Mutex<LockedDesk<C, K>> {
+    fn step<R: Wait>(&self, rt: &R, seat: Seat, what: Step) -> Rings {
+        self.lock(rt).step(seat, what)
     }
 
-    fn take_and_fetch(&mut self, seat: Seat, what: Step) -> (Option<Answer>, Rings) {
-        self.serve(seat, what)
+    fn serve<R: Wait>(&self, rt: &R, seat: Seat, what: Step) -> (Option<Answer>, Rings) {
+        self.lock(rt).serve(seat, what)
     }
 
-    fn fetch(&mut self, seat: Seat) -> (Look, Rings) {
-        self.look(seat)
+    fn look<R: Wait>(&self, rt: &R, seat: Seat) -> (Look, Rings) {
+        self.lock(rt).look(seat)
     }
 }

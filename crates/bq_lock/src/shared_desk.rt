@@ -7,7 +7,7 @@ use bq_line::attendant::Link;
 use bq_line::control::ControlLink;
 use bq_seat::NextAction;
 use std::mem;
-use std::sync::{Mutex, Wait};
+use std::sync::Wait;
 use std::time::Duration;
 
 /// How long a seat whose reserve waits sleeps before its connection is read again, in milliseconds.
@@ -34,33 +34,6 @@ pub trait SharedDesk {
     /// Takes the oldest answer for a seat, and returns the other seats that were answered by a
     /// tick.
     fn look<R: Wait>(&self, rt: &R, seat: Seat) -> (Look, Rings);
-}
-
-/// A desk that one value owns, as it is under a lock.
-pub trait OwnedDesk {
-    /// Takes a step of a seat, and returns the other seats that it answered.
-    fn take(&mut self, seat: Seat, what: Step) -> Rings;
-
-    /// The same, and takes the oldest answer for the seat after the step.
-    fn take_and_fetch(&mut self, seat: Seat, what: Step) -> (Option<Answer>, Rings);
-
-    /// Takes the oldest answer for a seat, and returns the other seats that were answered by a
-    /// tick.
-    fn fetch(&mut self, seat: Seat) -> (Look, Rings);
-}
-
-impl<K: OwnedDesk + Drop> SharedDesk for Mutex<K> {
-    fn step<R: Wait>(&self, rt: &R, seat: Seat, what: Step) -> Rings {
-        self.lock(rt).take(seat, what)
-    }
-
-    fn serve<R: Wait>(&self, rt: &R, seat: Seat, what: Step) -> (Option<Answer>, Rings) {
-        self.lock(rt).take_and_fetch(seat, what)
-    }
-
-    fn look<R: Wait>(&self, rt: &R, seat: Seat) -> (Look, Rings) {
-        self.lock(rt).fetch(seat)
-    }
 }
 
 /// The link of a seat, or of the control line, to a desk that threads share. Other seats may act

@@ -1,6 +1,7 @@
 use Rattle.std.proofs.Common.{◌≡◌, ◌∙◌, ap, vec_len, arith, Err}
-use denote.Exit.{no}
-use denote.Param.Send.{arg_send, param_send}
+use denote.Exit.{yes}
+use denote.Param.Send.{arg_sync, param_sync}
+use Rattle.std.proofs.sync.Mutex.TheSendSync.{the_sync}
 use Rattle.bq_host.specs.declared.fault.RunFault.TheVariants.{BadConfiguration}
 use Rattle.bq_lock.proofs.FaultLemmas.{size_fits, well_configured}
 use Rattle.bq_lock.proofs.SendLemmas.{desk_sends}
@@ -22,6 +23,6 @@ pub serve_at_desk-served-requires-clause-size : goal.serve_at_desk-served-requir
 serve_at_desk-served-requires-clause-size g c κs within =
     size_fits c.args.config c.in_ok-locked.locked c.in_ok-locked.ensures.bad_configuration
 
-pub serve_at_desk-served-requires-send-K : goal.serve_at_desk-served-requires-send-K
-serve_at_desk-served-requires-send-K g c κs within =
-    param_send 3 _ (arg_send _ no _ (desk_sends _ _ g.K.QueueCore c.type_bounds.send-C c.type_bounds.send-K))
+pub serve_at_desk-served-requires-sync-K : goal.serve_at_desk-served-requires-sync-K
+serve_at_desk-served-requires-sync-K g c κs within =
+    param_sync 3 _ (arg_sync _ yes _ (the_sync _ (desk_sends _ _ g.K.QueueCore c.type_bounds.send-C c.type_bounds.send-K)))
