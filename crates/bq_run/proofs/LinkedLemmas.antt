@@ -2,13 +2,14 @@
 use Rattle.std.proofs.Common.{◌≡◌, ℕ, zero, suc, ◌+◌, ◌<◌, Bool, true, false, List, [], ◌∷◌, ◌++◌, Option, map, filter, length}
 use Rattle.std.proofs.Common.{refl, sym, ap, ◌∙◌, arith, subst, inl, inr, append-nil, add-zero, slice_index_or, not, nat_le}
 use Rattle.std.specs.Prelude.{◌==◌}
-use Rattle.std.specs.List.{All, list_all}
+use Rattle.std.specs.List.{list_all}
 use Rattle.std.proofs.lemmas.List.{length-append, length-map}
 use Rattle.std.proofs.lemmas.{Bool.{cases_Bool, eqb-true, eqb-false, le-leb}, Grind.common_steps}
 use Rattle.bq_job.specs.declared.answer.Answer.{Answer}
 use Rattle.bq_job.specs.declared.settings.Settings.{Settings}
 use Rattle.bq_job.specs.declared.step.Step.{Step}
 use Rattle.bq_job.specs.promise.ControlDid.{IsControlDone}
+use Rattle.bq_job.specs.promise.CoreDid.{IsRun}
 use Rattle.bq_job.specs.machine.Dispatch.{GivenAnswer}
 use Rattle.bq_job.specs.promise.Headline.{IsHistoryOf}
 use Rattle.bq_job.specs.promise.History.{LineOver, is_tick, steps_at, without_ticks}
@@ -230,13 +231,6 @@ module _ {D : Type 0} (at : D → DoorSeen) (settings : Settings) (readings : Li
         compared = a.core_done.compared;
       }
 
-  -- All doors are at their end.
-  pub all_at_end : All (λ (d : D). ((at d).is_out ≡ false) × ((at d).is_at_end ≡ true)) doors
-  all_at_end place d below =
-      let here : place < length ends = let m = a.many in let n = a.doored in omega (arith, below) in
-      let s = a.served place d (some_of ends place here) below in
-      (s.inside, s.at_end)
-
 -- The core's end has taken nothing and sent nothing since.
 pub core_done_still : (settings : Settings) (readings : List (Option ℕ)) (first last : CoreState) (machine : Machine) (to : ℕ)
     → IsCoreStill first last → IsCoreDone settings readings first machine 0 to
@@ -315,6 +309,7 @@ run_keeps law first (t ∷ taken) last g =
     ∙ ap (λ (m : Machine). m.settings) g.0
 
 -- A run does not change the settings.
-pub core_keeps : StepsKeepSettings → (settings : Settings) (readings : List (Option ℕ)) (core : CoreState) (last : Machine) (to : ℕ)
-    → IsCoreDone settings readings core last 0 to → last.settings ≡ settings
-core_keeps law settings readings core last to d = run_keeps law (new_machine settings) d.run.runs.1.taken last d.run.runs.1.goes
+pub run_keeps_settings : StepsKeepSettings → (settings : Settings) (readings : List (Option ℕ)) (history : List Entry)
+    (given : List GivenAnswer) (last : Machine) → IsRun settings readings history given last → last.settings ≡ settings
+run_keeps_settings law settings readings _ _ last run =
+    run_keeps law (new_machine settings) run.runs.1.taken last run.runs.1.goes

@@ -104,6 +104,14 @@ served_at at size (f ∷ fs) (y ∷ es) (x ∷ xs) last h (suc place) d e below 
     served_at at size fs es xs last h.1 place d e (omega (arith, below))
 served_at at size _ _ _ last h place d e below = absurd h
 
+-- All doors are at their end.
+pub all_at_end : {D : Type 0} (at : D → DoorSeen) (size : ℕ) (firsts lasts : List SeatState) (doors : List D)
+    → AreServed at size firsts lasts doors → All (λ (d : D). ((at d).is_out ≡ false) × ((at d).is_at_end ≡ true)) doors
+all_at_end at size [] [] [] h place d below = absurd (omega (arith, below))
+all_at_end at size (f ∷ fs) (e ∷ es) (x ∷ xs) h zero d below = (h.0.1.inside, h.0.1.at_end)
+all_at_end at size (f ∷ fs) (e ∷ es) (x ∷ xs) h (suc place) d below = all_at_end at size fs es xs h.1 place d (omega (arith, below))
+all_at_end at size _ _ _ h place d below = absurd h
+
 pub last_at : (lasts : List SeatState) (last e : SeatState) → slice_index_or (lasts ++ last ∷ []) (length lasts) e ≡ last
 last_at [] last e = refl
 last_at (x ∷ lasts) last e = last_at lasts last e

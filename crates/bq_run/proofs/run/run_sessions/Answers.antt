@@ -1,14 +1,14 @@
-use Rattle.std.proofs.Common.{◌≡◌, ◌∙◌, List, ap, false, map, true, vec_len, sym, arith, Err}
+use Rattle.std.proofs.Common.{◌≡◌, ◌∙◌, List, ap, false, map, true, vec_len, subst, sym, arith, Err}
 use Rattle.std.specs.List.{All}
 use Rattle.std.specs.Prelude.{reverse}
 use Rattle.bq_job.specs.declared.settings.Settings.{Settings}
 use Rattle.bq_line.specs.Tending.{AreSame, door_seen}
 use Rattle.bq_host.specs.declared.fault.RunFault.TheVariants.{BadConfiguration}
-use Rattle.bq_link.specs.EndStates.{SeatState}
+use Rattle.bq_link.specs.EndStates.{CoreState, IsSameCore, SeatState}
 use Rattle.bq_run.specs.ThreadRuns.{IsRunOf}
-use Rattle.bq_run.proofs.LinkedLemmas.{all_at_end, all_done, core_keeps, core_over_of, run_joined, served_of, still_doored}
+use Rattle.bq_run.proofs.LinkedLemmas.{all_done, core_over_of, run_joined, run_keeps_settings, served_of, still_doored}
 use Rattle.bq_run.proofs.SettleLemmas.{same_run}
-use Rattle.bq_run.proofs.ThreadLemmas.{back_paired, no_fault, other_fault, well_configured}
+use Rattle.bq_run.proofs.ThreadLemmas.{all_at_end, back_paired, no_fault, other_fault, well_configured}
 use Rattle.bq_run.proofs.run.run_sessions.Goals as goal
 
 pub returns-in-Err-clause-bad_configuration : goal.returns-in-Err-clause-bad_configuration
@@ -38,33 +38,19 @@ returns-clause-bad_configuration g c =
 
 pub settled_run-requires-clause-of_intake : goal.settled_run-requires-clause-of_intake
 settled_run-requires-clause-of_intake g c =
-    let p = c.in-Ok-new_posts.ensures in
-    let ended = c.in-Ok-serve_in_scope.ended in
-    let o = core_over_of g.C.Clock.given c.args.config _ c.in-Ok.core_end _ c.args.clock _ ended.core_end (g.K.QueueCore.machine ended.core)
-    (g.K.QueueCore.comparisons ended.core) ended.clock
-    (p.config ∙ c.in_ok-new_core.ensures.config) p.core p.clock c.in-Ok-serve_in_scope.ensures.core in
-    o.same.0 ∙ c.in-Ok.ensures.core.0
+    c.in-Ok-serve_in_scope.ensures.core.same.0 ∙ ap (λ (end : CoreState). end.intake) c.in-Ok-new_posts.ensures.core
+    ∙ c.in-Ok.ensures.core.0
 
 pub settled_run-requires-clause-pairs : goal.settled_run-requires-clause-pairs
 settled_run-requires-clause-pairs g c =
-    let at = door_seen g.D.Door.is_out g.D.Door.is_at_end g.D.Door.lines_over in
-    let config = c.args.config in
     let p = c.in-Ok-new_posts.ensures in
     let v = c.in-Ok-serve_in_scope.ensures in
     let ended = c.in-Ok-serve_in_scope.ended in
-    let ends = ended.ends in
     let posts = c.in-Ok-new_posts.posts in
-    let is = p.config ∙ c.in_ok-new_core.ensures.config in
-    let all = c.in-Ok.ends.items in
-    let firsts : List SeatState = reverse (map (λ q. q.end) posts.ends.seats.items) in
-    let lasts = ends.ends.items in
-    let o = core_over_of g.C.Clock.given config _ c.in-Ok.core_end _ c.args.clock _ ended.core_end (g.K.QueueCore.machine ended.core)
-    (g.K.QueueCore.comparisons ended.core) ended.clock is p.core p.clock v.core in
-    let s = served_of at config.max_job_size _ firsts lasts ends.doors.items
-    (p.limit ∙ ap (λ (s : Settings). s.max_job_size) c.in_ok-new_core.ensures.config) v.over.served in
-    let k = v.over.control in
-    back_paired at config.max_job_size c.in-Ok.core_end ended.core_end all firsts lasts ends.doors.items posts.ends.control.end
-    ends.control_end c.in-Ok.ensures.seats.1 p.ends s k.same o.same
+    back_paired (door_seen g.D.Door.is_out g.D.Door.is_at_end g.D.Door.lines_over) posts.ends.max_job_size c.in-Ok.core_end ended.core_end
+    c.in-Ok.ends.items (reverse (map (λ q. q.end) posts.ends.seats.items)) ended.ends.ends.items ended.ends.doors.items
+    posts.ends.control.end ended.ends.control_end c.in-Ok.ensures.seats.1 p.ends v.over.served v.over.control.same
+    (subst (λ (end : CoreState). IsSameCore end ended.core_end) p.core v.core.same)
 
 pub returns-clause-served : goal.returns-clause-served
 returns-clause-served g c =
@@ -109,54 +95,17 @@ returns-clause-served g c =
 
 pub returns-clause-at_end : goal.returns-clause-at_end
 returns-clause-at_end g c =
-    let at = door_seen g.D.Door.is_out g.D.Door.is_at_end g.D.Door.lines_over in
-    let config = c.args.config in
-    let p = c.in-Ok-new_posts.ensures in
-    let v = c.in-Ok-serve_in_scope.ensures in
-    let ended = c.in-Ok-serve_in_scope.ended in
-    let ends = ended.ends in
-    let posts = c.in-Ok-new_posts.posts in
-    let is = p.config ∙ c.in_ok-new_core.ensures.config in
-    let all = c.in-Ok.ends.items in
-    let firsts : List SeatState = reverse (map (λ q. q.end) posts.ends.seats.items) in
-    let lasts = ends.ends.items in
-    let o = core_over_of g.C.Clock.given config _ c.in-Ok.core_end _ c.args.clock _ ended.core_end (g.K.QueueCore.machine ended.core)
-    (g.K.QueueCore.comparisons ended.core) ended.clock is p.core p.clock v.core in
-    let s = served_of at config.max_job_size _ firsts lasts ends.doors.items
-    (p.limit ∙ ap (λ (s : Settings). s.max_job_size) c.in_ok-new_core.ensures.config) v.over.served in
-    let k = v.over.control in
-    let doored = still_doored at config.max_job_size config.seats all firsts lasts ends.doors.items posts.ends.control.end p.ends
-    c.in-Ok.ensures.seats.0 s in
-    let run = c.settled_run.result in
-    let f = c.settled_run.ensures in
-    let done =
-    all_done at g.C.Clock.given g.I.Read.remaining g.I.ControlReader.may_fail config ends.doors.items c.in-Ok.core_end ended.core_end
-    run.core_end firsts lasts run.ends.items posts.ends.control.end ends.control_end c.args.clock ended.clock c.args.control
-    ends.control (g.K.QueueCore.machine ended.core) (g.K.QueueCore.comparisons ended.core) doored s o k f.core f.ends f.settled in
-    same_run (λ r. All (λ door. (g.D.Door.is_out door ≡ false) × (g.D.Door.is_at_end door ≡ true)) r.doors.items) run ended f.rest.0
-    f.rest.1 f.rest.2 f.rest.3
-    (all_at_end at config o.readings ends.control.read ends.control.failed run.core_end (g.K.QueueCore.machine ended.core)
-    (g.K.QueueCore.comparisons ended.core) run.ends.items ends.doors.items done)
+    subst (λ doors. All (λ door. (g.D.Door.is_out door ≡ false) × (g.D.Door.is_at_end door ≡ true)) doors.items)
+    (sym c.settled_run.ensures.rest.0)
+    (all_at_end (door_seen g.D.Door.is_out g.D.Door.is_at_end g.D.Door.lines_over) _ _ _ _ c.in-Ok-serve_in_scope.ensures.over.served)
 
 pub returns-clause-same : goal.returns-clause-same
 returns-clause-same g c =
-    let v = c.in-Ok-serve_in_scope.ensures in
-    let ended = c.in-Ok-serve_in_scope.ended in
-    let f = c.settled_run.ensures in
-    same_run (λ r. AreSame g.D.Door.same c.args.doors.items r.doors.items) c.settled_run.result ended f.rest.0 f.rest.1 f.rest.2 f.rest.3
-    (rw c.in-Ok-new_posts.ensures.doors at v.over.same)
+    subst (λ doors. AreSame g.D.Door.same c.args.doors.items doors.items) (sym c.settled_run.ensures.rest.0)
+    (rw c.in-Ok-new_posts.ensures.doors at c.in-Ok-serve_in_scope.ensures.over.same)
 
 pub returns-clause-settings : goal.returns-clause-settings
-returns-clause-settings g c =
-    let config = c.args.config in
-    let p = c.in-Ok-new_posts.ensures in
-    let ended = c.in-Ok-serve_in_scope.ended in
-    let is = p.config ∙ c.in_ok-new_core.ensures.config in
-    let o = core_over_of g.C.Clock.given config _ c.in-Ok.core_end _ c.args.clock _ ended.core_end (g.K.QueueCore.machine ended.core)
-    (g.K.QueueCore.comparisons ended.core) ended.clock is p.core p.clock c.in-Ok-serve_in_scope.ensures.core in
-    ap (λ k. (g.K.QueueCore.machine k).settings) c.settled_run.ensures.rest.3
-    ∙ core_keeps c.steps_keep_settings.ensures config o.readings ended.core_end (g.K.QueueCore.machine ended.core)
-    (g.K.QueueCore.comparisons ended.core) o.done
+returns-clause-settings g c = run_keeps_settings c.steps_keep_settings.ensures _ _ _ _ _ (returns-clause-served g c).history.run
 
 pub returns-clause-headline : goal.returns-clause-headline
 returns-clause-headline g c served = c.the_headline.ensures.jobs _ _ _ _ _ served.history.run
