@@ -185,6 +185,9 @@ module _ (m : Machine) (seat : ℕ) (new : NewJob) (body : List ℕ) (asking : i
     put_left_out next free same adds = acts_replied _ _ _ _ LeftOut answers.Closed _ _ asking (λ s found. (same, rw (accepts, free) refl))
         adds
 
+-- what a put does, under a name that an attribute can cite
+pub ruleset puts = (asked_in_all, put_in_drain, put_at_limit, put_left_out, used_has_entry)
+
 -- The outcome of a deletion.
 pub deletes : (m next : Machine) (seat id : ℕ) (answer : Answer) (old new : Outbox) → is_asking (seat_with seat m.seats) ≡ true
     → ((s : SeatRecord) → s.number ≡ seat → delete_effect id m s ≡ telling answer next)

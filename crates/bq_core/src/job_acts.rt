@@ -75,7 +75,7 @@ fn is_full(state: &CoreParts) -> bool
 /// Puts a job. The boxes that it needs are allocated before any change; if the job limit is
 /// reached, nothing is allocated. The job shares the body with the client's step.
 #[inline(never)]
-#[tactic(auto, using(crate::proofs::ActLemmas::asked_in_all, crate::proofs::ActLemmas::put_in_drain, crate::proofs::ActLemmas::put_at_limit, crate::proofs::ActLemmas::put_left_out))]
+#[tactic(auto, using(crate::proofs::ActLemmas::puts))]
 pub(crate) fn put(
     state: &mut CoreParts,
     alloc: Global,
@@ -103,7 +103,7 @@ pub(crate) fn put(
 }
 
 // Puts a job with this body into the tube that the client uses.
-#[tactic(auto, using(crate::proofs::ActLemmas::asked_in_all, crate::proofs::ActLemmas::put_left_out, crate::proofs::ActLemmas::used_has_entry))]
+#[tactic(auto, using(crate::proofs::ActLemmas::puts))]
 fn put_shared(
     state: &mut CoreParts,
     alloc: Global,
