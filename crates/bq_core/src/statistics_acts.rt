@@ -119,8 +119,8 @@ fn server_numbers(state: &CoreParts) -> ServerNumbers
         puts: state.puts,
         max_job_size: state.config.max_job_size,
         tubes: changes::tube_count(state),
-        connected: state.known.clients.connected,
-        waiting: state.known.clients.waiting,
+        connected: state.known.connected,
+        waiting: state.waiter_count(),
         connections: state.connections,
         draining: state.draining,
     }

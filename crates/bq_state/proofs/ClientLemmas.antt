@@ -3,10 +3,10 @@ use Rattle.std.proofs.Common.{Bool, List, Option, Some, [], arith, cond, false, 
 use Rattle.std.proofs.{Common.{slice_get, suc, true, ℕ, ◌&&◌, ◌+◌, ◌<◌, ◌==◌, ◌∷◌, ◌≡◌, ◌≤◌}, lemmas.Bool.{cases_Bool, eqb-true, ne_eqb}}
 use Rattle.std.{proofs.lemmas.{Grind.common_steps, List.{length-map, Sums.count_by-le-length}}, specs.{List.list_any, Option.option_map}}
 use Rattle.std.specs.Prelude.{count_by, nat_lt}
-use Rattle.bq_job.{proofs.ListLemmas.{all_always, count_cons, keys_of_map}, specs.machine.{SeatRecord, greatest, is_waiting, numbers}}
+use Rattle.bq_job.{proofs.ListLemmas.{all_always, count_cons, keys_of_map}, specs.machine.{SeatRecord, greatest, numbers}}
 use Rattle.bq_job.specs.machine.{seat_with, watching}
-use Rattle.bq_state.{proofs.PartsLemmas.{changed_there, number_kept}, specs.Clients.{clients_of, clients_with, clients_without}}
-use Rattle.bq_state.specs.{Clients.seat_passes, SeatChanges.{AreNumbered, seat_changed, seat_changed_at}, Tallies.count_with}
+use Rattle.bq_state.{proofs.PartsLemmas.{changed_there, number_kept}, specs.SeatStates.seat_passes}
+use Rattle.bq_state.specs.{SeatChanges.{AreNumbered, seat_changed, seat_changed_at}, Tallies.count_with}
 use Rattle.bq_state.specs.{Tallies.count_without, declared.seats.SeatChange.SeatChange}
 
 -- all seats except the one with this number
@@ -61,18 +61,16 @@ pub some_pass : {X : Type 0} (p : X → Bool) (xs : List X) → nat_lt 0 (count_
 some_pass p [] = refl
 some_pass p (x ∷ xs) = grind (arith, common_steps, some_pass p xs)
 
--- The number of clients, after the seat with a number has changed,
-pub clients_moved : (n : ℕ) (what : SeatChange) (seats : List SeatRecord) → AreNumbered seats
-    → AreNumbered (map (seat_changed_at n what) seats) → length seats ≤ greatest
-    → clients_with (seat_with n (map (seat_changed_at n what) seats)) (clients_without (seat_with n seats) (clients_of seats)) ≡ clients_of
-    (map (seat_changed_at n what) seats)
-clients_moved n what seats h h' fits =
-    let moved = λ (p : SeatRecord → Bool).
-    count_changed n (seat_changed what) (number_kept what) p true (seat_with n seats) seats h fits refl (λ e. absurd cc) in
-    rw (found_changed n (seat_changed what) (number_kept what) seats)
-    (λ i. record { connected = moved (λ s. s.connected) i; waiting = moved is_waiting i })
+-- The number of connected clients, after the seat with a number has changed,
+pub connected_moved : (n : ℕ) (what : SeatChange) (seats : List SeatRecord) → AreNumbered seats → length seats ≤ greatest
+    → count_with (seat_passes (λ s. s.connected) (seat_with n (map (seat_changed_at n what) seats)))
+    (count_without (seat_passes (λ s. s.connected) (seat_with n seats)) (count_by (λ s. s.connected) seats))
+    ≡ count_by (λ s. s.connected) (map (seat_changed_at n what) seats)
+connected_moved n what seats h fits =
+    rw (found_changed n (seat_changed what) (number_kept what) seats) (count_changed n (seat_changed what) (number_kept what)
+    (λ s. s.connected) true (seat_with n seats) seats h fits refl (λ e. absurd cc))
 
 -- and after it watches other tubes.
-pub clients_watching : (names : List (List ℕ)) (i : ℕ) (s : SeatRecord) (seats : List SeatRecord) → slice_get seats i ≡ Some s
-    → AreNumbered seats → clients_of (set seats i (watching names s)) ≡ clients_of seats
-clients_watching names i s seats found h = grind (arith, common_steps, changed_there seats i s (watching names) h found)
+pub connected_watching : (names : List (List ℕ)) (i : ℕ) (s : SeatRecord) (seats : List SeatRecord) → slice_get seats i ≡ Some s
+    → AreNumbered seats → count_by (λ s. s.connected) (set seats i (watching names s)) ≡ count_by (λ s. s.connected) seats
+connected_watching names i s seats found h = grind (arith, common_steps, changed_there seats i s (watching names) h found)

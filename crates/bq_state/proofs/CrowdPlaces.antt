@@ -1,14 +1,15 @@
 -- The client counts of tubes are parallel to their entries.
-use Rattle.std.proofs.{Common.{Bool, List, [], ap, arith, false, map, refl, sym, true, ℕ, ◌&&◌, ◌∙◌, ◌∷◌, ◌≡◌}, lemmas.Bool.cases_Bool}
-use Rattle.std.{proofs.lemmas.Grind.common_steps, specs.{List.{AllByRecursion as All, list_any}, Prelude.nat_lt}}
+use Rattle.std.proofs.Common.{Bool, List, [], ap, arith, false, length, map, refl, sym, true, ℕ, ◌&&◌, ◌∙◌, ◌∷◌, ◌≡◌}
+use Rattle.std.{proofs.lemmas.{Bool.cases_Bool, Grind.common_steps}, specs.{List.{AllByRecursion as All, list_any}, Prelude.nat_lt}}
 use Rattle.bq_job.{proofs.ListLemmas.{all_always, all_of_map, all_weaker, count_cons, list_any_not, none_pass}, specs.declared.job.Job.Job}
 use Rattle.bq_job.specs.machine.{SeatRecord, TubeRecord, default_tube, empty_seat, fresh_tube, is_seated_at}
 use Rattle.bq_job.specs.reading.TubeName.{is_same_name}
 use Rattle.bq_state.proofs.{ClientLemmas.some_pass, CrowdLemmas.has_seats_of, TallyPlaces.{has_jobs_in, other_name, tally_there}}
-use Rattle.bq_state.{proofs.TallyPlaces.{value_there, values_kept, values_provided}, specs.{Clients.clients_of, Crowds.AreCrowds}}
-use Rattle.bq_state.specs.{Crowds.{IsSeated, crowd_at, crowd_of, crowds_provided, has_seats, is_waiter, no_crowd}, Tallies.has_jobs}
-use Rattle.bq_state.specs.{Tallies.{tallies_of, tally_at}, TubeEntries.{AreEntries, HasTubes, has_entry, is_tube_by, is_tube_of, provided}}
-use Rattle.bq_state.specs.declared.{known.{clients.Clients.Clients, tally.Tally.Tally}, tubes.entry.Crowd.Crowd}
+use Rattle.bq_state.proofs.{TallyPlaces.{value_there, values_kept, values_provided}, WaitingLemmas.waiters_in_turn}
+use Rattle.bq_state.specs.Crowds.{AreCrowds, IsSeated, crowd_at, crowd_of, crowds_provided, has_seats, is_waiter, no_crowd}
+use Rattle.bq_state.specs.{Tallies.{has_jobs, tallies_of, tally_at}, WaitingTurns.{AreInTurn, WaitingTurns}}
+use Rattle.bq_state.specs.TubeEntries.{AreEntries, HasTubes, has_entry, is_tube_by, is_tube_of, provided}
+use Rattle.bq_state.specs.declared.{known.tally.Tally.Tally, tubes.entry.Crowd.Crowd}
 
 -- no client is at a tube without an entry
 module _ (name : List ℕ) (es : List TubeRecord) (missing : has_entry name es ≡ false) where
@@ -51,11 +52,11 @@ module _ (name : List ℕ) (crowds : List Crowd) (seats : List SeatRecord) (es :
       }
 
 -- A client that waits for jobs of a tube is counted.
-pub waiters_counted : (name : List ℕ) (clients : Clients) (crowds : List Crowd) (seats : List SeatRecord) (entries : List TubeRecord)
-    → All (HasTubes entries) seats → AreCrowds crowds seats entries → clients ≡ clients_of seats
-    → (nat_lt 0 clients.waiting && nat_lt 0 (crowd_at name entries crowds).waiting) ≡ list_any (is_waiter name) seats
-waiters_counted name clients crowds seats entries of_seats are is =
-    grind (arith, crowd_there, some_pass, list_any_not, all_weaker, none_pass)
+pub waiters_counted : (name : List ℕ) (waiting : WaitingTurns) (crowds : List Crowd) (seats : List SeatRecord) (entries : List TubeRecord)
+    → All (HasTubes entries) seats → AreCrowds crowds seats entries → AreInTurn waiting seats
+    → (nat_lt 0 (length waiting.turns) && nat_lt 0 (crowd_at name entries crowds).waiting) ≡ list_any (is_waiter name) seats
+waiters_counted name waiting crowds seats entries of_seats are turns =
+    rw (waiters_in_turn waiting.turns waiting seats refl turns) (grind (arith, crowd_there, some_pass, list_any_not, all_weaker, none_pass))
 
 -- The count of a tube's jobs decides whether it has jobs.
 pub jobs_there : (name : List ℕ) (tallies : List Tally) (jobs : List Job) (es : List TubeRecord)

@@ -33,7 +33,7 @@ module _ (st : CoreParts) (seat id : ℕ) where
 
     -- The parts still agree,
     pub sound_then : {E : Type 0} (r : Shared E) → SharesAndChanges IsReported id (changed what) r st.jobs jobs
-        → CountsIf r st.seats.items st.known known st.tubes tubes
+        → CountsIf r st.waiting st.seats.items st.known known st.tubes tubes
         → Soundness jobs.jobs st.seats.items tubes st.waiting known st.next_id st.draining
     sound_then None c n = searched_sound c.1 n.0 n.1
     sound_then (Some (Err e)) c n = searched_sound c.1 n.0 n.1
@@ -41,7 +41,7 @@ module _ (st : CoreParts) (seat id : ℕ) where
 
     -- and the jobs have the tubes' numbers.
     pub numbered_then : {E : Type 0} (r : Shared E) → SharesAndChanges IsReported id (changed what) r st.jobs jobs
-        → CountsIf r st.seats.items st.known known st.tubes tubes → jobs.tubes ≡ tubes.numbers
+        → CountsIf r st.waiting st.seats.items st.known known st.tubes tubes → jobs.tubes ≡ tubes.numbers
     numbered_then None c n = ap (λ (j : Kept). j.tubes) c.1.same ∙ st.numbered ∙ sym (ap (λ (t : KeptTubes). t.numbers) n.1)
     numbered_then (Some (Err e)) c n = ap (λ (j : Kept). j.tubes) c.1.same ∙ st.numbered ∙ sym (ap (λ (t : KeptTubes). t.numbers) n.1)
     numbered_then (Some (Ok s)) c n = c.1.tubes ∙ st.numbered ∙ sym (ap (λ (t : KeptTubes). t.numbers) n.1)
@@ -61,7 +61,7 @@ module _ (st : CoreParts) (seat id : ℕ) where
 
       -- The job was handed out, or nothing was changed.
       pub handed_out : {E : Type 0} (r : Shared E) → SharesAndChanges IsReported id (changed what) r st.jobs jobs
-          → CountsIf r st.seats.items st.known known st.tubes tubes → HandsOutTo seat id (body_in r) st new
+          → CountsIf r st.waiting st.seats.items st.known known st.tubes tubes → HandsOutTo seat id (body_in r) st new
       handed_out None c n = (c.0, looks c.1 n.0 n.1)
       handed_out (Some (Err e)) c n = (c.0, looks c.1 n.0 n.1)
       handed_out (Some (Ok s)) c n = record {

@@ -8,7 +8,7 @@ use Rattle.bq_job.specs.machine.{forgetting, is_seated_at, is_waiting, job_with,
 use Rattle.bq_job.specs.machine.{watches, watching}
 use Rattle.bq_job.specs.reading.TubeName.{is_same_name}
 use Rattle.bq_jobs.specs.{Changed.{moved_by, with_changed}, Kept.{with_added, without}, declared.job_orders.Moved.Moved}
-use Rattle.bq_state.proofs.{ClientLemmas.{clients_moved, clients_watching}, CrowdLemmas.crowds_moved, CrowdPlaces.crowds_kept}
+use Rattle.bq_state.proofs.{ClientLemmas.{connected_moved, connected_watching}, CrowdLemmas.crowds_moved, CrowdPlaces.crowds_kept}
 use Rattle.bq_state.proofs.{CrowdPlaces.{crowds_of_provided, first_crowds}, CrowdWatching.{crowds_ignoring, crowds_watching}}
 use Rattle.bq_state.proofs.{FirstTimeoutLemmas.{first_timeouts, timeouts_of_seat, timeouts_watching}, LeavingLemmas.alive_left}
 use Rattle.bq_state.proofs.MaybeGoneLemmas.{alive_added, alive_forgotten, alive_ignoring, alive_provided, alive_renamed, alive_taken}
@@ -65,16 +65,16 @@ module _ (st : CoreParts) where
   pub sound_with_moved : (id : ℕ) (what : JobChange) (m : Moved) → AreIdsWithin 0 st.jobs.jobs (2 ^ 64)
       → Some m ≡ option_map (moved_by (changed what)) (job_with id st.jobs.jobs)
       → Soundness (with_changed id (changed what) st.jobs.jobs) st.seats.items (with_tallies_at m.tube (tally_moved m) st.tubes) st.waiting
-      (with_moved m (is_wanted_by st.known st.tubes m) (has_waiting_holder m.to.state st.seats.items) st.known) st.next_id st.draining
+      (with_moved m (is_wanted_by st.waiting st.tubes m) (has_waiting_holder m.to.state st.seats.items) st.known) st.next_id st.draining
   sound_with_moved id what m ordered is =
       let f = changed what in
       let of = told_of (moved_by f) (job_with id st.jobs.jobs) m (sym is) in
       let fits = few_jobs st.next_id st.jobs.jobs st.sound.ids ordered in
       let entries = entries_of_changed (λ k. if k.id == id then f k else k) (one_tube id f (tube_kept what)) _ _ _ st.sound.entries in
       let ids = ids_of_map (λ k. if k.id == id then f k else k) 1 st.next_id st.jobs.jobs (one_id id f (id_kept what)) st.sound.ids in
-      let wanted = waiters_counted m.tube st.known.clients st.tubes.crowds st.seats.items st.tubes.entries st.sound.entries.of_seats
-      st.sound.known.crowds st.sound.known.clients in
-      let known = so_with_moved id what of.job m (is_wanted_by st.known st.tubes m) (has_waiting_holder m.to.state st.seats.items)
+      let wanted = waiters_counted m.tube st.waiting st.tubes.crowds st.seats.items st.tubes.entries st.sound.entries.of_seats
+      st.sound.known.crowds st.sound.waiting in
+      let known = so_with_moved id what of.job m (is_wanted_by st.waiting st.tubes m) (has_waiting_holder m.to.state st.seats.items)
       of.there of.is fits (ap (λ b. is_ready_state m.to.state && b) wanted) refl in
       record {
         entries = entries;
@@ -93,8 +93,8 @@ module _ (st : CoreParts) where
       let left = recounted_for Goes (touched what) old st.tubes in
       IsSo (with_joined (seat_with n seats) n what (with_left old what (touched what) left st.known)) st.jobs.jobs seats
       (recounted_for Comes (touched what) (seat_with n seats) left)
-  so_with_seat n what few waits holds = rw (st.sound.known.clients, st.sound.known.crowds.each)
-      (search (clients_moved, numbered_after, crowds_moved, alive_left n what, known_of_seat, warned_of_seat, timeouts_of_seat))
+  so_with_seat n what few waits holds = rw (st.sound.known.connected, st.sound.known.crowds.each)
+      (search (connected_moved, crowds_moved, alive_left n what, known_of_seat, warned_of_seat, timeouts_of_seat))
 
   -- a client watches one more tube,
   pub so_watching : (name : List ℕ) (n : ℕ) (s : SeatRecord) → slice_get st.seats.items n ≡ Some s → length st.seats.items ≤ greatest
@@ -102,7 +102,7 @@ module _ (st : CoreParts) where
       → IsSo (record st.known { wanted = if is_waiting s then with_all_wanted st.known.wanted else st.known.wanted }) st.jobs.jobs
       (set st.seats.items n (watching (s.watched ++ name ∷ []) s)) (with_crowds_at name (recounted Comes (share_of_watcher s)) st.tubes)
   so_watching name n s here few fresh =
-      search (clients_watching, crowds_watching, alive_watching, known_watching, warned_watching, timeouts_watching)
+      search (connected_watching, crowds_watching, alive_watching, known_watching, warned_watching, timeouts_watching)
 
   -- or one fewer.
   pub so_ignoring : (name : List ℕ) (n : ℕ) (s : SeatRecord) → slice_get st.seats.items n ≡ Some s → length st.seats.items ≤ greatest
@@ -110,7 +110,7 @@ module _ (st : CoreParts) where
       st.jobs.jobs (set st.seats.items n (watching (filter (λ other. not (is_same_name name other)) s.watched) s))
       (with_crowds_at name (recounted Goes (share_of_watching name s)) st.tubes)
   so_ignoring name n s here few =
-      search (clients_watching, crowds_ignoring, alive_ignoring, known_ignoring, warned_watching, timeouts_watching)
+      search (connected_watching, crowds_ignoring, alive_ignoring, known_ignoring, warned_watching, timeouts_watching)
 
   -- A tube gets an entry,
   pub so_provided : (name : List ℕ) (ns : List (List ℕ × ℕ)) → has_entry name st.tubes.entries ≡ false

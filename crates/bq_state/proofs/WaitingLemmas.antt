@@ -1,6 +1,6 @@
 -- The turns of the waiting clients after one seat changes.
 use Rattle.std.proofs.Common.{Bool, List, None, Option, Some, [], ap, arith, false, inl, inr, length, map, not, refl, set, slice_get, suc}
-use Rattle.std.proofs.{Common.{sym, true, ℕ, ◌+◌, ◌-◌, ◌<◌, ◌==◌, ◌∷◌, ◌≡◌, ◌≤◌}, lemmas.Bool.{cases_Bool, eq-eqb, eqb-true}}
+use Rattle.std.proofs.{Common.{sym, true, ℕ, ◌+◌, ◌-◌, ◌<◌, ◌==◌, ◌∙◌, ◌∷◌, ◌≡◌, ◌≤◌}, lemmas.Bool.{cases_Bool, eq-eqb, eqb-true}}
 use Rattle.std.{proofs.lemmas.{Grind.common_steps, List.{Sums.count_by-le-length, length-map}}, specs.Cmp.IsStrictWeakOrder}
 use Rattle.std.specs.{List.{AllByRecursion as All, insert, position, prefix_len, remove}, Prelude.count_by}
 use Rattle.bq_job.proofs.{ChoiceLemmas.pair_order, LawfulLemmas.length_numbers, ListLemmas.{all_weaker, found_passes}}
@@ -125,6 +125,10 @@ removed_missed n xs none = grind (arith, removed_nowhere)
 pub turns_counted : (seats : List SeatRecord) → length (turns_of seats) ≡ count_by is_waiting seats
 turns_counted [] = refl
 turns_counted (s ∷ seats) = grind (arith, common_steps, placed_length, turns_counted seats)
+
+pub waiters_in_turn : (turns : List (ℕ × ℕ)) (waiting : WaitingTurns) (seats : List SeatRecord) → turns ≡ waiting.turns
+    → AreInTurn waiting seats → length turns ≡ count_by is_waiting seats
+waiters_in_turn turns waiting seats same q = ap length (same ∙ q.turns) ∙ turns_counted seats
 
 -- and so at most as many as seats
 pub turns_within : (seats : List SeatRecord) → length (turns_of seats) ≤ length seats

@@ -8,7 +8,7 @@ use Rattle.bq_job.proofs.{ChoiceLemmas.{first_of_contains, first_of_is_some, pai
 use Rattle.bq_job.{proofs.ListLemmas.{all_from_members, all_weaker, found_passes}, specs.machine.{SeatRecord, better_of, first_of}}
 use Rattle.bq_job.specs.machine.{is_wait_before, is_waiting, numbers, ticket_of}
 use Rattle.bq_state.proofs.{ClientLemmas.heads, PartsLemmas.seat_read, WaitingLemmas.{all_placed, rising_placed}}
-use Rattle.bq_state.specs.{Clients.seat_passes, EndingWaits.{turn_of, waits_after}, Places.item_at, SeatChanges.AreNumbered}
+use Rattle.bq_state.specs.{EndingWaits.{turn_of, waits_after}, Places.item_at, SeatChanges.AreNumbered, SeatStates.seat_passes}
 use Rattle.bq_state.specs.WaitingTurns.{IsRising, at_turn, is_turn_after, is_turn_before, passes_at, placed, turns_of}
 
 -- the clients that wait, in the order of their turns

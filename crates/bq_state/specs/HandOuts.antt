@@ -3,7 +3,8 @@ use Rattle.std.specs.Prelude.{Err, List, None, Ok, Option, Result, Some, false, 
 use Rattle.bq_job.specs.machine.{Changes.{job_with, with_job}, Dispatch.reserved_by, SeatRecord}
 use Rattle.bq_jobs.specs.{Numbering.HasNumber, Searching.Asks, Seen.IsBodyOf, declared.job_orders.Moved.Moved}
 use Rattle.bq_state.specs.{Counting.with_tallies_at, CoreParts.machine_of, Keeping.Looks, KeptTubes.KeptTubes}
-use Rattle.bq_state.specs.{Knowledge.{is_wanted_by, with_moved}, Tallies.tally_moved, Warnings.has_waiting_holder}
+use Rattle.bq_state.specs.{Knowledge.{is_wanted_by, with_moved}, Tallies.tally_moved, WaitingTurns.WaitingTurns}
+use Rattle.bq_state.specs.Warnings.{has_waiting_holder}
 use Rattle.bq_state.specs.declared.{core_parts.CoreParts.CoreParts, known.Known.Known}
 
 -- The client at the seat holds the job with this id, and this is the job's body.
@@ -20,9 +21,9 @@ HandsOutTo seat id (Some (Err e)) old new = (true ≡ is_some (job_with id (mach
 HandsOutTo seat id (Some (Ok body)) old new = GoesTo seat id body old new
 
 -- A changed job is counted in its tube, and what is known is updated.
-abbrev pub CountsMove : Moved → List SeatRecord → Known → Known → KeptTubes → KeptTubes → Type 0
-CountsMove m seats known later tubes counted =
-    (later ≡ with_moved m (is_wanted_by known tubes m) (has_waiting_holder m.to.state seats) known)
+abbrev pub CountsMove : Moved → WaitingTurns → List SeatRecord → Known → Known → KeptTubes → KeptTubes → Type 0
+CountsMove m waiting seats known later tubes counted =
+    (later ≡ with_moved m (is_wanted_by waiting tubes m) (has_waiting_holder m.to.state seats) known)
     × (counted ≡ with_tallies_at m.tube (tally_moved m) tubes)
 
 -- what a change returned that may have been refused: the number of the tube, the report, and the body
@@ -37,7 +38,8 @@ module _ {E : Type 0} where
   HasNumberIf (Some (Err e)) numbers = Unit {0}
   HasNumberIf (Some (Ok s)) numbers = HasNumber s.0.1.tube s.0.0 numbers
 
-  abbrev pub CountsIf : Option (Result ((List ℕ × Moved) × List ℕ) E) → List SeatRecord → Known → Known → KeptTubes → KeptTubes → Type 0
-  CountsIf None seats known later tubes counted = (later ≡ known) × (counted ≡ tubes)
-  CountsIf (Some (Err e)) seats known later tubes counted = (later ≡ known) × (counted ≡ tubes)
-  CountsIf (Some (Ok s)) seats known later tubes counted = CountsMove s.0.1 seats known later tubes counted
+  abbrev pub CountsIf : Option (Result ((List ℕ × Moved) × List ℕ) E) → WaitingTurns → List SeatRecord → Known → Known → KeptTubes
+      → KeptTubes → Type 0
+  CountsIf None waiting seats known later tubes counted = (later ≡ known) × (counted ≡ tubes)
+  CountsIf (Some (Err e)) waiting seats known later tubes counted = (later ≡ known) × (counted ≡ tubes)
+  CountsIf (Some (Ok s)) waiting seats known later tubes counted = CountsMove s.0.1 waiting seats known later tubes counted

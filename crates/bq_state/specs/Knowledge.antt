@@ -1,12 +1,12 @@
 -- What is known without a search: that it is true, and how it changes.
-use Rattle.std.specs.Prelude.{Bool, List, None, Option, [], if◌then◌else◌, nat_lt, not, ℕ, ◌&&◌, ◌≡◌}
+use Rattle.std.specs.Prelude.{Bool, List, None, Option, [], count_by, if◌then◌else◌, length, nat_lt, not, ℕ, ◌&&◌, ◌≡◌}
 use Rattle.bq_job.specs.{declared.job.Job.Job, machine.{SeatRecord, TubeRecord, is_ready_state}}
 use Rattle.bq_jobs.specs.declared.job_orders.{Moved.Moved, Removed.Removed}
-use Rattle.bq_state.specs.{Clients.{clients_of, clients_with, clients_without}, Crowds.AreCrowds, Dues.{first_pause_end, pause_end_after}}
+use Rattle.bq_state.specs.{Crowds.AreCrowds, Dues.{first_pause_end, pause_end_after}, SeatStates.seat_passes}
 use Rattle.bq_state.specs.{Dues.pause_end_left, FirstTimeouts.{AreTimeouts, timeout_after}, KeptTubes.KeptTubes, Leaving.gone_of}
-use Rattle.bq_state.specs.{MaybeGoneTubes.{AreAlive, with_existing, with_gone}, Tallies.{AreCounted, tally_left, tally_moved, tally_of}}
-use Rattle.bq_state.specs.{Tallies.{tally_with, tally_without}, TubeEntries.counted, WantedJobs.{AreKnown, wanted_after_seat}}
-use Rattle.bq_state.specs.Offers.{is_waited_at}
+use Rattle.bq_state.specs.{MaybeGoneTubes.{AreAlive, with_existing, with_gone}, Offers.is_waited_at, TubeEntries.counted}
+use Rattle.bq_state.specs.Tallies.{AreCounted, count_with, count_without, tally_left, tally_moved, tally_of, tally_with, tally_without}
+use Rattle.bq_state.specs.{WaitingTurns.WaitingTurns, WantedJobs.{AreKnown, wanted_after_seat}}
 use Rattle.bq_state.specs.{WantedJobs.{wanted_after_tube, with_wanted}, Warnings.{AreWarned, warned_by_seat, with_holder_of}}
 use Rattle.bq_state.specs.declared.{known.Known.Known, seats.SeatChange.SeatChange, tubes.entry.{Share.Share, TubeChange.TubeChange}}
 use Rattle.bq_state.specs.declared.known.first_timeout.FirstTimeout.TheVariants as ends
@@ -17,7 +17,8 @@ use Rattle.bq_state.specs.declared.known.warns.Warns.TheVariants as holders
 -- What is known is true of these jobs, seats and tubes, and the tubes' counts are correct.
 pub record IsSo (k : Known) (jobs : List Job) (seats : List SeatRecord) (tubes : KeptTubes) : Type 0 where
   pub counts : AreCounted k.tally tubes.tallies jobs tubes.entries
-  pub clients : k.clients ≡ clients_of seats
+  -- how many clients are connected
+  pub connected : k.connected ≡ count_by (λ s. s.connected) seats
   pub crowds : AreCrowds tubes.crowds seats tubes.entries
   -- which entries may be of tubes that have gone
   pub alive : AreAlive k.maybe_gone jobs seats tubes.entries
@@ -34,7 +35,7 @@ pub record IsSo (k : Known) (jobs : List Job) (seats : List SeatRecord) (tubes :
 abbrev pub nothing_known : Known
 nothing_known = record {
   tally = tally_of [];
-  clients = clients_of [];
+  connected = 0;
   maybe_gone = gone_tubes.Nothing;
   wanted = wanted_jobs.Nothing;
   warns = holders.Nobody;
@@ -66,8 +67,8 @@ with_removal r has_seats k = record k {
 }
 
 -- whether a changed job is ready and a client waits for jobs of its tube
-abbrev pub is_wanted_by : Known → KeptTubes → Moved → Bool
-is_wanted_by k tubes m = is_ready_state m.to.state && (nat_lt 0 k.clients.waiting && is_waited_at m.tube tubes)
+abbrev pub is_wanted_by : WaitingTurns → KeptTubes → Moved → Bool
+is_wanted_by waiting tubes m = is_ready_state m.to.state && (nat_lt 0 (length waiting.turns) && is_waited_at m.tube tubes)
 
 -- and with a job changed
 abbrev pub with_moved : Moved → Bool → Bool → Known → Known
@@ -80,7 +81,7 @@ with_moved m is_wanted waits k = record k {
 -- when a seat, if there is one, is about to change
 abbrev pub with_left : Option SeatRecord → SeatChange → Share → KeptTubes → Known → Known
 with_left o what touched tubes k = record k {
-  clients = clients_without o k.clients;
+  connected = count_without (seat_passes (λ s. s.connected) o) k.connected;
   first_timeout = timeout_after what o k.first_timeout;
   maybe_gone = gone_of touched tubes o k.maybe_gone;
 }
@@ -88,7 +89,7 @@ with_left o what touched tubes k = record k {
 -- after it has changed
 abbrev pub with_joined : Option SeatRecord → ℕ → SeatChange → Known → Known
 with_joined o number what k = record k {
-  clients = clients_with o k.clients;
+  connected = count_with (seat_passes (λ s. s.connected) o) k.connected;
   wanted = wanted_after_seat number what k.wanted;
   warns = warned_by_seat number what k.warns;
 }

@@ -1,5 +1,4 @@
 pub mod Asking
-pub mod Clients
 pub mod CoreParts
 pub mod Cost
 pub mod Counting

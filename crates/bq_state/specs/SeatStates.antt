@@ -1,6 +1,11 @@
--- Whether a seat is free, and whether its client may make a request.
+-- Tests of a seat, if there is one: whether it is free, and whether its client may make a request.
 use Rattle.std.specs.Prelude.{Bool, None, Option, Some, false, not, ◌&&◌}
 use Rattle.bq_job.specs.machine.{SeatRecord, is_waiting}
+
+-- there is a seat, and it passes the test
+abbrev pub seat_passes : (SeatRecord → Bool) → Option SeatRecord → Bool
+seat_passes p None = false
+seat_passes p (Some s) = p s
 
 -- no client is connected there
 abbrev pub is_free : Option SeatRecord → Bool

@@ -2,7 +2,7 @@
 use Rattle.std.specs.{List.{AllByRecursion, sum_by}, Prelude.{Bool, List, None, Option, Some, [], false, fold, if◌then◌else◌, length}}
 use Rattle.std.specs.Prelude.{slice_get, true, ℕ, ◌==◌, ◌∷◌, ◌≡◌, ◌≤◌}
 use Rattle.bq_job.specs.machine.{SeatRecord, is_pair_before, is_waiting, seat_with}
-use Rattle.bq_state.specs.{Clients.seat_passes, Cost.waited_tubes, EndingWaits.turn_of, Offers.these}
+use Rattle.bq_state.specs.{Cost.waited_tubes, EndingWaits.turn_of, Offers.these, SeatStates.seat_passes}
 
 -- the turns of the waiting clients, the first one first, and for how many there is room
 pub record WaitingTurns : Type 0 where

@@ -48,7 +48,7 @@ pub fn make_room(state: &mut CoreParts, alloc: Global) -> Result<(), NoMemory>
 // Returns true if the state is ready and the counts show a client that waits for jobs of the tube,
 // which is registered under this number.
 fn is_wanted(
-    known: &Known,
+    waiting: &Waiting,
     tubes: &Tubes,
     state: JobState,
     name: &TubeName,
@@ -57,10 +57,10 @@ fn is_wanted(
     requires { HasNumber name.now number tubes.now.numbers }
     ensures { result
         ≡ (is_ready_state state
-        && (nat_lt 0 known.now.clients.waiting && is_waited_at name.now tubes.now)) }
+        && (nat_lt 0 (length waiting.now.turns) && is_waited_at name.now tubes.now)) }
 {
     matches!(state, JobState::Ready)
-        && known.clients.waiting > 0
+        && waiting.as_slice().len() > 0
         && tubes.crowd_numbered(name, number).waiting > 0
 }
 
@@ -80,7 +80,7 @@ pub fn add(state: &mut CoreParts, job: Job, number: TubeNumber)
 {
     let registered = GhostName::registered(state.tubes.names(), &job.tube, number);
     let name = registered.read(state.tubes.names(), number);
-    let is_wanted = is_wanted(&state.known, &state.tubes, job.state, name, number);
+    let is_wanted = is_wanted(&state.waiting, &state.tubes, job.state, name, number);
     let waits = seats::holder_waits(state.seats.as_slice(), job.state);
     state.known.add_job(&job, name, number, is_wanted, waits);
     state.tubes.add_job(&job, number);
@@ -122,6 +122,7 @@ pub fn change_job(state: &mut CoreParts, id: JobId, what: &JobChange)
     count_move(
         &mut state.known,
         &mut state.tubes,
+        &state.waiting,
         state.seats.as_slice(),
         &moved,
         number,
@@ -140,6 +141,7 @@ pub fn hand_out(state: &mut CoreParts, seat: Seat, id: JobId) -> Option<Result<B
     count_if_moved(
         &mut state.known,
         &mut state.tubes,
+        &state.waiting,
         state.seats.as_slice(),
         &shared,
     );
@@ -168,15 +170,16 @@ fn body_of(
 fn count_if_moved(
     known: &mut Known,
     tubes: &mut Tubes,
+    waiting: &Waiting,
     seats: &[SeatRecord],
     shared: &Option<Result<((TubeNumber, Moved), Body), NoMemory>>,
 )
     requires number { HasNumberIf shared.now tubes.old.numbers }
     requires seats { AreNumbered seats.now }
-    ensures { CountsIf shared.now seats.now known.old known.new tubes.old tubes.new }
+    ensures { CountsIf shared.now waiting.now seats.now known.old known.new tubes.old tubes.new }
 {
     if let Some(Ok(((number, moved), _))) = shared {
-        count_move(known, tubes, seats, moved, *number);
+        count_move(known, tubes, waiting, seats, moved, *number);
     }
 }
 
@@ -185,16 +188,17 @@ fn count_if_moved(
 fn count_move(
     known: &mut Known,
     tubes: &mut Tubes,
+    waiting: &Waiting,
     seats: &[SeatRecord],
     moved: &Moved,
     number: TubeNumber,
 )
     requires number { HasNumber moved.now.tube number tubes.old.numbers }
     requires seats { AreNumbered seats.now }
-    ensures { CountsMove moved.now seats.now known.old known.new tubes.old tubes.new }
+    ensures { CountsMove moved.now waiting.now seats.now known.old known.new tubes.old tubes.new }
 {
     let name = moved.tube.read(tubes.names(), number);
-    let is_wanted = is_wanted(known, tubes, moved.to.state, name, number);
+    let is_wanted = is_wanted(waiting, tubes, moved.to.state, name, number);
     let waits = seats::holder_waits(seats, moved.to.state);
     known.move_job(moved, name, number, is_wanted, waits);
     tubes.move_job(moved, number);

@@ -49,7 +49,7 @@ pub struct CoreParts {
 }
 
 impl CoreParts {
-    ghost use Rattle.std.specs.{List.list_any, Option.option_map, Prelude.{IfOk, IfSome, filter, is_some, ◌&&◌}};
+    ghost use Rattle.std.specs.{List.list_any, Option.option_map, Prelude.{IfOk, IfSome, count_by, filter, is_some, ◌&&◌}};
     ghost use Rattle.bq_job.specs.machine.{Changes.{is_held_by, is_waiting, job_with, seat_with}, JobStates.{is_delayed, is_reserved}};
     ghost use Rattle.bq_job.specs.reading.TubeName.{is_same_name};
     ghost use Rattle.bq_jobs.specs.Seen.{IsBodyOf};
@@ -157,12 +157,19 @@ impl CoreParts {
         job_store::holds_some(&mut self.jobs, seat)
     }
 
+    /// Returns how many clients wait.
+    pub fn waiter_count(&self) -> u64
+        ensures { result ≡ count_by is_waiting self.now.seats.items }
+    {
+        self.waiting.as_slice().len() as u64
+    }
+
     /// Returns true if some client waits.
     #[tactic(auto, using(crate::proofs::ClientLemmas::some_pass))]
     pub fn has_waiter(&self) -> bool
         ensures { result ≡ list_any is_waiting self.now.seats.items }
     {
-        self.known.clients.waiting > 0
+        self.waiter_count() > 0
     }
 
     /// Returns the counts of the jobs in the tube.

@@ -2,20 +2,18 @@
 //! where something may be found, so that only that place is searched.
 ghost use Rattle.std.specs.{Option.option_copied, Prelude.◌≡◌};
 ghost use Rattle.bq_state.specs.{Dues.{earlier_of_both, is_end_over}, Knowledge.{nothing_known, with_forgotten, with_job, with_joined}};
-ghost use Rattle.bq_state.specs.Knowledge.{with_left, with_moved, with_removal, with_tube_changed};
+ghost use Rattle.bq_state.specs.{Knowledge.{with_left, with_moved, with_removal, with_tube_changed}, SeatStates.seat_passes};
 
 use crate::seats::{SeatChange, SeatRecord};
 use crate::tubes::{Share, TubeChange, Tubes};
 use bq_job::{Job, Moment, Seat, TubeName};
 use bq_jobs::{Moved, Removed, Standing, TubeNumber};
-pub use clients::Clients;
 pub use first_timeout::{FirstTimeout, first_to_give_up};
 pub use maybe_gone::MaybeGone;
 pub use tally::Tally;
 pub use wanted::Wanted;
 pub use warns::Warns;
 
-mod clients;
 mod first_timeout;
 mod maybe_gone;
 mod tally;
@@ -28,8 +26,8 @@ mod warns;
 pub struct Known {
     /// How many jobs are in each state.
     pub tally: Tally,
-    /// How many clients are connected, and how many wait.
-    pub clients: Clients,
+    /// How many clients are connected. It stops at 2^64 - 1, more than there can be seats.
+    pub connected: u64,
     /// Which tubes with entries may have gone.
     pub maybe_gone: MaybeGone,
     /// Which jobs waiting clients may have.
@@ -50,7 +48,7 @@ impl Known {
     {
         Known {
             tally: Tally::none(),
-            clients: Clients::default(),
+            connected: 0,
             maybe_gone: MaybeGone::Nothing,
             wanted: Wanted::Nothing,
             warns: Warns::Nobody,
@@ -127,18 +125,22 @@ impl Known {
         ensures { self.new
             ≡ with_left (option_copied client.entry) what.now touched tubes.now self.old }
     {
-        self.clients.remove(client);
         self.first_timeout.change(client, what);
         self.maybe_gone.leave(tubes, client, touched);
+        if is_connected(client) {
+            self.connected = self.connected.saturating_sub(1);
+        }
     }
 
     /// The seat with this number, if there is one, was changed.
     pub(crate) fn join(&mut self, client: Option<&SeatRecord>, seat: Seat, what: &SeatChange)
         ensures { self.new ≡ with_joined (option_copied client.entry) seat what.now self.old }
     {
-        self.clients.add(client);
         self.wanted.change_seat(seat, what);
         self.warns.warn_seat(seat, what);
+        if is_connected(client) {
+            self.connected = self.connected.saturating_add(1);
+        }
     }
 
     /// The entry of a tube was changed.
@@ -161,6 +163,16 @@ impl Known {
     {
         self.maybe_gone = MaybeGone::Nothing;
         self.pause_end = tubes.pause_end_left(entries, self.pause_end);
+    }
+}
+
+// Returns true if there is a seat and a client is connected to it.
+fn is_connected(client: Option<&SeatRecord>) -> bool
+    ensures { result ≡ seat_passes (λ s. s.connected) (option_copied client.entry) }
+{
+    match client {
+        None => false,
+        Some(client) => client.is_connected(),
     }
 }
 

@@ -21,7 +21,7 @@ invariant_of-state-clause-sound c =
       c.read-name.ensures,
       c.registered-registered.ensures,
       waiters_counted _ _ _ _ _ st.sound.entries.of_seats st.sound.known.crowds
-          st.sound.known.clients,
+          st.sound.waiting,
       c.holder_waits-waits.ensures,
       c.as_slice.ensures.value,
       c.add_job-2.ensures,
