@@ -13,7 +13,7 @@ use Rattle.bq_state.proofs.{CrowdPlaces.{crowds_of_provided, first_crowds}, Crow
 use Rattle.bq_state.proofs.{FirstTimeoutLemmas.{first_timeouts, timeouts_of_seat, timeouts_watching}, LeavingLemmas.alive_left}
 use Rattle.bq_state.proofs.MaybeGoneLemmas.{alive_added, alive_forgotten, alive_ignoring, alive_provided, alive_renamed, alive_taken}
 use Rattle.bq_state.proofs.MaybeGoneLemmas.{all_stay}
-use Rattle.bq_state.proofs.{MaybeGoneLemmas.{alive_watching, end_of_those_left}, MovedLemmas.{alive_changed, counted_moved, known_moved}}
+use Rattle.bq_state.proofs.{MaybeGoneLemmas.alive_watching, MovedLemmas.{alive_changed, counted_moved, known_moved}}
 use Rattle.bq_job.{proofs.KeptLemmas.ids_of_map, specs.beside.AreIdsWithin}
 use Rattle.bq_jobs.proofs.Told.{told_of}
 use Rattle.bq_state.proofs.{CrowdPlaces.waiters_counted, MovedLemmas.{entries_of_changed, one_id}, PartsLemmas.few_jobs}
@@ -136,13 +136,12 @@ module _ (st : CoreParts) where
   so_with_pauses = search (counted_kept, crowds_kept, alive_renamed, known_any)
 
   -- Entries of tubes that no longer exist are dropped.
-  pub so_forgotten : (new : KeptTubes) (were : ℕ) → were ≡ length st.tubes.entries
-      → new.entries ≡ filter (λ t. is_tube_of st.jobs.jobs st.seats.items t.name) st.tubes.entries
-      → AreCounts new st.jobs.jobs st.seats.items → IsSo (with_forgotten were new.entries st.known) st.jobs.jobs st.seats.items new
-  so_forgotten new were is left counts =
+  pub so_forgotten : (new : KeptTubes) → new.entries ≡ filter (λ t. is_tube_of st.jobs.jobs st.seats.items t.name) st.tubes.entries
+      → AreCounts new st.jobs.jobs st.seats.items → IsSo (with_forgotten new.entries st.known) st.jobs.jobs st.seats.items new
+  so_forgotten new left counts =
       let p = λ (t : TubeRecord). is_tube_of st.jobs.jobs st.seats.items t.name in
       let now = rw left at counts in
-      rw left (search (known_forgotten (machine_of st), alive_forgotten, end_of_those_left p, filters_swap is_counted p))
+      rw left (search (known_forgotten (machine_of st), alive_forgotten, filters_swap is_counted p))
 
   -- If no tube may have gone, none is dropped.
   pub none_forgotten : is_none_gone st.known.maybe_gone ≡ true → machine_of st ≡ forgetting (machine_of st)

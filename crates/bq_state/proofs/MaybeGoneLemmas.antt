@@ -1,14 +1,13 @@
 -- The entries of tubes that may no longer exist, as jobs and seats change.
-use Rattle.std.proofs.Common.{Bool, List, Option, Some, [], arith, false, if◌then◌else◌, length, map, not, refl, set, slice_get, suc, true}
-use Rattle.std.proofs.{Common.{zero, ℕ, ◌++◌, ◌||◌, ◌∷◌, ◌≡◌, ◌≤◌}, lemmas.{Bool.cases_Bool, Grind.common_steps}}
+use Rattle.std.proofs.Common.{Bool, List, Some, [], arith, false, if◌then◌else◌, map, not, refl, set, slice_get, suc, true}
+use Rattle.std.proofs.{Common.{zero, ℕ, ◌++◌, ◌||◌, ◌∷◌, ◌≡◌}, lemmas.{Bool.cases_Bool, Grind.common_steps}}
 use Rattle.std.specs.{List.{AllByRecursion as All, list_any}, Prelude.filter}
-use Rattle.bq_job.proofs.ListLemmas.{all_always, all_both, all_of_map, all_weaker, filter_all, filter_no_longer, map_all_same}
+use Rattle.bq_job.proofs.ListLemmas.{all_always, all_both, all_of_map, all_weaker, filter_all, map_all_same}
 use Rattle.bq_job.specs.{beside.AreIdsWithin, declared.job.Job.Job, machine.{SeatRecord, TubeRecord, fresh_tube, is_name_before}}
 use Rattle.bq_job.specs.{machine.{is_seated_at, job_with, watching, with_record}, reading.TubeName.is_same_name}
 use Rattle.bq_jobs.{proofs.Changes.{changed, found_id}, specs.Kept.{with_added, without}}
-use Rattle.bq_state.{proofs.TubeLemmas.{before_differs, same_itself, same_name}, specs.Dues.{first_pause_end, pause_end_left}}
+use Rattle.bq_state.{proofs.TubeLemmas.{before_differs, same_itself, same_name}, specs.TubeEntries.{has_entry, is_tube_of, provided}}
 use Rattle.bq_state.specs.MaybeGoneTubes.{AreAlive, is_none_gone, may_be_gone, with_existing, with_gone}
-use Rattle.bq_state.specs.TubeEntries.{has_entry, is_tube_of, provided}
 use Rattle.bq_state.specs.declared.known.maybe_gone.MaybeGone.{MaybeGone, TheVariants.{Any, Nothing, Of}}
 
 both_same : (a b c : List ℕ) → is_same_name a b ≡ true → is_same_name a c ≡ true → is_same_name c b ≡ true
@@ -121,12 +120,3 @@ pub alive_forgotten : (jobs : List Job) (seats : List SeatRecord) (entries : Lis
     → AreAlive Nothing jobs seats (filter (λ t. is_tube_of jobs seats t.name) entries)
 alive_forgotten jobs seats [] = tt
 alive_forgotten jobs seats (t ∷ entries) = grind (arith, alive_forgotten jobs seats entries)
-
--- if the number of elements is the same, all are left
-pub as_many_left : {A : Type 0} (p : A → Bool) (xs : List A) → length xs ≤ length (filter p xs) → filter p xs ≡ xs
-as_many_left p [] h = refl
-as_many_left {A = A} p (x ∷ xs) h = grind (arith, common_steps, filter_no_longer, as_many_left p xs)
-
-pub end_of_those_left : (p : TubeRecord → Bool) (entries : List TubeRecord) (were : ℕ) (last : Option ℕ) → were ≡ length entries
-    → last ≡ first_pause_end entries → pause_end_left (filter p entries) were last ≡ first_pause_end (filter p entries)
-end_of_those_left p entries were last many h = grind (arith, as_many_left)

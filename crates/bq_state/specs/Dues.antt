@@ -1,5 +1,5 @@
 -- The earliest of moments, if there are any.
-use Rattle.std.specs.{Option.option_map, Prelude.{Bool, List, None, Option, Some, false, fold, if◌then◌else◌, length, nat_le, nat_lt, ℕ}}
+use Rattle.std.specs.{Option.option_map, Prelude.{Bool, List, None, Option, Some, false, fold, if◌then◌else◌, nat_le, ℕ}}
 use Rattle.std.specs.Prelude.{◌-◌}
 use Rattle.bq_job.specs.{beside.{dues_of_pause, dues_of_wait, earlier, earliest}, declared.job.Job.Job, machine.{SeatRecord, TubeRecord}}
 use Rattle.bq_job.specs.machine.{due_of, first_of, is_delayed, is_due_before, is_held_by, is_reserved, is_waiting}
@@ -36,10 +36,6 @@ abbrev pub pause_end_after : List TubeRecord → TubeChange → Option ℕ → O
 pause_end_after entries CountPut last = last
 pause_end_after entries CountDelete last = last
 pause_end_after entries (Pause seconds moment) last = first_pause_end entries
-
--- the same after entries were dropped, given its value before
-abbrev pub pause_end_left : List TubeRecord → ℕ → Option ℕ → Option ℕ
-pause_end_left entries were last = if nat_lt (length entries) were then first_pause_end entries else last
 
 -- there is a pause that ends then, and it is due
 abbrev pub is_end_over : ℕ → Option ℕ → Bool

@@ -3,7 +3,7 @@ use Rattle.std.specs.Prelude.{Bool, List, None, Option, [], count_by, if◌then�
 use Rattle.bq_job.specs.{declared.job.Job.Job, machine.{SeatRecord, TubeRecord, is_ready_state}}
 use Rattle.bq_jobs.specs.declared.job_orders.{Moved.Moved, Removed.Removed}
 use Rattle.bq_state.specs.{Crowds.AreCrowds, Dues.{first_pause_end, pause_end_after}, SeatStates.seat_passes}
-use Rattle.bq_state.specs.{Dues.pause_end_left, FirstTimeouts.{AreTimeouts, timeout_after}, KeptTubes.KeptTubes, Leaving.gone_of}
+use Rattle.bq_state.specs.{FirstTimeouts.{AreTimeouts, timeout_after}, KeptTubes.KeptTubes, Leaving.gone_of}
 use Rattle.bq_state.specs.{MaybeGoneTubes.{AreAlive, with_existing, with_gone}, Offers.is_waited_at, TubeEntries.counted}
 use Rattle.bq_state.specs.Tallies.{AreCounted, count_with, count_without, tally_left, tally_moved, tally_of, tally_with, tally_without}
 use Rattle.bq_state.specs.{WaitingTurns.WaitingTurns, WantedJobs.{AreKnown, wanted_after_seat}}
@@ -102,5 +102,5 @@ with_tube_changed name what entries k = record k {
 }
 
 -- after entries of tubes that no longer exist were dropped; these are left
-abbrev pub with_forgotten : ℕ → List TubeRecord → Known → Known
-with_forgotten were entries k = record k { maybe_gone = gone_tubes.Nothing; pause_end = pause_end_left entries were k.pause_end }
+abbrev pub with_forgotten : List TubeRecord → Known → Known
+with_forgotten entries k = record k { maybe_gone = gone_tubes.Nothing; pause_end = first_pause_end entries }

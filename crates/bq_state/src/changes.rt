@@ -436,11 +436,10 @@ fn forget_gone(state: &mut CoreParts)
     ensures after { machine_of state.new ≡ forgetting (machine_of state.old) }
     ensures jobs { state.new.jobs ≡ record state.old.jobs { tubes = state.new.jobs.tubes } }
 {
-    let entries = state.tubes.len();
     state
         .tubes
         .forget_gone(&mut state.jobs, &state.known.maybe_gone);
-    state.known.forget_tubes(entries, &state.tubes);
+    state.known.forget_tubes(&state.tubes);
 }
 
 /// Counts a connection that was opened.

@@ -157,12 +157,12 @@ impl Known {
         self.pause_end = tubes.pause_end_after(what, self.pause_end);
     }
 
-    /// The entries of tubes that no longer exist were dropped; before, there were `entries`.
-    pub(crate) fn forget_tubes(&mut self, entries: usize, tubes: &Tubes)
-        ensures { self.new ≡ with_forgotten entries tubes.now.entries self.old }
+    /// The entries of tubes that no longer exist were dropped.
+    pub(crate) fn forget_tubes(&mut self, tubes: &Tubes)
+        ensures { self.new ≡ with_forgotten tubes.now.entries self.old }
     {
         self.maybe_gone = MaybeGone::Nothing;
-        self.pause_end = tubes.pause_end_left(entries, self.pause_end);
+        self.pause_end = tubes.first_pause_end();
     }
 }
 

@@ -6,7 +6,7 @@ ghost use Rattle.bq_job.specs.{machine.Timers.tube_after_timers, reading.TubeNam
 ghost use Rattle.bq_jobs.specs.{Names.number_in, Numbering.{Extends, HasNumber}};
 ghost use Rattle.bq_state.specs.Counting.{AreCounts, DropsGone, IfCounted, tubes_with, with_crowds_at, with_job_put, with_removal_counted};
 ghost use Rattle.bq_state.specs.{Counting.with_tallies_at, Crowds.{crowd_at, has_seats, recounted}, Dues.first_pause_end};
-ghost use Rattle.bq_state.specs.{Dues.{pause_end_after, pause_end_left}, KeptTubes.{edited_at, is_named_at, kept_changed}};
+ghost use Rattle.bq_state.specs.{Dues.pause_end_after, KeptTubes.{edited_at, is_named_at, kept_changed}};
 ghost use Rattle.bq_state.specs.{Leaving.exists_in, Names.names_of, PauseEnds.AreEnds, Tallies.{has_jobs, tallies_of, tally_at}};
 ghost use Rattle.bq_state.specs.{Tallies.tally_moved, TubeEntries.{has_entry, names_alive, tube_changed_at}, TubeNumbers.HaveNumbers};
 
@@ -320,18 +320,6 @@ impl Tubes {
         match what {
             TubeChange::Pause(_, _) => self.first_pause_end(),
             TubeChange::CountPut | TubeChange::CountDelete => last,
-        }
-    }
-
-    /// Returns when the first pause ends after entries were dropped; before, there were `entries`,
-    /// and `last` was the first end.
-    pub(crate) fn pause_end_left(&self, entries: usize, last: Option<Moment>) -> Option<Moment>
-        ensures { result ≡ pause_end_left self.now.entries entries last }
-    {
-        if self.len() < entries {
-            self.first_pause_end()
-        } else {
-            last
         }
     }
 }

@@ -1,4 +1,4 @@
-use Rattle.std.proofs.Common.{ap, arith}
+use Rattle.std.proofs.Common.{ap}
 use Rattle.bq_state.proofs.{KnowledgeLemmas.so_forgotten, PartsLemmas.entries_forgotten, TubeLemmas.filters_swap}
 use Rattle.bq_state.specs.{CoreParts.machine_of, TubeEntries.{AreEntries, is_counted}}
 use Rattle.bq_state.proofs.changes.forget_gone.Goals as goal
@@ -19,6 +19,6 @@ invariant_of-state-clause-sound c =
     let so = st.sound.known in
     let left = c.forget_gone.ensures.after st.jobs.jobs st.seats.items st.sound.entries.order so.alive so.counts.each so.crowds.each in
     let entries : AreEntries st.jobs.jobs st.seats.items c.forget_gone.new.self.entries = rw left (entries_forgotten st) in
-    let known = so_forgotten st c.forget_gone.new.self c.len-entries.result (omega (arith, c.len-entries.ensures)) left
+    let known = so_forgotten st c.forget_gone.new.self left
     (c.forget_gone.ensures.kept st.jobs.jobs st.seats.items so.counts.each so.crowds.each) in
     rw (c.forget_gone.ensures.jobs, c.forget_tubes.ensures) assumption
