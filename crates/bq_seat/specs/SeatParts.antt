@@ -44,6 +44,11 @@ abbrev pub is_asking : Stage → Bool
 is_asking (stages.Asking waits) = true
 is_asking _ = false
 
+-- The connection is read although the answer to a request is outstanding.
+abbrev pub reads_beside : Stage → Bool
+reads_beside stages.ReadingOn = true
+reads_beside _ = false
+
 -- what is awaited after this request was submitted
 abbrev pub asking_stage : Request → Stage
 asking_stage request = if is_quit request then stages.AskingQuit else stages.Asking (is_waiting_request request)

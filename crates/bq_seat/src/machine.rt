@@ -94,7 +94,7 @@ impl SeatMachine {
     ghost use Rattle.bq_job.specs.machine.OneClient.{is_closed_answer};
     ghost use Rattle.bq_seat.specs.Outstanding.{ReadsWith};
     ghost use Rattle.bq_seat.specs.SeatMoves.{IsAnswered, IsMove};
-    ghost use Rattle.bq_seat.specs.SeatParts.{GoesOn, asking_stage, is_asking, between, holding, in_stage, reads_on, would_read};
+    ghost use Rattle.bq_seat.specs.SeatParts.{GoesOn, asking_stage, is_asking, between, holding, in_stage, reads_beside, reads_on, would_read};
     ghost use Rattle.bq_job.specs.declared.line_end.LineEnd.{LineEnd};
     ghost use Rattle.bq_seat.specs.SeatStands.{awaited, kept_bytes};
     ghost use Rattle.bq_seat.specs.Pieces.{HasRoomFor, HasRoomIn, missing_in};
@@ -124,7 +124,8 @@ impl SeatMachine {
     /// would then keep the answer from the client.
     #[tactic(auto, using(crate::proofs::LooksLemmas::reads_alone, crate::proofs::LooksLemmas::reads_with_one))]
     pub fn has_outstanding(&self) -> bool
-        ensures { ReadsWith result self.now }
+        ensures steps { ReadsWith result self.now }
+        ensures stage { result ≡ reads_beside self.now.stage }
     {
         match self.stage {
             Stage::ReadingOn => true,
