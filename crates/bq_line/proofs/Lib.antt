@@ -3,6 +3,7 @@ pub mod BufferLemmas
 pub mod CarriedLemmas
 pub mod ControlLemmas
 pub mod CountedLemmas
+pub mod LackLemmas
 pub mod LineNumberLemmas
 pub mod LineSoFarLemmas
 pub mod PartLemmas

@@ -6,6 +6,7 @@ pub mod ControlSeen
 pub mod Doors
 pub mod GivenReadings
 pub mod InAll
+pub mod Lacking
 pub mod LineCalls
 pub mod LineNumbers
 pub mod LineParts

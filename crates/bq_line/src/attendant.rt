@@ -1,7 +1,7 @@
 //! A seat that attends to a door: it serves the door's connections one after another, one action at
 //! a time. Also its link to the core, and how one action is carried out at its connection and its
 //! link.
-ghost use Rattle.std.specs.Prelude.{◌≡◌, ◌⊎◌, ◌≤◌, ◌↔◌, [], true, not, IfOk, IsTrue, ◌<◌, ◌++◌, ℕ, List, length};
+ghost use Rattle.std.specs.Prelude.{◌≡◌, ◌⊎◌, ◌≤◌, ◌↔◌, [], false, true, not, IfOk, IsTrue, ◌<◌, ◌++◌, ℕ, List, length};
 ghost use Rattle.bq_seat.specs.Outstanding.{ReadsWith};
 ghost use Rattle.bq_seat.specs.Past.{Awaited};
 ghost use Rattle.bq_seat.specs.SeatStands.{awaited};
@@ -13,6 +13,7 @@ ghost use Rattle.bq_job.specs.declared.step.Step.{Step};
 ghost use Rattle.bq_job.specs.promise.LineSteps.{LineSeen};
 ghost use Rattle.bq_line.specs.Streams.{StaysOver};
 ghost use Rattle.bq_line.specs.Carried.{Carried, CarriedPart, HasGone};
+ghost use Rattle.bq_line.specs.Lacking.{Lacks, LacksAt};
 ghost use Rattle.bq_line.specs.Links.{Calls, SubmitsInPlace, TakesFurther, TakesInPlace};
 ghost use Rattle.bq_line.specs.Submitting.{HasSubmitted, HasSubmittedOn, TakesOrWaits};
 
@@ -33,12 +34,19 @@ pub trait Link {
     /// link is what remained.
     ghost went: { Self → List Step → List Answer → Self → Type 0 };
 
+    /// The first link did not accept this step, and the second link is what remained.
+    ghost refused: { Self → Step → Self → Type 0 } = { λ _ _ _. Unit {0} };
+
+    /// The first link had no answer to take, and the second link is what remained.
+    ghost had_none: { Self → Self → Type 0 } = { λ _ _. Unit {0} };
+
     /// Submits the step and returns true; `step` then has no meaning. If there is no room for it
     /// now, leaves it as it was and returns false.
     fn submit(&mut self, step: &mut Step) -> bool
         requires ready { is_ready self.old }
         ensures ready { is_ready self.new }
-        ensures went { SubmitsInPlace went self.old step.old result step.new self.new };
+        ensures went { SubmitsInPlace went self.old step.old result step.new self.new }
+        ensures refused { result ≡ false → refused self.old step.old self.new };
 
     /// Takes the oldest waiting answer, puts it into `place` as an action that writes it, and
     /// returns true. If there is none, leaves `place` as it was and returns false. A link between
@@ -46,7 +54,8 @@ pub trait Link {
     fn mail(&mut self, place: &mut NextAction) -> bool
         requires ready { is_ready self.old }
         ensures ready { is_ready self.new }
-        ensures went { TakesInPlace went self.old place.old result place.new self.new };
+        ensures went { TakesInPlace went self.old place.old result place.new self.new }
+        ensures none { result ≡ false → had_none self.old self.new };
 
     /// Takes the oldest waiting answer as `mail` does, but never sleeps. By default it takes none:
     /// the seat then calls `mail` for it.
@@ -303,6 +312,9 @@ impl<L: Line + Drop> Attendant<L> {
         // nothing and took nothing.
         ensures progress { MayEndAt result self.old.place }
         ensures still { (result ≡ Progress.Moved → ⊥) → Calls K.went link.old [] [] link.new }
+        // It reports a step that was not accepted, or that no answer has come, only if the link did so
+        // in this call.
+        ensures lacks { LacksAt K.refused K.had_none result link.old self.old.place link.new }
         // Whatever it did before, it continued with the steps that it submitted and the answers
         // that it took.
         ensures went { let at = door_seen D.is_out D.is_at_end D.lines_over in
@@ -342,6 +354,7 @@ impl<L: Line + Drop> Attendant<L> {
         ensures ready { K.is_ready link.new }
         ensures progress { MayEndAt result self.old.place }
         ensures still { (result ≡ Progress.Moved → ⊥) → Calls K.went link.old [] [] link.new }
+        ensures lacks { LacksAt K.refused K.had_none result link.old self.old.place link.new }
         ensures went { let at = door_seen D.is_out D.is_at_end D.lines_over in
             GoesOn K.went link.old link.new L.seen self.old (at door.old) self.new (at door.new) }
         ensures sure { StaysSure L.lies_over D.lines_over D.may_fail self.old.place door.old self.new.place door.new }
@@ -422,6 +435,7 @@ fn leave<L: Line + Drop, K: Link>(place: &mut LinePlace<L>, link: &mut K) -> Pro
     ensures progress { MayEndAt result place.old }
     ensures left { (place.new ≡ LinePlace.Leaving) ⊎ (place.new ≡ LinePlace.Done) }
     ensures still { (result ≡ Progress.Moved → ⊥) → K.went link.old [] [] link.new }
+    ensures lacks { Lacks K.refused K.had_none result link.old (Action.Submit Step.Gone) link.new }
     ensures went { (machine : SeatMachine) (door : DoorSeen)
         → GoesOn K.went link.old link.new L.seen (attendant machine place.old) door (attendant machine place.new) door }
 {
@@ -459,6 +473,7 @@ pub fn carry_out<L: Line, K: Link>(
     ensures ready { K.is_ready link.new }
     ensures carried { (submitted : List Step) × (taken : List Answer) × HasGone K.went link.old action.old submitted taken link.new
         × CarriedPart result machine.old (L.seen line.old) action.old sent.old machine.new (L.seen line.new) action.new sent.new submitted taken }
+    ensures lacks { Lacks K.refused K.had_none result link.old action.old link.new }
     ensures stays { StaysOver L.lies_over line.old line.new }
 {
     match action.does() {
@@ -499,6 +514,7 @@ fn act<L: Line, K: Link>(
     ensures ready { K.is_ready link.new }
     ensures carried { (submitted : List Step) × (taken : List Answer) × HasGone K.went link.old action.old submitted taken link.new ×
         Carried result machine.old (L.seen line.old) action.old machine.new (L.seen line.new) action.new submitted taken }
+    ensures lacks { Lacks K.refused K.had_none result link.old action.old link.new }
     ensures stays { StaysOver L.lies_over line.old line.new }
 {
     match action.does() {
@@ -532,6 +548,7 @@ fn submit<K: Link>(
     ensures ready { K.is_ready link.new }
     ensures submitted { (step : Step) → action.old ≡ Action.Submit step
         → HasSubmitted K.went link.old link.new result machine.old step machine.new action.new }
+    ensures lacks { Lacks K.refused K.had_none result link.old action.old link.new }
 {
     match action.does() {
         Does::Submit => {
@@ -560,6 +577,7 @@ fn submit_and_take<K: Link>(
     ensures none_sent { sent.new ≡ 0 }
     ensures submitted { (step : Step) → action.old ≡ Action.Submit step
         → HasSubmittedOn K.went link.old link.new result machine.old step machine.new action.new }
+    ensures lacks { Lacks K.refused K.had_none result link.old action.old link.new }
 {
     *sent = 0;
     match action.does() {
