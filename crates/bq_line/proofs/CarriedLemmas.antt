@@ -17,7 +17,7 @@ use Rattle.bq_line.specs.declared.attendant.Progress.TheVariants as results
 use Rattle.bq_line.specs.Writing.{BreaksOff, with_begun, with_written}
 use Rattle.bq_line.specs.Links.{Calls, as_submitted}
 use Rattle.bq_line.specs.Submitting.{HasSubmittedOn, IsSubmittedOn, TakesOrWaits}
-use Rattle.bq_line.specs.Tending.{MayEndAt}
+use Rattle.bq_line.specs.Tending.{MayEndAt, Uses}
 use Rattle.bq_line.specs.declared.attendant.LinePlace.{LinePlace}
 use Rattle.bq_line.specs.declared.attendant.LinePlace.TheVariants as places
 use Rattle.bq_job.specs.declared.line_end.LineEnd.{LineEnd}
@@ -206,3 +206,28 @@ submits_on went first middle last old new step next submits (inr took) = (
   took.2 first (as_submitted step) [] submits,
   inr (refl, took.1.0, (refl, took.1.1), (took.0, refl, took.1.2)),
 )
+
+-- What a seat did over its link if something moved.
+module _ {K : Type 0} (went : K → List Step → List Answer → K → Type 0) (first last : K) where
+  pub uses_submission : (result : Progress) (old : SeatMachine) (step : Step) (new : SeatMachine) (next : Action) (submitted : List Step)
+      (taken : List Answer) → went first submitted taken last → IsSubmittedOn result old step new next submitted taken
+      → Uses went result first (actions.Submit step) last
+  uses_submission results.Moved old step new next submitted taken w (inl h) =
+      (taken, subst (λ (s : List Step). went first s taken last) h.1.0 w)
+  uses_submission results.Moved old step new next submitted taken w (inr h) =
+      (taken, subst (λ (s : List Step). went first s taken last) h.2.0 w)
+  uses_submission _ old step new next submitted taken w h = tt
+
+  pub uses_carried : (result : Progress) (old : SeatMachine) (seen : LineSeen) (action : Action) (sent : ℕ) (new : SeatMachine)
+      (later : LineSeen) (next : Action) (now : ℕ) (submitted : List Step) (taken : List Answer)
+      → HasGone went first action submitted taken last → CarriedPart result old seen action sent new later next now submitted taken
+      → Uses went result first action last
+  uses_carried results.Moved old seen (actions.Submit step) sent new later next now submitted taken g c =
+      let h = (c.2 seen refl).2 in
+      (taken, subst (λ (s : List Step). went first s taken last) h.2.0 g)
+  uses_carried results.Moved old seen actions.PollMail sent new later next now submitted taken g c =
+      let h = (c.2 seen refl).2 in (
+        h.2.0,
+        subst (λ (t : List Answer). went first [] t last) h.2.1 (subst (λ (s : List Step). went first s taken last) h.1 g),
+      )
+  uses_carried _ old seen action sent new later next now submitted taken g c = tt

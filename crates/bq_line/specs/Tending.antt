@@ -3,6 +3,7 @@ use Rattle.std.specs.Prelude.{ℕ, ◌≡◌, ◌⊎◌, Bool, true, false, List
 use Rattle.std.specs.List.{All}
 use Rattle.bq_job.specs.declared.answer.Answer.{Answer}
 use Rattle.bq_job.specs.declared.step.Step.{Step}
+use Rattle.bq_job.specs.declared.step.Step.TheVariants.{Gone}
 use Rattle.bq_job.specs.promise.History.{LineOver}
 use Rattle.bq_job.specs.promise.LineSteps.{LineSeen}
 use Rattle.bq_job.specs.beside.SeatDid.{IsSeatDone}
@@ -12,7 +13,7 @@ use Rattle.bq_seat.specs.SeatStands.{awaited}
 use Rattle.bq_seat.specs.declared.machine.SeatMachine.{SeatMachine}
 use Rattle.bq_line.specs.Attending.{IsAttending}
 use Rattle.bq_line.specs.Carried.{CanEnd}
-use Rattle.bq_line.specs.Links.{Calls}
+use Rattle.bq_line.specs.Links.{Calls, as_submitted}
 use Rattle.bq_line.specs.Streams.{IsSureLine, StaysOver, StreamSeen}
 use Rattle.bq_line.specs.declared.attendant.Attendant.{Attendant}
 use Rattle.bq_line.specs.declared.attendant.LinePlace.{LinePlace}
@@ -128,6 +129,26 @@ MayEndAt result (places.On line (actions.LineOver end) sent) = result ≡ result
 MayEndAt result (places.On line action sent) = CanEnd result action
 MayEndAt result places.Leaving = (result ≡ results.Moved) ⊎ (result ≡ results.NotAccepted)
 MayEndAt result places.Done = result ≡ results.NothingToDo
+
+-- A connection that was to be opened is open, or no more come. One that has ended is shut. If the
+-- seat has submitted that no more come, it is done.
+abbrev pub MovesAt : {L : Type 0} → Progress → LinePlace L → LinePlace L → Type 0
+MovesAt result places.Between next = next ≡ places.Between → ⊥
+MovesAt result (places.On line (actions.LineOver end) sent) next = next ≡ places.Between
+MovesAt results.Moved places.Leaving next = next ≡ places.Done
+MovesAt result _ next = Unit {0}
+
+-- The step of this action was submitted, or an answer was taken, if the result says that something moved.
+abbrev pub Uses : {K : Type 0} → (K → List Step → List Answer → K → Type 0) → Progress → K → Action → K → Type 0
+Uses went results.Moved old (actions.Submit step) new = (taken : List Answer) × went old (as_submitted step) taken new
+Uses went results.Moved old actions.PollMail new = (answer : Answer) × went old [] (answer ∷ []) new
+Uses went _ old action new = Unit {0}
+
+-- the same of an action of a seat at this place
+abbrev pub UsesAt : {K L : Type 0} → (K → List Step → List Answer → K → Type 0) → Progress → K → LinePlace L → K → Type 0
+UsesAt went result old (places.On line action sent) new = Uses went result old action new
+UsesAt went result old places.Leaving new = Uses went result old (actions.Submit Gone) new
+UsesAt went result old _ new = Unit {0}
 
 -- A new seat.
 pub record IsNewSeat {L : Type 0} (max_job_size : ℕ) (a : Attendant L) : Type 0 where

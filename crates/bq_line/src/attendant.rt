@@ -7,7 +7,7 @@ ghost use Rattle.bq_seat.specs.Past.{Awaited};
 ghost use Rattle.bq_seat.specs.SeatStands.{awaited};
 ghost use Rattle.bq_seat.specs.declared.machine.SeatMachine.{SeatMachine};
 ghost use Rattle.bq_line.specs.Doors.{MayOpen};
-ghost use Rattle.bq_line.specs.Tending.{DoorSeen, GoesOn, IsPlaced, MayEndAt, StaysOpenOver, StaysSure, Tends, attendant, door_seen};
+ghost use Rattle.bq_line.specs.Tending.{DoorSeen, GoesOn, IsPlaced, MayEndAt, MovesAt, StaysOpenOver, StaysSure, Tends, Uses, UsesAt, attendant, door_seen};
 ghost use Rattle.bq_job.specs.declared.answer.Answer.{Answer};
 ghost use Rattle.bq_job.specs.declared.step.Step.{Step};
 ghost use Rattle.bq_job.specs.promise.LineSteps.{LineSeen};
@@ -315,6 +315,10 @@ impl<L: Line + Drop> Attendant<L> {
         // It reports a step that was not accepted, or that no answer has come, only if the link did so
         // in this call.
         ensures lacks { LacksAt K.refused K.had_none result link.old self.old.place link.new }
+        // If a connection was to be opened or shut, or no more were to come, that was done.
+        ensures moves { MovesAt result self.old.place self.new.place }
+        // If a step was to be submitted or an answer to be taken, and it says so, that was done.
+        ensures uses { UsesAt K.went result link.old self.old.place link.new }
         // Whatever it did before, it continued with the steps that it submitted and the answers
         // that it took.
         ensures went { let at = door_seen D.is_out D.is_at_end D.lines_over in
@@ -355,6 +359,8 @@ impl<L: Line + Drop> Attendant<L> {
         ensures progress { MayEndAt result self.old.place }
         ensures still { (result ≡ Progress.Moved → ⊥) → Calls K.went link.old [] [] link.new }
         ensures lacks { LacksAt K.refused K.had_none result link.old self.old.place link.new }
+        ensures moves { MovesAt result self.old.place self.new.place }
+        ensures uses { UsesAt K.went result link.old self.old.place link.new }
         ensures went { let at = door_seen D.is_out D.is_at_end D.lines_over in
             GoesOn K.went link.old link.new L.seen self.old (at door.old) self.new (at door.new) }
         ensures sure { StaysSure L.lies_over D.lines_over D.may_fail self.old.place door.old self.new.place door.new }
@@ -434,6 +440,8 @@ fn leave<L: Line + Drop, K: Link>(place: &mut LinePlace<L>, link: &mut K) -> Pro
     ensures ready { K.is_ready link.new }
     ensures progress { MayEndAt result place.old }
     ensures left { (place.new ≡ LinePlace.Leaving) ⊎ (place.new ≡ LinePlace.Done) }
+    ensures moves { MovesAt result place.old place.new }
+    ensures uses { Uses K.went result link.old (Action.Submit Step.Gone) link.new }
     ensures still { (result ≡ Progress.Moved → ⊥) → K.went link.old [] [] link.new }
     ensures lacks { Lacks K.refused K.had_none result link.old (Action.Submit Step.Gone) link.new }
     ensures went { (machine : SeatMachine) (door : DoorSeen)

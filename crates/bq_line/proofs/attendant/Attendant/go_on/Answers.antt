@@ -1,7 +1,7 @@
 use Rattle.std.proofs.Common.{[], ◌∙◌, ap, refl, inl, inr}
 use Rattle.bq_seat.specs.NextActions.{does_of}
 use Rattle.bq_line.specs.Tending.{door_seen}
-use Rattle.bq_line.proofs.CarriedLemmas.{ends_on, ends_submission, rests, rests_submission}
+use Rattle.bq_line.proofs.CarriedLemmas.{ends_on, ends_submission, rests, rests_submission, uses_carried, uses_submission}
 use Rattle.bq_line.proofs.TendingLemmas.{from_place, on_action, tends_acted, tends_submitted}
 use Rattle.bq_line.proofs.SureLemmas.{sure_further}
 use Rattle.bq_line.proofs.attendant.Attendant.go_on.Goals as goal
@@ -68,3 +68,13 @@ returns-in_default-does-clause-sure g c = λ never sure.
 pub returns-in-Submit-clause-sure : goal.returns-in-Submit-clause-sure
 returns-in-Submit-clause-sure g c = λ never sure.
     sure_further g.L.Line.lies_over _ c.in-On.line c.in-On.line _ _ _ _ _ c.in-On.is (λ first over. over) sure
+
+pub returns-in-Submit-clause-uses : goal.returns-in-Submit-clause-uses
+returns-in-Submit-clause-uses g c =
+    let h = c.submit_and_take.ensures.submitted c.in-Submit.ensures.action.0 c.in-Submit.ensures.action.1 in
+    rw (on_action c.in-On.is c.in-Submit.ensures.action.1) (uses_submission g.K.Link.went _ _ _ _ _ _ _ h.0 h.1 h.2 h.3)
+
+pub returns-in_default-does-clause-uses : goal.returns-in_default-does-clause-uses
+returns-in_default-does-clause-uses g c =
+    let h = c.carry_out.ensures.carried in
+    rw c.in-On.is (uses_carried g.K.Link.went _ _ _ _ _ _ _ _ _ _ _ h.0 h.1 h.2 h.3)
