@@ -65,6 +65,14 @@ abbrev pub polls_by : Action → Bool
 polls_by actions.PollMail = true
 polls_by _ = false
 
+abbrev pub submits_by : Action → Bool
+submits_by (actions.Submit step) = true
+submits_by _ = false
+
+abbrev pub writes_by : Action → Bool
+writes_by (actions.Write answer) = true
+writes_by _ = false
+
 -- one if the seat's connection has ended, but was not shut yet
 abbrev pub over_now : {L : Type 0} → LinePlace L → ℕ
 over_now (places.On line action sent) = over_by action
@@ -74,6 +82,17 @@ over_now _ = 0
 abbrev pub is_polling : {L : Type 0} → LinePlace L → Bool
 is_polling (places.On line action sent) = polls_by action
 is_polling _ = false
+
+-- whether the seat submits a step next, which may be that no more connections come
+abbrev pub is_submitting : {L : Type 0} → LinePlace L → Bool
+is_submitting (places.On line action sent) = submits_by action
+is_submitting places.Leaving = true
+is_submitting _ = false
+
+-- whether the seat writes an answer next
+abbrev pub is_writing : {L : Type 0} → LinePlace L → Bool
+is_writing (places.On line action sent) = writes_by action
+is_writing _ = false
 
 -- how many connections have ended at a seat
 abbrev pub ended_lines : {L : Type 0} → Attendant L → DoorSeen → ℕ

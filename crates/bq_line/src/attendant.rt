@@ -8,6 +8,7 @@ ghost use Rattle.bq_seat.specs.SeatStands.{awaited};
 ghost use Rattle.bq_seat.specs.declared.machine.SeatMachine.{SeatMachine};
 ghost use Rattle.bq_line.specs.Doors.{MayOpen};
 ghost use Rattle.bq_line.specs.Tending.{DoorSeen, GoesOn, IsPlaced, MayEndAt, MovesAt, StaysOpenOver, StaysSure, Tends, Uses, UsesAt, attendant, door_seen};
+ghost use Rattle.bq_line.specs.Tending.{is_polling, is_submitting, is_writing};
 ghost use Rattle.bq_job.specs.declared.answer.Answer.{Answer};
 ghost use Rattle.bq_job.specs.declared.step.Step.{Step};
 ghost use Rattle.bq_job.specs.promise.LineSteps.{LineSeen};
@@ -167,7 +168,12 @@ impl<L: Line + Drop> Attendant<L> {
     }
 
     /// Returns true if it wants to read while an answer is outstanding.
-    pub fn reads_on(&self) -> bool {
+    pub fn reads_on(&self) -> bool
+        ensures reads { IsTrue result
+            → (line : L) × (sent : ℕ) × (self.now.place ≡ LinePlace.On line Action.Read sent) }
+        ensures outstanding { (line : L) (sent : ℕ) → self.now.place ≡ LinePlace.On line Action.Read sent
+            → ReadsWith result self.now.machine }
+    {
         self.reads() && self.machine.has_outstanding()
     }
 
@@ -182,7 +188,9 @@ impl<L: Line + Drop> Attendant<L> {
     }
 
     /// Returns true if it wants to submit a step, possibly again.
-    pub fn submits(&self) -> bool {
+    pub fn submits(&self) -> bool
+        ensures { result ≡ is_submitting self.now.place }
+    {
         match &self.place {
             LinePlace::On(_, next, _) => matches!(next.does(), Does::Submit),
             LinePlace::Leaving => true,
@@ -191,7 +199,9 @@ impl<L: Line + Drop> Attendant<L> {
     }
 
     /// Returns true if it wants to check its mail for an answer.
-    pub fn polls_mail(&self) -> bool {
+    pub fn polls_mail(&self) -> bool
+        ensures { result ≡ is_polling self.now.place }
+    {
         match &self.place {
             LinePlace::On(_, next, _) => matches!(next.does(), Does::PollMail),
             _ => false,
@@ -199,7 +209,9 @@ impl<L: Line + Drop> Attendant<L> {
     }
 
     /// Returns true if it wants to write an answer.
-    pub fn writes(&self) -> bool {
+    pub fn writes(&self) -> bool
+        ensures { result ≡ is_writing self.now.place }
+    {
         match &self.place {
             LinePlace::On(_, next, _) => matches!(next.does(), Does::Write),
             _ => false,
