@@ -5,6 +5,7 @@ pub mod Counting
 pub mod FirstJobs
 pub mod FirstOfGroup
 pub mod Firsts
+pub mod FreeLemmas
 pub mod GroupRanks
 pub mod LeaseLemmas
 pub mod NamedFirsts

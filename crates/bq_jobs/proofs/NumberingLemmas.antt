@@ -34,7 +34,7 @@ pub some_is : {A : Type 0} (a b : A) → Some a ≡ Some b → a ≡ b
 some_is a b e = cc
 
 module _ (x : Option (List ℕ)) where
-  put_same : (names : List (Option (List ℕ))) (m : ℕ) → get_or (put_at names m x) m None ≡ x
+  pub put_same : (names : List (Option (List ℕ))) (m : ℕ) → get_or (put_at names m x) m None ≡ x
   put_same [] zero = refl
   put_same [] (suc m) = put_same [] m
   put_same (y ∷ names) zero = refl
@@ -43,7 +43,7 @@ module _ (x : Option (List ℕ)) where
   before : (m n : ℕ) → (suc m == suc n) ≡ false → (m == n) ≡ false
   before m n e = grind (arith, nat_tests)
 
-  put_other : (names : List (Option (List ℕ))) (m n : ℕ) → (m == n) ≡ false → get_or (put_at names m x) n None ≡ get_or names n None
+  pub put_other : (names : List (Option (List ℕ))) (m n : ℕ) → (m == n) ≡ false → get_or (put_at names m x) n None ≡ get_or names n None
   put_other [] zero zero e = absurd (let t : (0 == 0) ≡ true = grind (arith, nat_tests) in cc)
   put_other [] zero (suc n) e = refl
   put_other [] (suc m) zero e = refl

@@ -1,5 +1,6 @@
 pub mod Changed
 pub mod FirstLeases
+pub mod FreeNumbers
 pub mod Groups
 pub mod Halves
 pub mod Inside

@@ -3,11 +3,12 @@ ghost use Rattle.std.specs.Cmp as Cmp;
 ghost use Rattle.bq_jobs.specs.Names.{name_cmp, name_total, number_in};
 ghost use Rattle.std.proofs.Common.{refl};
 ghost use Rattle.std.specs.Ordering.{as_partial_cmp, eq_by_cmp};
-ghost use Rattle.std.specs.Prelude.{◌≡◌, ◌<◌, ◌≤◌, ◌^◌, ◌∷◌, [], None, true, get_or, length, IfOk, IfSome, OnErr, OnOk, Some};
+ghost use Rattle.std.specs.Prelude.{◌≡◌, ◌<◌, ◌≤◌, ◌^◌, ◌∷◌, [], None, false, set, suc, true, get_or, length, IfOk, IfSome, OnErr, OnOk, Some};
 ghost use Rattle.std.specs.BTreeMap.{insert_entry};
 ghost use Rattle.std.specs.Cmp.Lexicographic.{slice_cmp};
 ghost use Rattle.std.specs.Ordering.{nat_cmp};
 ghost use Rattle.std.specs.Option.{option_map};
+ghost use Rattle.bq_jobs.specs.FreeNumbers.{AreAllUsed, AreFreeFrom, names_in, nexts_in};
 ghost use Rattle.bq_jobs.specs.Numbering.{IsGiven, IsPaired, name_of, number_of, put_at, without_known};
 
 use bq_index::Catalog;
@@ -126,11 +127,11 @@ struct Slot {
 }
 
 impl Model for Slot {
-    ghost use Rattle.std.specs.Prelude.{List, ℕ, Option};
+    ghost use Rattle.bq_jobs.specs.FreeNumbers.{SlotState};
 
-    ghost Value = { Option (List ℕ) };
+    ghost Value = { SlotState };
 
-    ghost view = { λ s. s.name };
+    ghost view = { λ s. record { name = s.name; next = s.next_free } };
 }
 
 /// The registered tubes, each found by its name and by its number. The numbers are dense: one that
@@ -141,25 +142,28 @@ impl Model for Slot {
 pub struct NumberedTubes {
     numbers: Catalog<TubeName, u32>,
     slots: Vec<Slot, Global>,
-    // The number that was freed last and is still free, or one without a slot. The slots of free
-    // numbers form a chain. No contract relies on it: a number is used only if its slot is free.
+    // The number that was freed last and is still free. The slots of the free numbers form a chain,
+    // which begins here. If no number is free, it is that of a slot in use, or of none.
     free: u32,
 }
 
 impl Model for NumberedTubes {
+    ghost use Rattle.bq_jobs.specs.FreeNumbers.{AreFreeFrom, names_in};
     ghost use Rattle.bq_jobs.specs.Numbering.{IsPaired, Numbering};
 
     ghost Value = { Numbering };
 
-    ghost view = { λ k. record { numbers = k.numbers.entries; names = k.slots.items } };
+    ghost view = { λ k. record { numbers = k.numbers.entries; names = names_in k.slots.items } };
 
-    ghost invariant = { λ k. IsPaired (record { numbers = k.numbers.entries; names = k.slots.items }) };
+    ghost invariant = { λ k. IsPaired (record { numbers = k.numbers.entries; names = names_in k.slots.items })
+        × AreFreeFrom k.free k.slots.items };
 }
 
 // Returns true if a number has a slot and is free.
 fn is_free(slots: &[Slot], number: u32) -> bool
     ensures slot { result ≡ true → number < length slots.now }
-    ensures free { result ≡ true → get_or slots.now number None ≡ None }
+    ensures free { result ≡ true → get_or (names_in slots.now) number None ≡ None }
+    ensures used { result ≡ false → number < length slots.now → get_or (names_in slots.now) number None ≡ None → ⊥ }
 {
     match slots.get(number as usize) {
         None => false,
@@ -169,7 +173,7 @@ fn is_free(slots: &[Slot], number: u32) -> bool
 
 // Returns true if a number has a slot with this name.
 fn is_named(slots: &[Slot], number: u32, name: &TubeName) -> bool
-    ensures { result ≡ true → get_or slots.now number None ≡ Some name.now }
+    ensures { result ≡ true → get_or (names_in slots.now) number None ≡ Some name.now }
 {
     match slots.get(number as usize) {
         None => false,
@@ -183,7 +187,9 @@ fn is_named(slots: &[Slot], number: u32, name: &TubeName) -> bool
 // Changes the slot of a number. Returns the next free number that the slot named before.
 fn change(slots: &mut Vec<Slot, Global>, number: u32, slot: Slot) -> u32
     requires { number < length slots.old.items }
-    ensures items { slots.new.items ≡ put_at slots.old.items number slot }
+    ensures names { names_in slots.new.items ≡ put_at (names_in slots.old.items) number slot.name }
+    ensures nexts { nexts_in slots.new.items ≡ set (nexts_in slots.old.items) number slot.next }
+    ensures next { result ≡ get_or (nexts_in slots.old.items) number 0 }
     ensures as_many { length slots.new.items ≡ length slots.old.items }
 {
     mem::replace(&mut slots[number as usize], slot).next_free
@@ -192,8 +198,9 @@ fn change(slots: &mut Vec<Slot, Global>, number: u32, slot: Slot) -> u32
 // Adds a slot for the next number that has none, which the tube gets.
 fn append(slots: &mut Vec<Slot, Global>, name: &TubeName) -> Result<u32, NoMemory>
     requires { length slots.old.items ≤ 2 ^ 30 }
-    ensures given { IfOk result (λ n. IsGiven n name.now slots.old.items slots.new.items) }
-    ensures near { IfOk result (λ n. n ≤ length slots.old.items) }
+    ensures given { IfOk result (λ n. IsGiven n name.now (names_in slots.old.items) (names_in slots.new.items)) }
+    ensures last { IfOk result (λ n. n ≡ length slots.old.items) }
+    ensures longer { OnOk result (length slots.new.items ≡ suc (length slots.old.items)) }
     ensures same { OnErr result (slots.new.items ≡ slots.old.items) }
 {
     let number = slots.len();
@@ -212,9 +219,12 @@ fn append(slots: &mut Vec<Slot, Global>, name: &TubeName) -> Result<u32, NoMemor
 
 // Gives a free number to a tube: the one that was freed last, or the next one that has no slot.
 fn give(slots: &mut Vec<Slot, Global>, free: &mut u32, name: &TubeName) -> Result<u32, NoMemory>
-    requires { length slots.old.items ≤ 2 ^ 30 }
-    ensures given { IfOk result (λ n. IsGiven n name.now slots.old.items slots.new.items) }
+    requires few { length slots.old.items ≤ 2 ^ 30 }
+    requires chained { AreFreeFrom free.old slots.old.items }
+    ensures given { IfOk result (λ n. IsGiven n name.now (names_in slots.old.items) (names_in slots.new.items)) }
     ensures near { IfOk result (λ n. n ≤ length slots.old.items) }
+    ensures reused { IfOk result (λ n. n ≡ length slots.old.items → AreAllUsed (names_in slots.old.items)) }
+    ensures chained { AreFreeFrom free.new slots.new.items }
     ensures same { OnErr result (slots.new.items ≡ slots.old.items) }
 {
     let number = *free;
@@ -308,6 +318,8 @@ impl NumberedTubes {
             ≡ put_at self.old.names (number_in n) (Some name.now)) }
         ensures same { OnErr result (self.new ≡ self.old) }
         ensures near { IfOk result (λ n. number_in n ≤ length self.old.names) }
+        // A number that was never used is given only if no other is free.
+        ensures reused { IfOk result (λ n. number_in n ≡ length self.old.names → AreAllUsed self.old.names) }
         ensures paired { IsPaired self.new }
     {
         let Ok(()) = self.numbers.reserve(alloc, 1) else {
