@@ -1,5 +1,5 @@
 //! The journal of the steps that a core took.
-ghost use Rattle.std.specs.Prelude.{◌≡◌, ◌<◌, [], IfOk, IfSome, IsNone, IsSome, IsTrue, length, true};
+ghost use Rattle.std.specs.Prelude.{◌≡◌, ◌<◌, ◌≤◌, [], IfOk, IfSome, IsNone, IsSome, IsTrue, Option, length, true};
 ghost use Rattle.bq_job.specs.beside.StepBody.{has_body};
 ghost use Rattle.bq_job.specs.declared.step.Step.{Step};
 ghost use Rattle.bq_host.specs.Journals.{with_entry, without_entry};
@@ -15,10 +15,15 @@ pub trait CopySource {
     /// This source, as it was before, refused a copy of this step.
     ghost refused: { Self → Step → Type 0 };
 
+    /// This source, as it was before, was asked once for a copy of this step, returned this, and is
+    /// the second one now.
+    ghost asked: { Self → Step → Option Step → Self → Type 0 } = { λ _ _ _ _. Unit {0} };
+
     /// Returns a copy of the step, or `None` if it is refused.
     fn copy_of(&mut self, what: &Step) -> Option<Step>
         ensures same { IfSome result (λ step. step ≡ what.now) }
-        ensures refused { IsNone result → refused self.old what.now };
+        ensures refused { IsNone result → refused self.old what.now }
+        ensures asked { asked self.old what.now result self.new };
 }
 
 /// Copies that share the body of a put. A copy is refused only if `Arc` refuses another reference
@@ -70,13 +75,16 @@ impl Journal {
         })
     }
 
-    /// Returns a copy of the step from this source. Returns `None` if there is no room for its
-    /// entry, or if the source refuses the copy.
+    /// Returns a copy of the step from this source, which is asked for it once. Returns `None` if
+    /// there is no room for its entry, and then asks for none, or if the source refuses the copy.
     pub fn copy<S: CopySource>(&self, source: &mut S, what: &Step) -> Option<Step>
         ensures same { IfSome result (λ step. step ≡ what.now) }
         ensures room { IsSome result → length self.now.entries < self.now.capacity }
         ensures refused { IsNone result → length self.now.entries < self.now.capacity
             → S.refused source.old what.now }
+        ensures asked { length self.now.entries < self.now.capacity
+            → S.asked source.old what.now result source.new }
+        ensures unasked { self.now.capacity ≤ length self.now.entries → source.new ≡ source.old }
     {
         if self.entries.len() >= self.capacity {
             return None;
