@@ -1,5 +1,5 @@
 -- What the link of a seat to a hub did in an action.
-use Rattle.std.proofs.Common.{◌∙◌, ◌≡◌, ◌∷◌, ℕ, Bool, true, false, List, [], ap, append-nil, inl, inr, refl, subst, sym}
+use Rattle.std.proofs.Common.{◌∙◌, ◌≡◌, ◌⊎◌, ◌∷◌, ℕ, Bool, true, false, List, [], ap, append-nil, inl, inr, refl, subst, sym}
 use Rattle.bq_job.specs.declared.answer.Answer.{Answer}
 use Rattle.bq_job.specs.declared.step.Step.{Step}
 use Rattle.bq_job.specs.machine.Machine.{Machine}
@@ -8,7 +8,8 @@ use Rattle.bq_line.specs.Carried.{HasGone, MayCall}
 use Rattle.bq_line.specs.Links.{Calls, TakesFurther, TakesInPlace}
 use Rattle.bq_line.proofs.CarriedLemmas.{gone}
 use Rattle.bq_host.specs.Clocks.{Gives}
-use Rattle.bq_host.specs.Hubs.{KeepsFresh, OnlyMoves, WentAt}
+use Rattle.bq_host.specs.Hubs.{KeepsFresh, OnlyMoves, WentAt, state_of}
+use Rattle.bq_host.specs.MailStates.{IsHeldUp, waiting}
 use Rattle.bq_host.specs.declared.{hub.Hub.Hub, hub_seat.HubSeat.HubSeat}
 use Rattle.bq_host.proofs.HubLemmas.{fresh_on, went_none, went_then}
 
@@ -69,3 +70,24 @@ module _ {C K : Type 0} (machine : K → Machine) (compared : K → ℕ) (given 
       fresh_on given first.hub.now old.hub.now new.hub.now w.3 m,
     ),
   )
+
+  -- The mail of a seat is full, and an answer waits for room in it.
+  abbrev pub LinkRefused : HubSeat C K → Step → HubSeat C K → Type 0
+  LinkRefused first step last = (last.hub.ghost_name ≡ first.hub.ghost_name) × IsHeldUp (state_of machine compared last.hub.now)
+
+  abbrev pub LinkHadNone : HubSeat C K → HubSeat C K → Type 0
+  LinkHadNone first last =
+      (last.hub.ghost_name ≡ first.hub.ghost_name)
+      × ((waiting first.seat (state_of machine compared first.hub.now) ≡ []) ⊎ IsHeldUp (state_of machine compared last.hub.now))
+
+  -- What the link lacked the hub lacks, whose link it is by its ghost name.
+  pub hub_refused : (first last : HubSeat C K) (hub : Hub C K) → (first.hub.ghost_name ≡ last.hub.ghost_name → hub ≡ last.hub.now)
+      → (step : Step) × LinkRefused first step last → IsHeldUp (state_of machine compared hub)
+  hub_refused first last hub is r = subst (λ (h : Hub C K). IsHeldUp (state_of machine compared h)) (sym (is (sym r.1.0))) r.1.1
+
+  pub hub_had_none : (first last : HubSeat C K) (hub : Hub C K) → (first.hub.ghost_name ≡ last.hub.ghost_name → hub ≡ last.hub.now)
+      → LinkHadNone first last
+      → (waiting first.seat (state_of machine compared first.hub.now) ≡ []) ⊎ IsHeldUp (state_of machine compared hub)
+  hub_had_none first last hub is n =
+      subst (λ (h : Hub C K). (waiting first.seat (state_of machine compared first.hub.now) ≡ []) ⊎ IsHeldUp (state_of machine compared h))
+      (sym (is (sym n.0))) n.1

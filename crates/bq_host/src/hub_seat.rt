@@ -1,12 +1,12 @@
 //! A seat's link to its hub, and one action of a seat at it.
-ghost use Rattle.std.specs.Prelude.{◌≡◌, [], List};
+ghost use Rattle.std.specs.Prelude.{◌≡◌, ◌⊎◌, [], List};
 ghost use Rattle.bq_job.specs.declared.answer.Answer.{Answer};
 ghost use Rattle.bq_job.specs.declared.step.Step.{Step};
 ghost use Rattle.bq_line.specs.Carried.{CarriedPart};
 ghost use Rattle.bq_line.specs.Links.{Calls};
 ghost use Rattle.bq_line.specs.Streams.{StaysOver};
 ghost use Rattle.bq_line.specs.Tending.{GoesOn, IsPlaced, MayEndAt, door_seen};
-ghost use Rattle.bq_host.specs.MailStates.{IsInOrder};
+ghost use Rattle.bq_host.specs.MailStates.{IsHeldUp, IsInOrder, waiting};
 ghost use Rattle.bq_host.specs.Hubs.{IsInOrderFor, KeepsFresh, WentAt, state_of};
 
 use crate::hub::Hub;
@@ -33,6 +33,14 @@ impl<'a, C: Clock + Drop, K: QueueCore + Drop> Link for HubSeat<'a, C, K> {
     ghost went = { λ first submitted taken last. (last.hub.ghost_name ≡ first.hub.ghost_name) × (last.seat ≡ first.seat) ×
         WentAt K.machine K.comparisons C.given first.seat first.hub.now submitted taken last.hub.now ×
         KeepsFresh C.given first.hub.now last.hub.now };
+
+    // An answer waits for room in the mail of its seat.
+    ghost refused = { λ first step last. (last.hub.ghost_name ≡ first.hub.ghost_name) ×
+        IsHeldUp (state_of K.machine K.comparisons last.hub.now) };
+
+    // No answer waits for this seat, or one waits for room in the mail of its seat.
+    ghost had_none = { λ first last. (last.hub.ghost_name ≡ first.hub.ghost_name) ×
+        ((waiting first.seat (state_of K.machine K.comparisons first.hub.now) ≡ []) ⊎ IsHeldUp (state_of K.machine K.comparisons last.hub.now)) };
 
     fn submit(&mut self, step: &mut Step) -> bool {
         self.hub.submit(self.seat, step)
@@ -65,6 +73,11 @@ pub fn attend<L: Line + Drop, D: Door<Line = L>, C: Clock + Drop, K: QueueCore +
     // nothing and took nothing.
     ensures progress { MayEndAt result attendant.old.place }
     ensures still { (result ≡ Progress.Moved → ⊥) → Calls (WentAt K.machine K.comparisons C.given seat) hub.old [] [] hub.new }
+    // It reports a step that was not accepted only if an answer waits for room in the mail of its seat,
+    // and that no answer has come only if there was none, or one waits for room.
+    ensures refused { result ≡ Progress.NotAccepted → IsHeldUp (state_of K.machine K.comparisons hub.new) }
+    ensures none { result ≡ Progress.NoMail → (waiting seat (state_of K.machine K.comparisons hub.old) ≡ [])
+        ⊎ IsHeldUp (state_of K.machine K.comparisons hub.new) }
     ensures went { let at = door_seen D.is_out D.is_at_end D.lines_over in
         GoesOn (WentAt K.machine K.comparisons C.given seat) hub.old hub.new L.seen attendant.old (at door.old) attendant.new (at door.new) }
     ensures fresh { KeepsFresh C.given hub.old hub.new }
@@ -90,6 +103,11 @@ pub fn act<L: Line, C: Clock + Drop, K: QueueCore + Drop>(
     ensures order { IsInOrder (state_of K.machine K.comparisons hub.new) }
     ensures carried { (submitted : List Step) × (taken : List Answer) × WentAt K.machine K.comparisons C.given seat hub.old submitted taken hub.new ×
         CarriedPart result machine.old (L.seen line.old) action.old sent.old machine.new (L.seen line.new) action.new sent.new submitted taken }
+    // It reports a step that was not accepted only if an answer waits for room in the mail of its seat,
+    // and that no answer has come only if there was none, or one waits for room.
+    ensures refused { result ≡ Progress.NotAccepted → IsHeldUp (state_of K.machine K.comparisons hub.new) }
+    ensures none { result ≡ Progress.NoMail → (waiting seat (state_of K.machine K.comparisons hub.old) ≡ [])
+        ⊎ IsHeldUp (state_of K.machine K.comparisons hub.new) }
     ensures fresh { KeepsFresh C.given hub.old hub.new }
     ensures stays { StaysOver L.lies_over line.old line.new }
 {
