@@ -13,7 +13,7 @@ ghost use Rattle.bq_event_loop.specs.Listings.{enqueued};
 ghost use Rattle.bq_event_loop.specs.Sleeping.{visited_by};
 
 use crate::seat_queue::SeatQueue;
-use crate::turns::{Began, News, SoFar, Stands, Turn, Turns, TurnsFault};
+use crate::turns::{Began, News, SoFar, Turn, Turns, TurnsFault};
 use bq_core_api::QueueCore;
 use bq_host::Mail;
 use bq_line::Door;
@@ -239,9 +239,8 @@ impl Order {
     {
         let seat = self.visit.seat();
         let took = self.pace.note(part, seat, self.reading);
-        // Mostly the visit ends so, and what it had left makes no difference.
-        if matches!(news.stands, Stands::Rests) {
-            self.let_rest(seats, mails, seat, news.still);
+        // Mostly the visit ends so: nothing moves at its seat, which leaves the queue.
+        if is_this(news.still, seat) {
             return self.begin_next(seats, mails, part);
         }
         self.visit.note(news.progress, took);
@@ -356,7 +355,6 @@ impl Order {
     ) -> Option<Turn>
         requires known { AreKnownTo L.Line self.old.queue (Some self.old.visit.seat)
             seats.now.value.items mails.now.value.items }
-        requires still { IsStillSeat L.Line news.now.still seats.now.value.items mails.now.value.items }
         ensures known { AreKnownTo L.Line self.new.queue (visited_by self.new.stage self.new.visit)
             seats.now.value.items mails.now.value.items }
         ensures acts { IfSome result (IsListedIn (is_listed self.new.queue (visited_by self.new.stage self.new.visit))) }
@@ -369,7 +367,7 @@ impl Order {
                 self.stage = Stage::Visit(part);
                 Some(visit.turn())
             }
-            Some(pause) => self.end_visit(seats, mails, visit.seat(), part, pause, news.still),
+            Some(pause) => self.end_visit(seats, mails, visit.seat(), part, pause),
         }
     }
 
@@ -381,10 +379,8 @@ impl Order {
         seat: usize,
         part: Part,
         pause: Pause,
-        still: Option<usize>,
     ) -> Option<Turn>
         requires known { AreKnownTo L.Line self.old.queue (Some seat) seats.now.value.items mails.now.value.items }
-        requires still { IsStillSeat L.Line still seats.now.value.items mails.now.value.items }
         ensures known { AreKnownTo L.Line self.new.queue (visited_by self.new.stage self.new.visit)
             seats.now.value.items mails.now.value.items }
         ensures acts { IfSome result (IsListedIn (is_listed self.new.queue (visited_by self.new.stage self.new.visit))) }
@@ -406,30 +402,11 @@ impl Order {
                 self.stage = Stage::Visits(part);
                 None
             }
-            Pause::Rests | Pause::IsDone => {
-                self.let_rest(seats, mails, seat, still);
+            Pause::Rests => {
+                self.put_back(seats, mails, seat);
                 self.stage = Stage::Visits(part);
                 None
             }
-        }
-    }
-
-    // Lets a seat rest if nothing moves at it. Otherwise it is visited again.
-    #[inline(always)]
-    fn let_rest<L: Line>(
-        &mut self,
-        seats: &Snapshot<Vec<Attendant<L>, Global>>,
-        mails: &Snapshot<Vec<Mail, Global>>,
-        seat: usize,
-        still: Option<usize>,
-    )
-        requires known { AreKnownTo L.Line self.old.queue (Some seat) seats.now.value.items mails.now.value.items }
-        requires still { IsStillSeat L.Line still seats.now.value.items mails.now.value.items }
-        ensures known { AreKnownTo L.Line self.new.queue None seats.now.value.items mails.now.value.items }
-        ensures seats { self.new.queue.seats ≡ self.old.queue.seats }
-    {
-        if !is_this(still, seat) {
-            self.enqueue(seat);
         }
     }
 

@@ -325,7 +325,7 @@ fn goes_with(extent: Extent, stands: Stands) -> bool
 {
     match stands {
         Stands::Between => false,
-        Stands::Done | Stands::Rests | Stands::Awaits => matches!(extent, Extent::Action),
+        Stands::Done | Stands::Awaits => matches!(extent, Extent::Action),
         Stands::Reads => matches!(extent, Extent::Action | Extent::Read | Extent::Command),
         Stands::Submits => matches!(extent, Extent::Action | Extent::Step | Extent::Command),
         Stands::Writes => matches!(extent, Extent::Action | Extent::Command | Extent::Answer),

@@ -61,8 +61,6 @@ pub enum Stands {
     Between,
     /// Nothing: no more connections come.
     Done,
-    /// Nothing moves at it until its connection is ready or it has mail: it is the still seat.
-    Rests,
     /// It reads a command, and no bytes have come as far as its connection knows.
     Awaits,
     /// It reads a command.

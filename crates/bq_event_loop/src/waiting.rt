@@ -101,7 +101,7 @@ fn note_seat<L: Line + Drop, D: Door<Line = L>>(
     ensures rest { news.new ≡ record news.old { stands = news.new.stands; tries_again = news.new.tries_again; still = news.new.still } }
 {
     if row.rests(seat) {
-        news.stands = Stands::Rests;
+        news.stands = Stands::Awaits;
         news.tries_again = false;
         news.still = Some(seat);
     } else {
@@ -148,12 +148,7 @@ fn note_rest<L: Line + Drop, D: Door<Line = L>>(
 {
     row.hand_on(seat);
     news.still = still_seat(row, mails, seat);
-    if news.still.is_some() {
-        news.stands = Stands::Rests;
-        news.tries_again = false;
-    } else {
-        news.tries_again = row.tries_again(seat);
-    }
+    news.tries_again = news.still.is_none() && row.tries_again(seat);
 }
 
 // Returns true if a seat that stands so may rest: it has nothing to do, or nothing moved.

@@ -86,14 +86,12 @@ impl Share {
 pub enum Pause {
     /// This part of the visit is done.
     PartDone,
-    /// Nothing moves until its connection is ready or it has mail.
+    /// Nothing moves now, and what its connection held back was sent.
     Rests,
     /// It can act again at once.
     GoesOn,
     /// Its connection has ended, and it checks for the next one.
     IsFree,
-    /// No more connections come, and this was submitted.
-    IsDone,
 }
 
 /// A visit that is under way.
@@ -196,8 +194,7 @@ impl Visit {
     {
         match stands {
             Stands::Between => Some(Pause::IsFree),
-            Stands::Done => Some(Pause::IsDone),
-            Stands::Rests | Stands::Awaits => Some(Pause::Rests),
+            Stands::Done | Stands::Awaits => Some(Pause::Rests),
             _ => self.end_on_line(stands, tries_again),
         }
     }
@@ -298,7 +295,7 @@ fn is_writing(stands: Stands) -> bool
 // Returns true if a part that is not the last ends before the next action.
 fn ends_part(part: Part, stands: Stands) -> bool {
     match stands {
-        Stands::Between | Stands::Done | Stands::Rests | Stands::Awaits | Stands::Writes => true,
+        Stands::Between | Stands::Done | Stands::Awaits | Stands::Writes => true,
         Stands::Submits => matches!(part, Part::Reads),
         Stands::Reads => !matches!(part, Part::Reads),
         Stands::ReadsOn | Stands::Waits | Stands::Other => false,
