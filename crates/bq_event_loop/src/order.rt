@@ -362,7 +362,7 @@ impl Order {
         ensures seats { self.new.queue.seats ≡ self.old.queue.seats }
     {
         let visit = self.visit;
-        match visit.pause(news.stands, news.tries_again) {
+        match visit.pause(news.stands) {
             None => {
                 self.stage = Stage::Visit(part);
                 Some(visit.turn())
@@ -402,7 +402,7 @@ impl Order {
                 self.stage = Stage::Visits(part);
                 None
             }
-            Pause::Rests => {
+            Pause::Stuck => {
                 self.put_back(seats, mails, seat);
                 self.stage = Stage::Visits(part);
                 None

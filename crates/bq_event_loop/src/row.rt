@@ -43,15 +43,6 @@ impl<L: Line + Drop, D: Door<Line = L>> Row<L, D> {
         }
     }
 
-    /// Returns true if a seat has to read or write again although nothing moved and nothing will be
-    /// reported.
-    pub fn tries_again(&self, seat: usize) -> bool {
-        match self.seats.get(seat) {
-            Some(seat) => seat.tries_again(),
-            None => false,
-        }
-    }
-
     /// Returns true if every seat is done.
     pub fn are_done(&self) -> bool
         ensures { result ≡ true → AreDone self.now.seats.items }

@@ -78,7 +78,6 @@ pub fn serve<
     let mut news = News {
         progress: Progress::NothingToDo,
         stands: Stands::Other,
-        tries_again: false,
         still: None,
         due: Some(0),
         elapsed: core.timed.time.clock.elapsed(),

@@ -106,9 +106,6 @@ pub struct News {
     pub progress: Progress,
     /// What the seat of the last turn does next.
     pub stands: Stands,
-    /// Whether that seat has to read or write again although nothing moved and nothing will be
-    /// reported.
-    pub tries_again: bool,
     /// The seat of the last turn if nothing moves at it until its connection is ready or it has
     /// mail.
     pub still: Option<usize>,

@@ -98,11 +98,10 @@ fn note_seat<L: Line + Drop, D: Door<Line = L>>(
     ensures keeps { KeepsRow L.Line D.Door row.old row.new }
     ensures only { ChangesOnly seat row.old.seats.items row.new.seats.items }
     ensures still { IsStillSeat L.Line news.new.still row.new.seats.items mails.now.items }
-    ensures rest { news.new ≡ record news.old { stands = news.new.stands; tries_again = news.new.tries_again; still = news.new.still } }
+    ensures rest { news.new ≡ record news.old { stands = news.new.stands; still = news.new.still } }
 {
     if row.rests(seat) {
         news.stands = Stands::Awaits;
-        news.tries_again = false;
         news.still = Some(seat);
     } else {
         note_other(row, mails, seat, news);
@@ -120,13 +119,12 @@ fn note_other<L: Line + Drop, D: Door<Line = L>>(
     ensures keeps { KeepsRow L.Line D.Door row.old row.new }
     ensures only { ChangesOnly seat row.old.seats.items row.new.seats.items }
     ensures still { IsStillSeat L.Line news.new.still row.new.seats.items mails.now.items }
-    ensures rest { news.new ≡ record news.old { stands = news.new.stands; tries_again = news.new.tries_again; still = news.new.still } }
+    ensures rest { news.new ≡ record news.old { stands = news.new.stands; still = news.new.still } }
 {
     news.stands = row.stands(seat);
     if may_rest(news.stands, news.progress) {
         note_rest(row, mails, seat, news);
     } else {
-        news.tries_again = false;
         news.still = None;
     }
 }
@@ -144,11 +142,10 @@ fn note_rest<L: Line + Drop, D: Door<Line = L>>(
     ensures keeps { KeepsRow L.Line D.Door row.old row.new }
     ensures only { ChangesOnly seat row.old.seats.items row.new.seats.items }
     ensures still { IsStillSeat L.Line news.new.still row.new.seats.items mails.now.items }
-    ensures rest { news.new ≡ record news.old { stands = news.new.stands; tries_again = news.new.tries_again; still = news.new.still } }
+    ensures rest { news.new ≡ record news.old { stands = news.new.stands; still = news.new.still } }
 {
     row.hand_on(seat);
     news.still = still_seat(row, mails, seat);
-    news.tries_again = news.still.is_none() && row.tries_again(seat);
 }
 
 // Returns true if a seat that stands so may rest: it has nothing to do, or nothing moved.

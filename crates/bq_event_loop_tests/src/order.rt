@@ -66,7 +66,7 @@ impl Stood {
         } else {
             matches!(news.stands, Stands::Between)
         };
-        self.tries_again = !looked && news.tries_again;
+        self.tries_again = !looked && news.still.is_none() && news.stands != Stands::Submits;
     }
 }
 

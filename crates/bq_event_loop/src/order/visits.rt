@@ -86,8 +86,9 @@ impl Share {
 pub enum Pause {
     /// This part of the visit is done.
     PartDone,
-    /// Nothing moves now, and what its connection held back was sent.
-    Rests,
+    /// Nothing moved, and what its connection held back was sent. The system is asked before the
+    /// seat is visited again.
+    Stuck,
     /// It can act again at once.
     GoesOn,
     /// Its connection has ended, and it checks for the next one.
@@ -167,12 +168,12 @@ impl Visit {
 
     /// Returns the reason for a pause, or `None` if the visit goes on: some actions are left, and
     /// in the last part it begins no further command once it is over.
-    pub fn pause(&self, stands: Stands, tries_again: bool) -> Option<Pause>
+    pub fn pause(&self, stands: Stands) -> Option<Pause>
         ensures left { IsNone result → self.now.left ≡ 0 → ⊥ }
         ensures over { IsNone result → self.now.part ≡ Part.Answers → self.now.is_over ≡ true → stands ≡ Stands.Writes }
     {
         match self.part {
-            Part::Answers => self.end(stands, tries_again),
+            Part::Answers => self.end(stands),
             part => self.end_of_part(part, stands),
         }
     }
@@ -188,24 +189,24 @@ impl Visit {
     }
 
     // The same in the last part, in which the visit may do everything.
-    fn end(&self, stands: Stands, tries_again: bool) -> Option<Pause>
+    fn end(&self, stands: Stands) -> Option<Pause>
         ensures left { IsNone result → self.now.left ≡ 0 → ⊥ }
         ensures over { IsNone result → self.now.is_over ≡ true → stands ≡ Stands.Writes }
     {
         match stands {
             Stands::Between => Some(Pause::IsFree),
-            Stands::Done | Stands::Awaits => Some(Pause::Rests),
-            _ => self.end_on_line(stands, tries_again),
+            Stands::Done | Stands::Awaits => Some(Pause::Stuck),
+            _ => self.end_on_line(stands),
         }
     }
 
     // The same if its connection is open and bytes have come, or it does not read a command.
-    fn end_on_line(&self, stands: Stands, tries_again: bool) -> Option<Pause>
+    fn end_on_line(&self, stands: Stands) -> Option<Pause>
         ensures left { IsNone result → self.now.left ≡ 0 → ⊥ }
         ensures over { IsNone result → self.now.is_over ≡ true → stands ≡ Stands.Writes }
     {
         if self.is_stuck() {
-            Some(self.rest(tries_again))
+            Some(Pause::Stuck)
         } else if self.is_used_up(stands) {
             Some(Pause::GoesOn)
         } else {
@@ -227,18 +228,8 @@ impl Visit {
         false
     }
 
-    // If nothing moves, it rests, unless a step was rejected and is submitted again, or a call of
-    // the connection was interrupted and is made again.
-    fn rest(&self, tries_again: bool) -> Pause {
-        if self.last == Progress::NotAccepted || tries_again {
-            Pause::GoesOn
-        } else {
-            Pause::Rests
-        }
-    }
-
     // Returns true if nothing moves now. A seat whose answer is outstanding alternately polls its
-    // mail and reads: if neither moves anything, it rests.
+    // mail and reads: if neither moves anything, it is stuck.
     fn is_stuck(&self) -> bool {
         match self.last {
             Progress::Moved | Progress::Part => false,
