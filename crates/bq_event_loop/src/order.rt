@@ -6,11 +6,12 @@
 //! first, then all steps are taken, and then all answers are written, so that each part finds its
 //! code and data in the processor's caches. Seats that were in the queue before come last. Seats that
 //! are woken during the last part are visited in the same round, unless a visit was cut short.
-ghost use Rattle.std.specs.Prelude.{◌≡◌, ◌⊎◌, ℕ, true, false, None, Some, IfOk, IfSome};
+ghost use Rattle.std.specs.Prelude.{◌≡◌, ◌⊎◌, ℕ, [], true, false, None, Some, IfOk, IfSome};
 ghost use Rattle.bq_event_loop.specs.Known.{AreIdle, AreKnownTo, AreSameLists, IsFreeSeat, IsListedIn, IsNextOf, IsStillSeat, KnowsAll, is_listed};
 ghost use Rattle.bq_event_loop.specs.Known.{is_looking};
 ghost use Rattle.bq_event_loop.specs.Listings.{enqueued};
 ghost use Rattle.bq_event_loop.specs.Sleeping.{visited_by};
+ghost use Rattle.bq_event_loop.specs.declared.order.Stage.TheVariants as stages;
 
 use crate::seat_queue::SeatQueue;
 use crate::turns::{Began, News, SoFar, Turn, Turns, TurnsFault};
@@ -333,6 +334,9 @@ impl Order {
         ensures lists { AreSameLists self.old.queue self.new.queue }
         ensures idle { visited_by self.new.stage self.new.visit ≡ None }
         ensures turn { (result ≡ Turn.Nothing) ⊎ (result ≡ Turn.Time) }
+        ensures once { result ≡ Turn.Nothing → (self.old.may_repeat ≡ true) × (self.new.may_repeat ≡ false) }
+        ensures woken { result ≡ Turn.Time → (self.old.queue.queue ≡ []) ⊎ (self.old.may_repeat ≡ false) }
+        ensures round { result ≡ Turn.Time → self.new.stage ≡ stages.Control }
     {
         if self.queue.is_empty() || !self.may_repeat {
             self.stage = Stage::Control;

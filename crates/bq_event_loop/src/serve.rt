@@ -1,5 +1,5 @@
 //! Many seats, which one thread serves in any order.
-ghost use Rattle.std.specs.Prelude.{◌≡◌, ◌<◌, ◌≤◌, true, false, [], length, slice_index_or};
+ghost use Rattle.std.specs.Prelude.{◌≡◌, ◌⊎◌, ◌<◌, ◌≤◌, ◌&&◌, not, ℕ, true, false, [], length, slice_index_or};
 ghost use Rattle.bq_host.specs.MailStates.{IsInOrder};
 ghost use Rattle.bq_event_loop.specs.Known.{ChangesOnly, ChangesOnlyIn, KeepsAll};
 ghost use Rattle.bq_event_loop.specs.KnownTurns.{AreKnownBy};
@@ -9,9 +9,13 @@ ghost use Rattle.bq_event_loop.specs.Rows.{AreDone, AreTended, KeepsRow};
 ghost use Rattle.bq_event_loop.specs.Serving.{AreReady, AreReadyFor, ControlWent, IsServing, LoopWent, SeatActed};
 ghost use Rattle.bq_event_loop.specs.SoFar.{began_with};
 ghost use Rattle.bq_event_loop.specs.Sleeping.{IsWaitFor, stands_of};
+ghost use Rattle.bq_event_loop.specs.Still.{IsStill};
 ghost use Rattle.bq_host.specs.WakeLists.{Wakes, none_waits};
 ghost use Rattle.bq_event_loop.specs.declared.control_turns.Stage.TheVariants as stages;
+ghost use Rattle.bq_line.specs.Tending.{is_polling, polls_by};
 ghost use Rattle.bq_line.specs.declared.attendant.Attendant.{Attendant};
+ghost use Rattle.bq_seat.specs.SeatParts.{would_read};
+ghost use Rattle.bq_seat.specs.declared.machine.Action.{Action};
 ghost use Rattle.bq_line.specs.declared.attendant.LinePlace.TheVariants as places;
 
 use crate::control_turns::ControlTurns;
@@ -31,7 +35,7 @@ use bq_line::buffers::Buffers;
 use bq_line::clock::Clock;
 use bq_line::control_line::ControlInput;
 use bq_line::line::{Line, ReadBuffer};
-use bq_seat::{Does, PIECE_ROOM};
+use bq_seat::{Does, NextAction, PIECE_ROOM, SeatMachine};
 use std::alloc::Global;
 use std::snapshot::Snapshot;
 
@@ -265,6 +269,10 @@ fn may_act<L: Line + Drop, D: Door<Line = L>>(
 ) -> bool
     ensures within { result ≡ true → seat < length row.now.seats.items }
     ensures line { result ≡ true → (a : Attendant L) → (slice_index_or row.now.seats.items seat a).place ≡ places.Between → ⊥ }
+    // Otherwise nothing moves at it, as far as a command goes.
+    ensures idle { result ≡ false → extent ≡ Extent.Command → seat < length row.now.seats.items → (a : Attendant L)
+        → ((slice_index_or row.now.seats.items seat a).place ≡ places.Between)
+        ⊎ IsStill L.Line (slice_index_or row.now.seats.items seat a) (slice_index_or mails.now.items seat []) }
 {
     match row.seats.get(seat) {
         Some(at) => acts(at, extent, mails, seat),
@@ -282,6 +290,8 @@ fn acts<L: Line + Drop>(
     seat: usize,
 ) -> bool
     ensures line { result ≡ true → at.now.place ≡ places.Between → ⊥ }
+    ensures idle { result ≡ false → extent ≡ Extent.Command → (at.now.place ≡ places.Between)
+        ⊎ IsStill L.Line at.now (slice_index_or mails.now.items seat []) }
 {
     if extent == Extent::Command && has_command(at) {
         return true;
@@ -296,7 +306,9 @@ fn waits_on<L: Line + Drop>(
     stands: Stands,
     mails: &Vec<Mail, Global>,
     seat: usize,
-) -> bool {
+) -> bool
+    ensures { result ≡ true → IsStill L.Line at.now (slice_index_or mails.now.items seat []) }
+{
     matches!(stands, Stands::Waits) && is_still(at, has_no_mail(mails, seat))
 }
 
@@ -305,22 +317,34 @@ fn waits_on<L: Line + Drop>(
 #[inline(always)]
 fn has_command<L: Line + Drop>(seat: &Attendant<L>) -> bool
     ensures line { result ≡ true → seat.now.place ≡ places.Between → ⊥ }
+    ensures polls { result ≡ true → is_polling seat.now.place ≡ false }
+    ensures none { result ≡ false → (line : L) (action : Action) (sent : ℕ) → seat.now.place ≡ places.On line action sent
+        → (action ≡ Action.PollMail) ⊎ (L.may_give line ≡ false) }
 {
     match &seat.place {
-        LinePlace::On(line, action, _) => {
-            if action.is_read() {
-                line.may_give()
-            } else {
-                !matches!(action.does(), Does::PollMail)
-            }
-        }
+        LinePlace::On(line, action, _) => has_command_on(line, action),
         _ => false,
+    }
+}
+
+// The same for a seat with this connection and this next action.
+#[inline(always)]
+fn has_command_on<L: Line>(line: &L, action: &NextAction) -> bool
+    ensures polls { result ≡ true → polls_by action.now ≡ false }
+    ensures none { result ≡ false → (action.now ≡ Action.PollMail) ⊎ (L.may_give line.now ≡ false) }
+{
+    match action.does() {
+        Does::Read => line.may_give(),
+        Does::PollMail => false,
+        Does::Submit | Does::Write | Does::LineOver(_) | Does::Stray => true,
     }
 }
 
 // Returns true if a seat that stands so acts in a turn of this extent.
 fn goes_with(extent: Extent, stands: Stands) -> bool
-    ensures { result ≡ true → stands ≡ Stands.Between → ⊥ }
+    ensures line { result ≡ true → stands ≡ Stands.Between → ⊥ }
+    ensures command { result ≡ false → extent ≡ Extent.Command
+        → (stands ≡ Stands.Between) ⊎ (stands ≡ Stands.Done) ⊎ (stands ≡ Stands.Awaits) }
 {
     match stands {
         Stands::Between => false,
@@ -425,8 +449,24 @@ fn goes_on<L: Line + Drop, D: Door<Line = L>>(
 // Returns true if a seat takes an answer next. That to a `reserve` that waits was looked for when its
 // step was submitted, so that it comes later.
 #[inline(always)]
-fn takes_next<L: Line + Drop>(seat: &Attendant<L>) -> bool {
-    seat.polls_mail() && !seat.machine.would_read()
+fn takes_next<L: Line + Drop>(seat: &Attendant<L>) -> bool
+    ensures { result ≡ (is_polling seat.now.place && not (would_read seat.now.machine)) }
+{
+    match &seat.place {
+        LinePlace::On(_, action, _) => takes_on(action, &seat.machine),
+        _ => false,
+    }
+}
+
+// The same for a seat with a connection and this next action.
+#[inline(always)]
+fn takes_on(action: &NextAction, machine: &SeatMachine) -> bool
+    ensures { result ≡ (polls_by action.now && not (would_read machine.now)) }
+{
+    match action.does() {
+        Does::PollMail => !machine.would_read(),
+        Does::Submit | Does::Read | Does::Write | Does::LineOver(_) | Does::Stray => false,
+    }
 }
 
 fn act<L: Line + Drop, D: Door<Line = L>, C: Clock + Drop, K: QueueCore + Drop>(

@@ -79,6 +79,7 @@ pub fn has_no_mail(mails: &Vec<Mail, Global>, seat: usize) -> bool
 pub fn stands_of<L: Line + Drop>(seat: &Attendant<L>) -> Stands
     ensures between { (result ≡ Stands.Between) ↔ (seat.now.place ≡ LinePlace.Between) }
     ensures done { (result ≡ Stands.Done) ↔ (seat.now.place ≡ LinePlace.Done) }
+    ensures still { (result ≡ Stands.Done) ⊎ (result ≡ Stands.Awaits) → (mail : List Answer) → IsStill L.Line seat.now mail }
 {
     match &seat.place {
         LinePlace::On(line, action, _) => stands_on(line, action, &seat.machine),
@@ -91,6 +92,8 @@ pub fn stands_of<L: Line + Drop>(seat: &Attendant<L>) -> Stands
 fn stands_on<L: Line>(line: &L, action: &NextAction, machine: &SeatMachine) -> Stands
     ensures between { result ≡ Stands.Between → ⊥ }
     ensures done { result ≡ Stands.Done → ⊥ }
+    ensures awaits { result ≡ Stands.Awaits → (mail : List Answer)
+        → IsStillOn action.now machine.now (L.may_give line.now) (L.may_take line.now) mail }
 {
     match action.does() {
         Does::Read => read_stands(line, machine),
@@ -104,6 +107,7 @@ fn stands_on<L: Line>(line: &L, action: &NextAction, machine: &SeatMachine) -> S
 fn poll_stands(machine: &SeatMachine) -> Stands
     ensures between { result ≡ Stands.Between → ⊥ }
     ensures done { result ≡ Stands.Done → ⊥ }
+    ensures awaits { result ≡ Stands.Awaits → ⊥ }
 {
     if machine.would_read() {
         Stands::Waits
@@ -115,6 +119,8 @@ fn poll_stands(machine: &SeatMachine) -> Stands
 fn read_stands<L: Line>(line: &L, machine: &SeatMachine) -> Stands
     ensures between { result ≡ Stands.Between → ⊥ }
     ensures done { result ≡ Stands.Done → ⊥ }
+    ensures gives { result ≡ Stands.Awaits → L.may_give line.now ≡ false }
+    ensures alone { result ≡ Stands.Awaits → ReadsWith false machine.now }
 {
     if machine.has_outstanding() {
         Stands::ReadsOn

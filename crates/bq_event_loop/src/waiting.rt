@@ -149,7 +149,12 @@ fn note_rest<L: Line + Drop, D: Door<Line = L>>(
 }
 
 // Returns true if a seat that stands so may rest: it has nothing to do, or nothing moved.
-fn may_rest(stands: Stands, progress: Progress) -> bool {
+fn may_rest(stands: Stands, progress: Progress) -> bool
+    ensures rests { result ≡ true → (stands ≡ Stands.Done) ⊎ (stands ≡ Stands.Awaits) ⊎ (stands ≡ Stands.Waits)
+        ⊎ (progress ≡ Progress.Moved → ⊥) }
+    ensures idle { result ≡ false → (stands ≡ Stands.Done → ⊥) × (stands ≡ Stands.Awaits → ⊥) × (stands ≡ Stands.Waits → ⊥) }
+    ensures moved { result ≡ false → progress ≡ Progress.Moved }
+{
     match stands {
         Stands::Done | Stands::Awaits | Stands::Waits => true,
         _ => !progress.has_moved(),
