@@ -310,18 +310,10 @@ fn is_busy<T: Turns>(turns: &mut T, doors: &Doors, news: &News, reads: Option<Co
     if let Some(0) = news.due {
         return true;
     }
-    if owes(news.control) {
+    if news.control == ControlStands::Owes {
         return true;
     }
     reads.is_some()
-}
-
-// Returns true if the control line owes a step.
-fn owes(control: ControlStands) -> bool
-    ensures none { result ≡ false → control ≡ ControlStands.Owes → ⊥ }
-    ensures owed { result ≡ true → control ≡ ControlStands.Owes }
-{
-    matches!(control, ControlStands::Owes)
 }
 
 // Notes what the system reported: connections that are ready, or a client that may have connected.
