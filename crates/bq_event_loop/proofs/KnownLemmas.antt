@@ -5,7 +5,7 @@ use Rattle.std.proofs.Common.{◌∙◌, subst, arith}
 use Rattle.std.specs.Option.{option_to_list}
 use Rattle.std.specs.Prelude.{slice_get}
 use Rattle.std.proofs.Math.Bool.{or-false}
-use Rattle.std.proofs.lemmas.Bool.{eq-eqb, eqb-true, lt-ltb}
+use Rattle.std.proofs.lemmas.Bool.{eq-eqb, eqb-true, lt-ltb, or_cases, or_left, or_parts, or_right}
 use Rattle.std.proofs.lemmas.Bool.Decides.{eqb_tells, nat_tests}
 use Rattle.std.proofs.lemmas.List.{get_or-set_other, get_or-set_same, length-set}
 use Rattle.std.proofs.lemmas.List.Sums.{sum_by-cons}
@@ -30,8 +30,8 @@ use Rattle.bq_event_loop.specs.declared.turns.Turn.TheVariants as turns
 use Rattle.bq_host.specs.WakeLists.{WakeList, Wakes, none_waits}
 
 -- One element of a list was changed.
-pub changed_one : {L : Type 0} (seats : List (Attendant L)) (i : ℕ) (new : Attendant L) → ChangesOnly i seats (slice_set seats i new)
-changed_one seats i new = record {
+pub changed_one : {L : Type 0} {seats : List (Attendant L)} {i : ℕ} (new : Attendant L) → ChangesOnly i seats (slice_set seats i new)
+changed_one {L} {seats} {i} new = record {
   many = length-set seats i new;
   others = λ t differs a. get_or-set_other seats i t new a differs;
 }
@@ -41,26 +41,14 @@ pub changed_place : {L : Type 0} (seats : List (Attendant L)) (i : ℕ) (new : A
     → i < length seats → new.place ≡ place → (slice_index_or (slice_set seats i new) i a).place ≡ place
 changed_place seats i new a place below is = ap (λ z. z.place) (get_or-set_same seats i new a below) ∙ is
 
-pub changed_none : {L : Type 0} (seats : List (Attendant L)) (i : ℕ) → ChangesOnly i seats seats
-changed_none seats i = record { many = refl; others = λ t differs a. refl }
+pub changed_none : {L : Type 0} {seats : List (Attendant L)} {i : ℕ} → ChangesOnly i seats seats
+changed_none = record { many = refl; others = λ t differs a. refl }
 
-pub changed_then : {L : Type 0} (i : ℕ) (a b c : List (Attendant L)) → ChangesOnly i a b → ChangesOnly i b c → ChangesOnly i a c
-changed_then i a b c h k = record {
+pub changed_then : {L : Type 0} {i : ℕ} {a b c : List (Attendant L)} → ChangesOnly i a b → ChangesOnly i b c → ChangesOnly i a c
+changed_then h k = record {
   many = k.many ∙ h.many;
   others = λ t differs x. k.others t differs x ∙ h.others t differs x;
 }
-
-either : (a b : Bool) → (a || b) ≡ true → (a ≡ true) ⊎ (b ≡ true)
-either true b is = inl refl
-either false b is = inr is
-
-or_left : (a b : Bool) → a ≡ true → (a || b) ≡ true
-or_left true b is = refl
-or_left false b is = absurd cc
-
-or_right : (a b : Bool) → b ≡ true → (a || b) ≡ true
-or_right true b is = refl
-or_right false b is = is
 
 on_some : (xs : List ℕ) (i : ℕ) → is_on xs i ≡ true → 0 < times i xs
 on_some xs i is = some (times i xs) is where
@@ -143,7 +131,7 @@ known_as {L} line many later_many listed looks later later_looks seats mails sam
     at t below a (inr (inr (inl waits))) = absurd (omega (arith, waits))
     at t below a (inr (inr (inr still))) = inr (inr (inr still))
 
-module _ {L : Type 0} (line : Line L) (seats : List (Attendant L)) (mails : List (List Answer)) where
+module _ {L : Type 0} {line : Line L} {seats : List (Attendant L)} {mails : List (List Answer)} where
   -- The same seats are let act, and the same check for a client.
   known_alike : (l later : Listing) (old new : Option ℕ) → later.seats ≡ l.seats
       → ((t : ℕ) → is_listed later new t ≡ is_listed l old t) → ((t : ℕ) → is_looking later t ≡ is_looking l t)
@@ -157,19 +145,22 @@ module _ {L : Type 0} (line : Line L) (seats : List (Attendant L)) (mails : List
       k
 
   -- A seat that checks for a client is taken out, as the one that is visited.
-  pub known_checks : (l later : Listing) (i : ℕ) → later.seats ≡ l.seats → l.free ≡ later.free ++ i ∷ []
-      → times i later.free ≡ 0 → later.queue ≡ l.queue
+  pub known_checks : {l later : Listing} (i : ℕ) → l.free ≡ later.free ++ i ∷ [] → times i later.free ≡ 0
+      → later ≡ record l { free = later.free }
       → AreKnownTo line l None seats mails → AreKnownTo line later (Some i) seats mails
-  known_checks l later i same_seats last gone queue k =
+  known_checks {l} {later} i last gone same k =
       known_as line l.seats later.seats (is_listed l None) (is_looking l) (is_listed later (Some i)) (is_looking later) seats
-      mails same_seats
-      (λ t looks on. apart t looks (either _ _ on))
+      mails (ap (λ z. z.seats) same)
+      (λ t looks on. apart t looks (or_cases _ _ on))
       (λ t looks. inl (more t looks))
       (λ t below on. inl (or_left (is_on later.queue t) (i == t) (subst (λ q. is_on q t ≡ true) (sym queue) (left_only (is_on l.queue
       t) on))))
       (λ t below looks. less t looks)
       k
     where
+      queue : later.queue ≡ l.queue
+      queue = ap (λ z. z.queue) same
+
       free : (t : ℕ) → is_on l.free t ≡ (is_on later.free t || (i == t))
       free t = ap (λ f. is_on f t) last ∙ on_push i later.free t
 
@@ -181,15 +172,15 @@ module _ {L : Type 0} (line : Line L) (seats : List (Attendant L)) (mails : List
       apart t looks (inr same) = on_none later.free t (subst (λ n. times n later.free ≡ 0) (eqb-true i t same) gone) looks
 
       less : (t : ℕ) → is_on l.free t ≡ true → (is_listed later (Some i) t ≡ true) ⊎ (is_on later.free t ≡ true)
-      less t on = elim (either (is_on later.free t) (i == t) (sym (free t) ∙ on)) [
+      less t on = elim (or_cases (is_on later.free t) (i == t) (sym (free t) ∙ on)) [
         | inl looks ↦ inr looks
         | inr same ↦ inl (or_right (is_on later.queue t) (i == t) same)
       ]
 
   -- The next seat is visited. It was taken out of the queue, or it stays there.
-  pub known_next : (l later : Listing) (i : ℕ) → IsTaken i l later
+  pub known_next : {l later : Listing} {i : ℕ} → IsTaken i l later
       → AreKnownTo line l None seats mails → AreKnownTo line later (Some i) seats mails
-  known_next l later i is = known_alike l later None (Some i) is.seats (λ t. acts t is.queue) (λ t. ap (λ f. is_on f t) is.free) where
+  known_next {l} {later} {i} is = known_alike l later None (Some i) is.seats (λ t. acts t is.queue) (λ t. ap (λ f. is_on f t) is.free) where
     acts : (t : ℕ) → (l.queue ≡ i ∷ later.queue) ⊎ ((is_on l.queue i ≡ true) × (later.queue ≡ l.queue))
         → (is_on later.queue t || (i == t)) ≡ (is_on l.queue t || false)
     acts t (inl first) = sym (ap (λ q. is_on q t) first ∙ on_cons i later.queue t) ∙ sym (or-false (is_on l.queue t))
@@ -199,42 +190,58 @@ module _ {L : Type 0} (line : Line L) (seats : List (Attendant L)) (mails : List
       | inr (test, _) ↦ ap (λ b. is_on l.queue t || b) test
     ]
 
-  pub known_same : (l later : Listing) (visited : Option ℕ) → AreSameLists l later
+  pub known_same : {l later : Listing} (visited : Option ℕ) → AreSameLists l later
       → AreKnownTo line l visited seats mails → AreKnownTo line later visited seats mails
-  known_same l later visited same =
+  known_same {l} {later} visited same =
       known_alike l later visited visited same.seats (λ t. ap (λ q. is_on q t || is_visited visited t) same.queue)
       (λ t. ap (λ f. is_on f t) same.free)
 
-  -- Seats changed places in the queue.
-  pub known_moved : (l later : Listing) → later.seats ≡ l.seats → later.free ≡ l.free
-      → ((t : ℕ) → times t later.queue ≡ times t l.queue)
+  -- Seats changed places in the queue, and a part of a round began.
+  pub known_moved : (l : Listing) {mid later : Listing} {queue : List ℕ} {round at : ℕ} → mid ≡ record l { queue = queue }
+      → ((t : ℕ) → times t mid.queue ≡ times t l.queue) → later ≡ record mid { round = round; at = at }
       → AreKnownTo line l None seats mails → AreKnownTo line later None seats mails
-  known_moved l later same free moved =
-      known_alike l later None None same (λ t. ap (λ n. not (n == 0) || false) (moved t)) (λ t. ap (λ f. is_on f t) free)
+  known_moved l {mid} {later} moved same began =
+      known_alike l later None None (ap (λ z. z.seats) began ∙ ap (λ z. z.seats) moved)
+      (λ t. ap (λ z. is_on z.queue t || false) began ∙ ap (λ n. not (n == 0) || false) (same t))
+      (λ t. ap (λ z. is_on z.free t) began ∙ ap (λ z. is_on z.free t) moved)
+
+  -- A seat is not visited any more that is in the queue, or at which nothing moves.
+  known_left : (l : Listing) (i : ℕ)
+      → (i < length seats → (is_on l.queue i ≡ true)
+      ⊎ ((a : Attendant L) → IsStill line (slice_index_or seats i a) (slice_index_or mails i [])))
+      → AreKnownTo line l (Some i) seats mails → AreKnownTo line l None seats mails
+  known_left l i left k =
+      known_as line l.seats l.seats (is_listed l (Some i)) (is_looking l) (is_listed l None) (is_looking l) seats mails refl
+      (λ t looks on. k.apart t looks (or_left (is_on l.queue t) (i == t) (left_only _ on)))
+      (λ t looks. inl looks)
+      (λ t below on. after t below (or_cases _ _ on))
+      (λ t below looks. inr looks)
+      k
+    where
+      after : (t : ℕ) → t < length seats → (is_on l.queue t ≡ true) ⊎ ((i == t) ≡ true)
+          → (is_listed l None t ≡ true) ⊎ (is_looking l t ≡ true)
+          ⊎ ((a : Attendant L) → IsStill line (slice_index_or seats t a) (slice_index_or mails t []))
+      after t below (inl on) = inl (or_left (is_on l.queue t) false on)
+      after t below (inr same) =
+          let is : i ≡ t = eqb-true i t same in
+          elim (left (omega (arith, is, below))) [
+            | inl on ↦ inl (or_left (is_on l.queue t) false (subst (λ n. is_on l.queue n ≡ true) is on))
+            | inr still ↦ inr (inr (λ a. subst (λ n. IsStill line (slice_index_or seats n a) (slice_index_or mails n [])) is (still a)))
+          ]
 
   -- If the visited seat is in a list already, it is in the queue.
   known_queued : (l : Listing) (i : ℕ) → is_nowhere i l ≡ false → AreKnownTo line l (Some i) seats mails
       → AreKnownTo line l None seats mails
-  known_queued l i kept k =
-      known_as line l.seats l.seats (is_listed l (Some i)) (is_looking l) (is_listed l None) (is_looking l) seats mails refl
-      (λ t looks on. k.apart t looks (or_left (is_on l.queue t) (i == t) (left_only _ on)))
-      (λ t looks. inl looks)
-      (λ t below on. inl (or_left (is_on l.queue t) false (after t below (either _ _ on))))
-      (λ t below looks. inr looks)
-      k
-    where
-      after : (t : ℕ) → t < length seats → (is_on l.queue t ≡ true) ⊎ ((i == t) ≡ true) → is_on l.queue t ≡ true
-      after t below (inl on) = on
-      after t below (inr same) =
-          let is : i ≡ t = eqb-true i t same in
-          let none = free_none i l (λ looks. k.apart i looks (or_right (is_on l.queue i) (i == i) (eq-eqb i i refl))) in
-          subst (λ n. is_on l.queue n ≡ true) is
-          (some_on l.queue i (omega (arith, somewhere i l (omega (arith, below, k.all, is)) kept, none)))
+  known_queued l i kept k = known_left l i (λ below. inl (there below)) k where
+    there : i < length seats → is_on l.queue i ≡ true
+    there below =
+        let none = free_none i l (λ looks. k.apart i looks (or_right (is_on l.queue i) (i == i) (eq-eqb i i refl))) in
+        some_on l.queue i (omega (arith, somewhere i l (omega (arith, below, k.all)) kept, none))
 
   -- The visited seat goes to the queue.
-  pub known_enqueued : (l later : Listing) (i : ℕ) → later ≡ enqueued i l
+  pub known_enqueued : (l : Listing) (i : ℕ) {later : Listing} → later ≡ enqueued i l
       → AreKnownTo line l (Some i) seats mails → AreKnownTo line later None seats mails
-  known_enqueued l later i is k = by (is_nowhere i l) refl is where
+  known_enqueued l i {later} is k = by (is_nowhere i l) refl is where
     by : (b : Bool) → is_nowhere i l ≡ b → later ≡ (if b then record l { queue = l.queue ++ i ∷ [] } else l)
         → AreKnownTo line later None seats mails
     by true gone same =
@@ -244,10 +251,10 @@ module _ {L : Type 0} (line : Line L) (seats : List (Attendant L)) (mails : List
     by false kept same = subst (λ (z : Listing). AreKnownTo line z None seats mails) (sym same) (known_queued l i kept k)
 
   -- The visited seat found no client, and is between two connections.
-  pub known_freed : (l later : Listing) (i : ℕ) → later ≡ freed i l
+  pub known_freed : (l : Listing) (i : ℕ) {later : Listing} → later ≡ freed i l
       → ((a : Attendant L) → (slice_index_or seats i a).place ≡ places.Between)
       → AreKnownTo line l (Some i) seats mails → AreKnownTo line later None seats mails
-  known_freed l later i is between k = by (is_nowhere i l) refl is where
+  known_freed l i {later} is between k = by (is_nowhere i l) refl is where
     apart : (t : ℕ) → is_nowhere i l ≡ true → is_on l.queue t ≡ true → (is_on l.free t ≡ true) ⊎ ((i == t) ≡ true) → ⊥
     apart t gone on (inl looks) = k.apart t looks (or_left (is_on l.queue t) (i == t) on)
     apart t gone on (inr same) =
@@ -272,9 +279,9 @@ module _ {L : Type 0} (line : Line L) (seats : List (Attendant L)) (mails : List
         subst (λ (z : Listing). AreKnownTo line z None seats mails) (sym same)
         (known_as line l.seats l.seats (is_listed l (Some i)) (is_looking l) (is_listed l None)
         (is_looking (record l { free = l.free ++ i ∷ [] })) seats mails refl
-        (λ t looks on. apart t gone (left_only _ on) (either _ _ (sym (on_push i l.free t) ∙ looks)))
-        (λ t looks. looked t (either _ _ (sym (on_push i l.free t) ∙ looks)))
-        (λ t below on. after t (either _ _ on))
+        (λ t looks on. apart t gone (left_only _ on) (or_cases _ _ (sym (on_push i l.free t) ∙ looks)))
+        (λ t looks. looked t (or_cases _ _ (sym (on_push i l.free t) ∙ looks)))
+        (λ t below on. after t (or_cases _ _ on))
         (λ t below looks. inr (on_push i l.free t ∙ or_left (is_on l.free t) (i == t) looks))
         k)
     by false kept same = subst (λ (z : Listing). AreKnownTo line z None seats mails) (sym same) (known_queued l i kept k)
@@ -283,20 +290,7 @@ module _ {L : Type 0} (line : Line L) (seats : List (Attendant L)) (mails : List
   pub known_rests : (l : Listing) (i : ℕ)
       → ((a : Attendant L) → IsStill line (slice_index_or seats i a) (slice_index_or mails i []))
       → AreKnownTo line l (Some i) seats mails → AreKnownTo line l None seats mails
-  known_rests l i still k =
-      known_as line l.seats l.seats (is_listed l (Some i)) (is_looking l) (is_listed l None) (is_looking l) seats mails refl
-      (λ t looks on. k.apart t looks (or_left (is_on l.queue t) (i == t) (left_only _ on)))
-      (λ t looks. inl looks)
-      (λ t below on. after t (either _ _ on))
-      (λ t below looks. inr looks)
-      k
-    where
-      after : (t : ℕ) → (is_on l.queue t ≡ true) ⊎ ((i == t) ≡ true) → (is_listed l None t ≡ true) ⊎ (is_looking l t ≡ true)
-          ⊎ ((a : Attendant L) → IsStill line (slice_index_or seats t a) (slice_index_or mails t []))
-      after t (inl on) = inl (or_left (is_on l.queue t) false on)
-      after t (inr same) =
-          inr (inr (λ a. subst (λ n. IsStill line (slice_index_or seats n a) (slice_index_or mails n [])) (eqb-true i t same)
-          (still a)))
+  known_rests l i still k = known_left l i (λ below. inr still) k
 
 module _ {L : Type 0} (line : Line L) where
   -- A seat that the turns let act was changed.
@@ -330,15 +324,15 @@ got_on (x ∷ xs) zero i is = on_cons x xs i ∙ or_right (is_on xs i) (x == i) 
   some_is a b e = cc
 got_on (x ∷ xs) (suc n) i is = on_cons x xs i ∙ or_left (is_on xs i) (x == i) (got_on xs n i is)
 
-pub next_in_round_is : (l later : Listing) (result : Option ℕ) → result ≡ (if nat_lt l.at l.round then slice_get l.queue l.at else None)
+pub next_in_round_is : (l : Listing) {later : Listing} {result : Option ℕ}
+    → result ≡ (if nat_lt l.at l.round then slice_get l.queue l.at else None)
     → later ≡ record l { at = l.at + length (option_to_list result) } → IsNextOf result l later
-next_in_round_is l later None is same = record {
+next_in_round_is l {later} {result = None} is same = record {
   seats = ap (λ z. z.seats) same;
   queue = ap (λ z. z.queue) same;
-  free = ap (λ z.
-      z.free) same;
+  free = ap (λ z. z.free) same;
 }
-next_in_round_is l later (Some i) is same = record {
+next_in_round_is l {later} {result = Some i} is same = record {
   seats = ap (λ z. z.seats) same;
   free = ap (λ z. z.free) same;
   queue = inr (got_on l.queue l.at i (chosen (nat_lt l.at l.round) is), ap (λ z. z.queue) same);
@@ -357,24 +351,16 @@ none_on (x ∷ xs) none =
     let e : true ≡ false = sym here ∙ none x in
     absurd cc
 
-left_none : (a b : Bool) → (a || b) ≡ false → a ≡ false
-left_none true b is = absurd cc
-left_none false b is = refl
-
-right_none : (a b : Bool) → (a || b) ≡ false → b ≡ false
-right_none true b is = absurd cc
-right_none false b is = is
-
 pub idle_visits : (may_come : Bool) (l : Listing) (visited : Option ℕ) → AreIdle may_come (is_listed l visited) (is_looking l)
     → visited ≡ None
 idle_visits may_come l None idle = refl
 idle_visits may_come l (Some i) idle =
-    let e : true ≡ false = sym (eq-eqb i i refl) ∙ right_none (is_on l.queue i) (i == i) (idle.acts i) in
+    let e : true ≡ false = sym (eq-eqb i i refl) ∙ (or_parts (is_on l.queue i) (i == i) (idle.acts i)).1 in
     absurd cc
 
 pub idle_queue : (may_come : Bool) (l : Listing) (visited : Option ℕ) → AreIdle may_come (is_listed l visited) (is_looking l)
     → l.queue ≡ []
-idle_queue may_come l visited idle = none_on l.queue (λ t. left_none (is_on l.queue t) (is_visited visited t) (idle.acts t))
+idle_queue may_come l visited idle = none_on l.queue (λ t. (or_parts (is_on l.queue t) (is_visited visited t) (idle.acts t)).0)
 
 pub idle_free : (may_come : Bool) (l : Listing) (visited : Option ℕ) → may_come ≡ true
     → AreIdle may_come (is_listed l visited) (is_looking l) → l.free ≡ []
@@ -392,10 +378,10 @@ all_known seats l is = subst (λ z. KnowsAll seats z.seats (is_listed z None) (i
 })
 
 -- New seats are known by turns that know all seats.
-pub known_at_first : {L : Type 0} (line : Line L) (many seats : ℕ) (listed looks : ℕ → Bool) (all : List (Attendant L))
-    (mails : List (List Answer)) (size : ℕ) → length all ≡ seats → KnowsAll seats many listed looks → All (IsNewSeat size) all
+pub known_at_first : {L : Type 0} {line : Line L} {many seats : ℕ} {listed looks : ℕ → Bool} {all : List (Attendant L)}
+    {mails : List (List Answer)} {size : ℕ} → length all ≡ seats → KnowsAll seats many listed looks → All (IsNewSeat size) all
     → AreKnown line many listed looks [] all mails
-known_at_first line many seats listed looks all mails size same knows new = record {
+known_at_first same knows new = record {
   all = omega (arith, same, knows.all);
   apart = knows.apart;
   looking = λ t below is a. let n = new t a below in n.place;
@@ -406,7 +392,7 @@ known_at_first line many seats listed looks all mails size same knows new = reco
 }
 
 -- The core of a loop moved on, while no seat was changed: each seat that got mail is to be woken.
-module _ {L : Type 0} (line : Line L) (many : ℕ) (listed looks : ℕ → Bool) (seats : List (Attendant L)) where
+module _ {L : Type 0} (line : Line L) where
   still_or_woken : (a : Attendant L) (mail later : List Answer) (waits : ℕ) → (mail ≡ [] → (later ≡ []) ⊎ (0 < waits))
       → IsStill line a mail → (0 < waits) ⊎ IsStill line a later
   still_or_woken a mail later waits got still = at a.place still where
@@ -429,9 +415,11 @@ module _ {L : Type 0} (line : Line L) (many : ℕ) (listed looks : ℕ → Bool)
     at places.Done s = inr s
     at _ s = absurd s
 
-  pub known_woken : (mails later : List (List Answer)) (old new : WakeList) → length seats ≤ old.seats → Wakes mails later old new
+module _ {L : Type 0} {line : Line L} {many : ℕ} {listed looks : ℕ → Bool} where
+  known_woken : {seats : List (Attendant L)} {mails later : List (List Answer)} {old new : WakeList} → length seats ≤ old.seats
+      → Wakes mails later old new
       → AreKnown line many listed looks old.waiting seats mails → AreKnown line many listed looks new.waiting seats later
-  known_woken mails later old new within wakes k = record {
+  known_woken {seats} {mails} {later} {old} {new} within wakes k = record {
     all = k.all;
     apart = k.apart;
     looking = k.looking;
@@ -445,23 +433,22 @@ module _ {L : Type 0} (line : Line L) (many : ℕ) (listed looks : ℕ → Bool)
       at t below a (inr (inl checks)) = inr (inl checks)
       at t below a (inr (inr (inl waits))) = inr (inr (inl (omega (arith, waits, wakes.kept t))))
       at t below a (inr (inr (inr still))) =
-          inr (inr (still_or_woken (slice_index_or seats t a) (slice_index_or mails t []) (slice_index_or later t []) (times t new.waiting)
-          (wakes.mail t (omega (arith, below, within))) still))
+          inr (inr (still_or_woken line (slice_index_or seats t a) (slice_index_or mails t []) (slice_index_or later t [])
+          (times t new.waiting) (wakes.mail t (omega (arith, below, within))) still))
 
--- A turn was taken. Each seat that got mail is to be woken.
-module _ {L : Type 0} (line : Line L) (many : ℕ) (listed looks : ℕ → Bool) where
+  -- A turn was taken. Each seat that got mail is to be woken.
   known_turned : (turn : Turn) (woken : List ℕ) (seats later : List (Attendant L)) (mails : List (List Answer))
       → IsListedIn listed turn → ChangesOnlyIn turn seats later
       → AreKnown line many listed looks woken seats mails → AreKnown line many listed looks woken later mails
-  known_turned (turns.Serve i extent) woken seats later mails acts only k = known_changed line many listed looks woken i seats later
-      mails acts only k
+  known_turned (turns.Serve i extent) woken seats later mails acts only k =
+      known_changed line many listed looks woken i seats later mails acts only k
   known_turned _ woken seats later mails acts only k = subst (λ z. AreKnown line many listed looks woken z mails) (sym only) k
 
-  pub known_after : (turn : Turn) (seats later : List (Attendant L)) (mails after : List (List Answer)) (old new : WakeList)
+  pub known_after : (turn : Turn) {seats later : List (Attendant L)} {mails after : List (List Answer)} {old new : WakeList}
       → old ≡ none_waits (length mails) → length later ≤ length mails → Wakes mails after old new
       → IsListedIn listed turn → ChangesOnlyIn turn seats later
       → AreKnown line many listed looks [] seats mails → AreKnown line many listed looks new.waiting later after
-  known_after turn seats later mails after old new none within wakes acts only k =
-      known_woken line many listed looks later mails after old new (let e = ap (λ w. w.seats) none in omega (arith, within, e)) wakes
+  known_after turn {seats} {later} {mails} none within wakes acts only k =
+      known_woken (let e = ap (λ w. w.seats) none in omega (arith, within, e)) wakes
       (subst (λ xs. AreKnown line many listed looks xs later mails) (sym (ap (λ w. w.waiting) none))
       (known_turned turn [] seats later mails acts only k))

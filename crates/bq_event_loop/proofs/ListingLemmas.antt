@@ -25,26 +25,47 @@ free_is lists.Nowhere is = absurd cc
 free_is lists.Queued is = absurd cc
 
 -- The first of the queue leaves.
-pub left_queue : (s : ℕ) (queue free : List ℕ) (marks : List Listed) → AreMarked (s ∷ queue) free marks
-    → AreMarked queue free (slice_set marks s lists.Nowhere)
-left_queue s queue free marks are =
-    let below = within is_queued lists.Nowhere [] queue marks s refl are.0 in
-    let is = queued_is _ (marked is_queued lists.Nowhere [] queue marks s are.0) in (
-      left is_queued lists.Nowhere [] queue marks s lists.Nowhere are.0 below refl,
-      stayed is_free lists.Nowhere free marks s lists.Nowhere are.1 below (ap is_free is),
-    )
+pub left_queue : {s : ℕ} {before queue free : List ℕ} {marks : List Listed} → before ≡ s ∷ queue → AreMarked before free marks
+    → (s < length marks) × AreMarked queue free (slice_set marks s lists.Nowhere)
+left_queue {s} {before} {queue} {free} {marks} first are = (
+  below,
+  (
+    left is_queued lists.Nowhere [] queue marks s lists.Nowhere has below refl,
+    stayed is_free lists.Nowhere free marks s lists.Nowhere are.1 below (ap is_free mark),
+  ),
+)
+  where
+    has : HasMarks is_queued lists.Nowhere (s ∷ queue) marks
+    has = subst (λ xs. HasMarks is_queued lists.Nowhere xs marks) first are.0
 
--- The last of the free seats leaves.
-pub left_free : (s : ℕ) (queue free : List ℕ) (marks : List Listed) → AreMarked queue (free ++ s ∷ []) marks
-    → AreMarked queue free (slice_set marks s lists.Nowhere)
-left_free s queue free marks are =
-    let below = within is_free lists.Nowhere free [] marks s refl are.1 in
-    let is = free_is _ (marked is_free lists.Nowhere free [] marks s are.1) in
-    let less : HasMarks is_free lists.Nowhere (free ++ []) (slice_set marks s lists.Nowhere)
-    = left is_free lists.Nowhere free [] marks s lists.Nowhere are.1 below refl in (
-      stayed is_queued lists.Nowhere queue marks s lists.Nowhere are.0 below (ap is_queued is),
-      subst (λ z. HasMarks is_free lists.Nowhere z (slice_set marks s lists.Nowhere)) (append-nil free) less,
-    )
+    below : s < length marks
+    below = within is_queued lists.Nowhere [] queue marks s refl has
+
+    mark : slice_index_or marks s lists.Nowhere ≡ lists.Queued
+    mark = queued_is _ (marked is_queued lists.Nowhere [] queue marks s has)
+
+-- The last of the free seats leaves, and is free no more.
+pub left_free : {s : ℕ} {before queue free : List ℕ} {marks : List Listed} → before ≡ free ++ s ∷ [] → AreMarked queue before marks
+    → (s < length marks) × AreMarked queue free (slice_set marks s lists.Nowhere) × (times s free ≡ 0)
+left_free {s} {before} {queue} {free} {marks} last are = (
+  below,
+  (stayed is_queued lists.Nowhere queue marks s lists.Nowhere are.0 below (ap is_queued mark), less),
+  less.each s ∙ ap (λ z. one_if (is_free z)) (get_or-set_same marks s lists.Nowhere lists.Nowhere below),
+)
+  where
+    has : HasMarks is_free lists.Nowhere (free ++ s ∷ []) marks
+    has = subst (λ xs. HasMarks is_free lists.Nowhere xs marks) last are.1
+
+    below : s < length marks
+    below = within is_free lists.Nowhere free [] marks s refl has
+
+    mark : slice_index_or marks s lists.Nowhere ≡ lists.Free
+    mark = free_is _ (marked is_free lists.Nowhere free [] marks s has)
+
+    less : HasMarks is_free lists.Nowhere free (slice_set marks s lists.Nowhere)
+    less =
+        subst (λ xs. HasMarks is_free lists.Nowhere xs (slice_set marks s lists.Nowhere)) (append-nil free)
+        (left is_free lists.Nowhere free [] marks s lists.Nowhere has below refl)
 
 -- No seat is in both lists, or twice in one.
 pub disjoint : (queue free : List ℕ) (marks : List Listed) (round at : ℕ) → AreMarked queue free marks
@@ -64,13 +85,6 @@ disjoint queue free marks round at are = record { once = once; within = beyond }
       let no : has_mark is_queued lists.Nowhere marks seat ≡ 0 = ap (λ z. one_if (is_queued z)) none in
       let nor : has_mark is_free lists.Nowhere marks seat ≡ 0 = ap (λ z. one_if (is_free z)) none in
       omega (arith, are.0.each seat, are.1.each seat, no, nor)
-
--- A free seat that was taken is free no more.
-pub gone : (s : ℕ) (queue free : List ℕ) (marks : List Listed) → AreMarked queue (free ++ s ∷ []) marks → times s free ≡ 0
-gone s queue free marks are =
-    let below = within is_free lists.Nowhere free [] marks s refl are.1 in
-    let after = left_free s queue free marks are in
-    after.1.each s ∙ ap (λ z. one_if (is_free z)) (get_or-set_same marks s lists.Nowhere lists.Nowhere below)
 
 -- the largest number leaves
 falling_next : (n m : ℕ) → n ≡ suc m → falling n ≡ m ∷ falling m

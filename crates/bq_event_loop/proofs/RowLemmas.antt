@@ -128,33 +128,42 @@ module _ {L D : Type 0} (l : Line L) (d : Door D L) where
         (subst (λ (z : D). (first : D) → d.same first z → d.same first next) x_is on) (all.same_doors handed_in h);
   }
 
+module _ {L D : Type 0} {l : Line L} {d : Door D L} {seats : List (Attendant L)} {doors : List D} {i : ℕ} where
   -- Both of a seat that rested with its door.
-  pub keeps_set : (seats : List (Attendant L)) (doors : List D) (i : ℕ) (a new : Attendant L) (x next : D) → i < length seats
+  pub keeps_set : {a new : Attendant L} {x next : D} → i < length seats
       → AllTended l d seats doors → a ≡ slice_index_or seats i a → x ≡ slice_index_or doors i x
       → Tends l.seen a (at d x) [] [] new (at d next) → ((first : D) → d.same first x → d.same first next)
       → AllTended l d (slice_set seats i new) (slice_set doors i next)
       × ((first : Row L D) → AllRested l d first.seats.items first.doors.items seats doors
       → AllRested l d first.seats.items first.doors.items (slice_set seats i new) (slice_set doors i next))
-  keeps_set seats doors i a new x next below all a_is x_is tends on = (
-    tended_set seats doors i a new x next [] [] below all a_is x_is tends,
-    λ first. rested_set first.seats.items seats first.doors.items doors i a new x next below all.doored a_is x_is tends on,
+  keeps_set {a} {new} {x} {next} below all a_is x_is tends on = (
+    tended_set l d seats doors i a new x next [] [] below all a_is x_is tends,
+    λ first. rested_set l d first.seats.items seats first.doors.items doors i a new x next below all.doored a_is x_is tends on,
   )
 
   -- The same if nothing was done with the door.
-  pub keeps_seat : (seats : List (Attendant L)) (doors : List D) (i : ℕ) (a new : Attendant L) → i < length seats
+  pub keeps_seat : {a new : Attendant L} → i < length seats
       → AllTended l d seats doors → a ≡ slice_index_or seats i a → ((door : DoorSeen) → Tends l.seen a door [] [] new door)
       → AllTended l d (slice_set seats i new) doors
       × ((first : Row L D) → AllRested l d first.seats.items first.doors.items seats doors
       → AllRested l d first.seats.items first.doors.items (slice_set seats i new) doors)
-  keeps_seat seats doors i a new below all is tends =
+  keeps_seat {a} {new} below all is tends =
       let there : i < length doors = omega (arith, all.doored, below) in
       let x = slice_index_or doors i (some_one doors i there) in
       subst (λ (ds : List D). AllTended l d (slice_set seats i new) ds
       × ((first : Row L D) → AllRested l d first.seats.items first.doors.items seats doors
       → AllRested l d first.seats.items first.doors.items (slice_set seats i new) ds)) (set-get_or doors i (some_one doors i there))
-      (keeps_set seats doors i a new x x below all is (get_or_default doors i (some_one doors i there) x there) (tends (at d x))
+      (keeps_set below all is (get_or_default doors i (some_one doors i there) x there) (tends (at d x))
       (λ first h. h))
 
+  -- A seat and a door that were looked up are placed together.
+  pub placed_there : {a : Attendant L} {x : D} → i < length seats
+      → AllTended l d seats doors → a ≡ slice_index_or seats i a → x ≡ slice_index_or doors i x → IsPlaced a.place (at d x)
+  placed_there {a} {x} below all a_is x_is =
+      looked_up (λ (u : Attendant L) (v : D). IsPlaced u.place (at d v)) seats doors i a a x x below all.doored a_is x_is
+      (let t = all.each i below a x in t.tended.placed)
+
+module _ {L D : Type 0} (l : Line L) (d : Door D L) where
   -- Nothing was done with a row.
   pub rested_none : (seats : List (Attendant L)) (doors : List D) → AllRested l d seats doors seats doors
   rested_none seats doors = record {
@@ -165,9 +174,9 @@ module _ {L D : Type 0} (l : Line L) (d : Door D L) where
   }
 
   -- All seats and doors are new.
-  pub tended_at_first : (size : ℕ) (seats : List (Attendant L)) (doors : List D) → length doors ≡ length seats → All (IsNewSeat size) seats
+  pub tended_at_first : {size : ℕ} {seats : List (Attendant L)} {doors : List D} → length doors ≡ length seats → All (IsNewSeat size) seats
       → All (λ x. IsNewDoor (at d x)) doors → AllTended l d seats doors
-  tended_at_first size seats doors doored seats_new doors_new = record {
+  tended_at_first {size} {seats} {doors} doored seats_new doors_new = record {
     doored = doored;
     each = λ t here x y. record {
       max_job_size = size;
@@ -177,10 +186,3 @@ module _ {L D : Type 0} (l : Line L) (d : Door D L) where
           (doors_new t y (omega (arith, doored, here)));
     };
   }
-
-  -- A seat and a door that were looked up are placed together.
-  pub placed_there : (seats : List (Attendant L)) (doors : List D) (i : ℕ) (a : Attendant L) (x : D) → i < length seats
-      → AllTended l d seats doors → a ≡ slice_index_or seats i a → x ≡ slice_index_or doors i x → IsPlaced a.place (at d x)
-  placed_there seats doors i a x below all a_is x_is =
-      looked_up (λ (u : Attendant L) (v : D). IsPlaced u.place (at d v)) seats doors i a a x x below all.doored a_is x_is
-      (let t = all.each i below a x in t.tended.placed)

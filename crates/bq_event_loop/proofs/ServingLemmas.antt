@@ -181,7 +181,7 @@ module _ {C K L D : Type 0} {k : Core K} {c : Clock C} {l : Line L} {d : Door D 
     order = order;
     tended = tended;
     serves = serves_none;
-    only = changed_none row.seats.items seat;
+    only = changed_none;
     wakes = wakes_none core.mails.items core.woken;
   }
 
@@ -203,7 +203,7 @@ module _ {C K L D : Type 0} {k : Core K} {c : Clock C} {l : Line L} {d : Door D 
     order = b.order;
     tended = b.tended;
     serves = serves_then a.serves b.serves;
-    only = changed_then seat row.seats.items mid.seats.items later.seats.items a.only b.only;
+    only = changed_then a.only b.only;
     wakes = wakes_then old.mails.items core.mails.items new.mails.items old.woken core.woken new.woken a.wakes b.wakes;
   }
 

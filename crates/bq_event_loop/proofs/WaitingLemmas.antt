@@ -16,13 +16,13 @@ use Rattle.bq_event_loop.specs.declared.turns.Turn.{Turn}
 use Rattle.bq_event_loop.specs.declared.turns.Turn.TheVariants as turns
 
 -- The turns heard of a seat that the system reported.
-pub known_reported : {L : Type 0} (line : Line L) (many later_many : ℕ) (listed looks later later_looks : ℕ → Bool) (i : ℕ)
-    (seats after : List (Attendant L)) (mails : List (List Answer))
+pub known_reported : {L : Type 0} {line : Line L} {many later_many : ℕ} {listed looks later later_looks : ℕ → Bool} {i : ℕ}
+    {seats after : List (Attendant L)} {mails : List (List Answer)}
     → later_many ≡ many → (i < many → (looks i ≡ true → ⊥) → later i ≡ true) → KeepsAll listed later
     → ((t : ℕ) → later_looks t ≡ looks t) → (AreApart listed looks → AreApart later later_looks) → ChangesOnly i seats after
     → ((a : Attendant L) → (slice_index_or seats i a).place ≡ places.Between → (slice_index_or after i a).place ≡ places.Between)
     → AreKnown line many listed looks [] seats mails → AreKnown line later_many later later_looks [] after mails
-known_reported {L} line many later_many listed looks later later_looks i seats after mails same told
+known_reported {L} {line} {many} {later_many} {listed} {looks} {later} {later_looks} {i} {seats} {after} {mails} same told
     keeps checks apart only between k =
     record {
       all = omega (arith, same, only.many, k.all);

@@ -7,8 +7,7 @@ use Rattle.bq_event_loop.proofs.serve.act.Goals as goal
 
 pub attend-requires-clause-placed : goal.attend-requires-clause-placed
 attend-requires-clause-placed g c =
-    placed_there g.L.Line g.D.Door c.args.row.now.seats.items c.args.row.now.doors.items c.args.seat c.index_mut.result.now
-    c.index_mut-2.result.now c.requires.ready.1 c.requires.ready.0.1 c.index_mut.ensures.value c.index_mut-2.ensures.value
+    placed_there c.requires.ready.1 c.requires.ready.0.1 c.index_mut.ensures.value c.index_mut-2.ensures.value
 
 pub attend-requires-clause-ready : goal.attend-requires-clause-ready
 attend-requires-clause-ready g c =
@@ -28,7 +27,7 @@ returns g c =
           c.index_mut-2.result.now c.attend.new.door goes.0 goes.1 ready.1 ready.0.1 seat_is door_is goes.3;
       serves = serves_acted c.args.seat c.index_mut.result.now c.attend.new.attendant c.index_mut-2.result.now c.attend.new.door
           ready.1 ready.0.1.doored seat_is door_is goes c.attend.ensures.same refl refl;
-      only = changed_one row.seats.items c.args.seat c.attend.new.attendant;
+      only = changed_one c.attend.new.attendant;
       wakes = (called g.K.QueueCore.machine g.K.QueueCore.comparisons g.C.Clock.given c.args.seat c.args.core.now c.attend.new.hub goes.0
           goes.1 goes.2).1;
     }

@@ -76,12 +76,9 @@ pub wake_all-requires : goal.wake_all-requires
 wake_all-requires g c =
     let turned = c.take_turn.ensures.served.serves in
     let same = c.loop.invariant.ready.2 in
-    let next = c.next-turn.new.self in
     let now = c.so_far.ensures in
     record {
-      known = known_after g.L.Line (g.T.Turns.seats next) (g.T.Turns.listed next) (g.T.Turns.looks next) c.next-turn.result
-          c.loop.row.seats.items c.take_turn.new.row.seats.items c.loop.core.mails.items c.take_turn.new.core.mails.items
-          c.loop.core.woken c.take_turn.new.core.woken c.loop.invariant.woken (omega (arith, turned.many, same))
+      known = known_after c.next-turn.result c.loop.invariant.woken (omega (arith, turned.many, same))
           c.take_turn.ensures.wakes c.next-turn.ensures.acts c.take_turn.ensures.only
           (rw (now.seats, now.mails) at c.next-turn.ensures.known);
     }

@@ -6,10 +6,8 @@ use Rattle.bq_event_loop.proofs.waiting.note_report.Goals as goal
 pub returns-in-Line-clause-known : goal.returns-in-Line-clause-known
 returns-in-Line-clause-known g c =
     let told = c.wake.ensures in
-    known_reported g.L.Line (g.T.Turns.seats c.args.turns.now) (g.T.Turns.seats c.wake.new.self)
-    (g.T.Turns.listed c.args.turns.now) (g.T.Turns.looks c.args.turns.now) (g.T.Turns.listed c.wake.new.self)
-    (g.T.Turns.looks c.wake.new.self) _ c.args.row.now.seats.items c.note_ready.new.self.seats.items c.args.mails.now.items told.seats
-    told.woken told.keeps told.looking told.apart c.note_ready.ensures.only c.note_ready.ensures.between c.requires.known
+    known_reported told.seats told.woken told.keeps told.looking told.apart c.note_ready.ensures.only c.note_ready.ensures.between
+    c.requires.known
 
 pub returns-in-Line-clause-woken : goal.returns-in-Line-clause-woken
 returns-in-Line-clause-woken g c =

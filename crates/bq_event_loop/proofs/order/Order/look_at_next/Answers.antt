@@ -1,4 +1,3 @@
-use Rattle.std.proofs.Common.{ap}
 use Rattle.bq_event_loop.proofs.KnownLemmas.{known_checks, listed_self}
 use Rattle.bq_event_loop.proofs.order.Order.look_at_next.Goals as goal
 
@@ -7,10 +6,7 @@ begin_visits-requires g c = record { known = c.requires.known }
 
 pub returns-clause-known : goal.returns-clause-known
 returns-clause-known g c =
-    let e = c.next_free.ensures.rest in
-    known_checks g.L.Line c.args.seats.now.value.items c.args.mails.now.value.items c.args.self.now.queue
-    c.next_free.new.self
-    c.in-Some.seat (ap (λ z. z.seats) e) c.in-Some.ensures.taken c.in-Some.ensures.gone (ap (λ z. z.queue) e) c.requires.known
+    known_checks c.in-Some.seat c.in-Some.ensures.taken c.in-Some.ensures.gone c.next_free.ensures.rest c.requires.known
 
 pub returns-clause-acts : goal.returns-clause-acts
 returns-clause-acts g c = listed_self c.next_free.new.self c.in-Some.seat

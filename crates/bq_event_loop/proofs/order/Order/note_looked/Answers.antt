@@ -3,10 +3,8 @@ use Rattle.bq_event_loop.proofs.order.Order.note_looked.Goals as goal
 
 pub returns-then-is_this-clause-known : goal.returns-then-is_this-clause-known
 returns-then-is_this-clause-known g c =
-    known_freed g.L.Line c.args.seats.now.value.items c.args.mails.now.value.items c.args.self.now.queue c.set_free.new.self c.args.seat
-    c.set_free.ensures (c.requires.free c.args.seat (c.is_this.ensures c.if-is_this.true)) c.requires.known
+    known_freed c.args.self.now.queue c.args.seat c.set_free.ensures
+    (c.requires.free c.args.seat (c.is_this.ensures c.if-is_this.true)) c.requires.known
 
 pub returns-else-is_this-clause-known : goal.returns-else-is_this-clause-known
-returns-else-is_this-clause-known g c =
-    known_enqueued g.L.Line c.args.seats.now.value.items c.args.mails.now.value.items c.args.self.now.queue c.enqueue.new.self.queue
-    c.args.seat c.enqueue.ensures.queue c.requires.known
+returns-else-is_this-clause-known g c = known_enqueued c.args.self.now.queue c.args.seat c.enqueue.ensures.queue c.requires.known

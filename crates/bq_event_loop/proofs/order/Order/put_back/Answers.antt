@@ -2,6 +2,4 @@ use Rattle.bq_event_loop.proofs.KnownLemmas.{known_enqueued}
 use Rattle.bq_event_loop.proofs.order.Order.put_back.Goals as goal
 
 pub returns-clause-known : goal.returns-clause-known
-returns-clause-known g c =
-    known_enqueued g.L.Line c.args.seats.now.value.items c.args.mails.now.value.items c.args.self.now.queue c.enqueue.new.self.queue
-    c.args.seat c.enqueue.ensures.queue c.requires.known
+returns-clause-known g c = known_enqueued c.args.self.now.queue c.args.seat c.enqueue.ensures.queue c.requires.known

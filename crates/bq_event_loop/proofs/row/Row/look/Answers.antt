@@ -9,8 +9,7 @@ look_at-requires g c =
     let row = c.args.self.now in
     let below : c.args.seat < length row.seats.items = let e = c.len.ensures in let b = c.if-seat-len.false in omega arith in
     record {
-      placed = placed_there g.L.Line g.D.Door row.seats.items row.doors.items c.args.seat c.index_mut.result.now
-          c.index_mut-2.result.now below c.requires.tended c.index_mut.ensures.value c.index_mut-2.ensures.value;
+      placed = placed_there below c.requires.tended c.index_mut.ensures.value c.index_mut-2.ensures.value;
     }
 
 pub returns : goal.returns
@@ -18,9 +17,8 @@ returns g c =
     let row = c.args.self.now in
     let below : c.args.seat < length row.seats.items = let e = c.len.ensures in let b = c.if-seat-len.false in omega arith in
     record {
-      keeps = keeps_set g.L.Line g.D.Door row.seats.items row.doors.items c.args.seat c.index_mut.result.now c.look_at.new.seat
-          c.index_mut-2.result.now c.look_at.new.door below c.requires.tended c.index_mut.ensures.value c.index_mut-2.ensures.value
+      keeps = keeps_set below c.requires.tended c.index_mut.ensures.value c.index_mut-2.ensures.value
           c.look_at.ensures.went c.look_at.ensures.same;
-      only = changed_one row.seats.items c.args.seat c.look_at.new.seat;
+      only = changed_one c.look_at.new.seat;
       none = λ h a. changed_place row.seats.items c.args.seat c.look_at.new.seat a places.Between below (c.look_at.ensures.none h);
     }

@@ -12,9 +12,9 @@ returns-then-seat-len g c =
     let below : c.args.seat < length row.seats.items = let e = c.len.ensures in let b = c.if-seat-len.true in omega arith in
     let new = c.note_ready.new.self in
     record {
-      keeps = keeps_seat g.L.Line g.D.Door row.seats.items row.doors.items c.args.seat c.index_mut.result.now new below c.requires.tended
+      keeps = keeps_seat below c.requires.tended
           c.index_mut.ensures.value c.note_ready.ensures.went;
-      only = changed_one row.seats.items c.args.seat new;
+      only = changed_one new;
       between = λ a is. changed_place row.seats.items c.args.seat new a places.Between below
           (c.note_ready.ensures.between (ap (λ (z : Attendant g.row.L.Denot). z.place)
           (c.index_mut.ensures.value ∙ get_or_default row.seats.items c.args.seat c.index_mut.result.now a below) ∙ is));

@@ -9,8 +9,8 @@ returns-then-seat-len g c =
     let below : c.args.seat < length row.seats.items = let e = c.len.ensures in let b = c.if-seat-len.true in omega arith in
     let new = c.rests.new.seat in
     record {
-      keeps = keeps_seat g.L.Line g.D.Door row.seats.items row.doors.items c.args.seat c.index_mut.result.now new below c.requires.tended
+      keeps = keeps_seat below c.requires.tended
           c.index_mut.ensures.value c.rests.ensures.went;
-      only = changed_one row.seats.items c.args.seat new;
+      only = changed_one new;
       still = λ is mail a. still_there g.L.Line row.seats.items c.args.seat new a mail below (c.rests.ensures.still is mail);
     }
