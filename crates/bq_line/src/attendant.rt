@@ -218,21 +218,6 @@ impl<L: Line + Drop> Attendant<L> {
         }
     }
 
-    /// Returns true if it has to read or write again although nothing moved and no event will
-    /// report it, because the call was interrupted or timed out. A seat that waits for an answer
-    /// polls its mail before it reads again.
-    pub fn tries_again(&self) -> bool {
-        match &self.place {
-            LinePlace::On(line, next, _) => match next.does() {
-                Does::Read => line.may_give(),
-                Does::PollMail => line.may_give() && self.machine.would_read(),
-                Does::Write => line.may_take(),
-                _ => false,
-            },
-            _ => false,
-        }
-    }
-
     /// Returns true if its next connection has to be opened.
     pub fn is_between(&self) -> bool
         ensures { IsTrue result ↔ (self.now.place ≡ LinePlace.Between) }
