@@ -37,15 +37,16 @@ impl Wanted {
     fn add_tube(&mut self, name: &TubeName, hint: TubeNumber)
         ensures { self.new ≡ with_wanted name.now self.old }
     {
-        *self = match &*self {
-            Wanted::Nothing => Wanted::Tube(Tube::new(name, hint)),
-            Wanted::Tube(wanted_tube) => if wanted_tube.name() == name {
-                Wanted::Tube(Tube::new(name, hint))
-            } else {
-                Wanted::Any
-            },
-            Wanted::Client(_) | Wanted::Any => Wanted::Any,
+        let is_alone = match &*self {
+            Wanted::Nothing => true,
+            Wanted::Tube(wanted_tube) => wanted_tube.name() == name,
+            Wanted::Client(_) | Wanted::Any => false,
         };
+        if is_alone {
+            *self = Wanted::Tube(Tube::new(name, hint));
+        } else {
+            *self = Wanted::Any;
+        }
     }
 
     // The jobs for which the client at this seat waits may be had too.
