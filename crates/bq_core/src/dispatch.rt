@@ -16,12 +16,12 @@ ghost use Rattle.bq_job.specs.declared.answer.Answer.TheVariants as answers;
 
 use crate::{acts, answering};
 use bq_core_api::Outs;
-use bq_job::{Answer, Body, JobId, NoMemory, Request, Seat, Step};
+use bq_job::{Body, JobId, NoMemory, Request, Seat, Step};
 use bq_jobs::{NumberedJobs, Tube};
 use bq_state::core_parts::CoreParts;
 use bq_state::job_store::JobChange;
 use bq_state::known::Wanted;
-use bq_state::seats::{SeatChange, SeatRecord, Turn};
+use bq_state::seats::{SeatRecord, Turn};
 use bq_state::tubes::Tubes;
 use bq_state::{changes, seats};
 use std::alloc::Global;
@@ -267,9 +267,9 @@ fn give(state: &mut CoreParts, outs: &mut Outs, number: Seat, id: JobId, body: B
 {
     let change = JobChange::HandOut(number, state.moment);
     // First, because no client holds a job while it waits.
-    changes::change_seat(state, number, &SeatChange::StopWaiting);
+    changes::stop_waiting(state, number);
     changes::change_job(state, id, &change);
-    outs.push(number, Answer::Reserved(id, body));
+    answering::reserved(outs, number, id, body);
 }
 
 // The body could not be shared: the client is answered OUT_OF_MEMORY, and no longer waits.
@@ -284,9 +284,8 @@ fn refuse(state: &mut CoreParts, outs: &mut Outs, number: Seat)
         } }
     ensures jobs { state.new.jobs ≡ state.old.jobs }
 {
-    changes::change_seat(state, number, &SeatChange::StopWaiting);
-    outs.set_unshared();
-    outs.push(number, Answer::OutOfMemory);
+    changes::stop_waiting(state, number);
+    answering::unshared(outs, number);
 }
 
 // Hands the job out to the client at the seat, unless another reference to its body is refused.

@@ -17,7 +17,6 @@ use bq_job::{Answer, Body, Counts, Job, JobId, Moment, Pri, Seat};
 use bq_jobs::{Tube, TubeNumber, adds_at_the_end, next_is_free};
 use bq_state::core_parts::CoreParts;
 use bq_state::job_store::{JobChange, JobTest};
-use bq_state::seats::SeatChange;
 use bq_state::{changes, job_store, seats};
 use std::alloc::Global;
 
@@ -150,8 +149,7 @@ pub(crate) fn reserve(state: &mut CoreParts, seat: Seat, until: Option<Moment>) 
 {
     changes::note_leases(state, seat);
     let ticket = changes::give_ticket(state);
-    let change = SeatChange::Wait(ticket, until);
-    changes::change_seat(state, seat, &change);
+    changes::start_waiting(state, seat, ticket, until);
     Reply::Silent
 }
 

@@ -12,7 +12,7 @@ use bq_job::{Answer, JobId, Moment, Seat};
 use bq_jobs::NumberedJobs;
 use bq_state::core_parts::CoreParts;
 use bq_state::known::{self, FirstTimeout};
-use bq_state::seats::{SeatChange, Turn};
+use bq_state::seats::Turn;
 use bq_state::{changes, seats};
 
 // Returns true if a moment was found and comes within a second.
@@ -72,7 +72,7 @@ fn end_wait(state: &mut CoreParts, outs: &mut Outs, k: usize, answer: Answer)
     ensures jobs { state.new.jobs ≡ state.old.jobs }
 {
     let number = state.seats[k].number();
-    changes::change_seat(state, number, &SeatChange::StopWaiting);
+    changes::stop_waiting(state, number);
     outs.push(number, answer);
 }
 

@@ -4,8 +4,8 @@ ghost use Rattle.std.specs.{List.list_any, Map.lookup, Prelude.{IfOk, None, OnEr
 ghost use Rattle.std.specs.Prelude.{nat_le, nat_lt, true, unwrap_or, ◌&&◌, ◌+◌, ◌<◌, ◌≡◌, ◌≤◌};
 ghost use Rattle.bq_index.specs.Removed.{passing};
 ghost use Rattle.bq_job.specs.{beside.NameOrder.is_in_order, machine.Changes.{is_held_by, is_ready_state, is_waiting, job_with, seat_with}};
-ghost use Rattle.bq_job.specs.machine.{Changes.{with_job, with_seat}, Dispatch.next_job, JobCommands.{last_id, with_put}, Limits.grown};
-ghost use Rattle.bq_job.specs.machine.{Limits.raised, Machine.{empty_seat, new_machine, numbers}, Timers.at_moment, TubeOrder.tubes};
+ghost use Rattle.bq_job.specs.machine.{Changes.{with_job, with_seat, without_wait}, Dispatch.next_job, JobCommands.{last_id, waiting_from, with_put}};
+ghost use Rattle.bq_job.specs.machine.{Limits.{grown, raised}, Machine.{empty_seat, new_machine, numbers}, Timers.at_moment, TubeOrder.tubes};
 ghost use Rattle.bq_job.specs.machine.Tubes.{forgetting, watches, with_tube};
 ghost use Rattle.bq_jobs.specs.{Kept.{ComparesAtMost, with_added}, Names.number_in, Numbering.HasNumber, Searching.Asks};
 ghost use Rattle.bq_state.specs.{CoreParts.{AtSeat, Watches, held, machine_of, with_pauses_ended}, Crowds.may_wait, Dues.with_warning_due};
@@ -15,6 +15,7 @@ ghost use Rattle.bq_state.specs.{SeatChanges.watches_other, TubeEntries.{has_ent
 ghost use Rattle.bq_state.specs.Warnings.{warned_if_due, with_holder};
 ghost use Rattle.bq_state.specs.{HandOuts.{CountsIf, CountsMove, HandsOutTo, HasNumberIf, body_in}, SeatChanges.AreNumbered};
 ghost use Rattle.bq_state.specs.declared.known.wanted.Wanted.TheVariants as wanted_jobs;
+ghost use Rattle.bq_state.specs.declared.seats.SeatChange.TheVariants as seat_changes;
 
 use crate::core_parts::CoreParts;
 use crate::job_store::{JobChange, JobTest};
@@ -205,8 +206,43 @@ fn count_move(
 }
 
 /// Changes the seat with this number. If it starts to use a tube, that tube already has an entry.
-#[tactic(auto, using(crate::proofs::KnowledgeLemmas::kept_by_seat))]
+#[inline(never)]
 pub fn change_seat(state: &mut CoreParts, seat: Seat, what: &SeatChange)
+    requires entry { has_tube_of what.now state.old.tubes.entries ≡ true }
+    requires waits { may_wait what.now (seat_with seat state.old.seats.items) ≡ true }
+    requires holds { may_hold what.now seat state.old.known.warns state.old.jobs.jobs ≡ true }
+    ensures after { machine_of state.new
+        ≡ with_seat seat (seat_changed what.now) (machine_of state.old) }
+    ensures jobs { state.new.jobs ≡ state.old.jobs }
+{
+    change_seat_by(state, seat, what);
+}
+
+/// The client at the seat no longer waits.
+#[inline(never)]
+pub fn stop_waiting(state: &mut CoreParts, seat: Seat)
+    ensures after { machine_of state.new ≡ with_seat seat without_wait (machine_of state.old) }
+    ensures jobs { state.new.jobs ≡ state.old.jobs }
+{
+    change_seat_by(state, seat, &SeatChange::StopWaiting);
+}
+
+/// The client at the seat waits, with this ticket, until this moment if there is one.
+#[inline(never)]
+pub fn start_waiting(state: &mut CoreParts, seat: Seat, ticket: u64, until: Option<Moment>)
+    requires waits { may_wait (seat_changes.Wait ticket until) (seat_with seat state.old.seats.items) ≡ true }
+    requires holds { may_hold (seat_changes.Wait ticket until) seat state.old.known.warns state.old.jobs.jobs ≡ true }
+    ensures after { machine_of state.new
+        ≡ with_seat seat (waiting_from ticket until) (machine_of state.old) }
+    ensures jobs { state.new.jobs ≡ state.old.jobs }
+{
+    change_seat_by(state, seat, &SeatChange::Wait(ticket, until));
+}
+
+// Does what `change_seat` says. It is inlined, so that a change that is known leaves only the code that it needs.
+#[inline(always)]
+#[tactic(auto, using(crate::proofs::KnowledgeLemmas::kept_by_seat))]
+fn change_seat_by(state: &mut CoreParts, seat: Seat, what: &SeatChange)
     requires entry { has_tube_of what.now state.old.tubes.entries ≡ true }
     requires waits { may_wait what.now (seat_with seat state.old.seats.items) ≡ true }
     requires holds { may_hold what.now seat state.old.known.warns state.old.jobs.jobs ≡ true }

@@ -115,6 +115,7 @@ impl Known {
 
     /// Notes that a seat, if there is one, is about to change. Its tubes have stopped counting it,
     /// as far as the change touches them.
+    #[inline(always)]
     pub(crate) fn leave(
         &mut self,
         client: Option<&SeatRecord>,
@@ -133,6 +134,7 @@ impl Known {
     }
 
     /// The seat with this number, if there is one, was changed.
+    #[inline(always)]
     pub(crate) fn join(&mut self, client: Option<&SeatRecord>, seat: Seat, what: &SeatChange)
         ensures { self.new ≡ with_joined (option_copied client.entry) seat what.now self.old }
     {

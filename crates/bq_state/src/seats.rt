@@ -33,6 +33,7 @@ pub enum SeatChange {
     Use(Tube),
 }
 
+#[inline(always)]
 fn change(client: &mut SeatRecord, what: &SeatChange)
     ensures { client.new ≡ seat_changed what.now client.old }
 {
@@ -47,6 +48,7 @@ fn change(client: &mut SeatRecord, what: &SeatChange)
 }
 
 /// Changes the seat with this number. No other seat is accessed.
+#[inline(always)]
 pub(crate) fn change_at(seats: &mut Vec<SeatRecord, Global>, number: Seat, what: &SeatChange)
     requires { AreNumbered seats.old.items }
     ensures { seats.new.items ≡ map (seat_changed_at number what.now) seats.old.items }

@@ -59,6 +59,7 @@ pub(crate) fn at(client: &SeatRecord, name: &TubeName) -> Share
 }
 
 // Adds a share to a tube's counts, or removes it. An empty share needs no search for the tube.
+#[inline(always)]
 #[tactic(auto, using(crate::proofs::CrowdLemmas::beside_same, crate::proofs::CrowdLemmas::none_recounted))]
 fn recount_at(tubes: &mut Tubes, tube: &Tube, moving: Moving, share: Share)
     ensures { tubes.new ≡ with_crowds_at tube.now (recounted moving share) tubes.old }
@@ -69,6 +70,7 @@ fn recount_at(tubes: &mut Tubes, tube: &Tube, moving: Moving, share: Share)
 }
 
 // Adds a share to the counts of each of these tubes, or removes it.
+#[inline(always)]
 #[tactic(auto, using(crate::proofs::LoopLemmas::folded_more))]
 fn recount_all(tubes: &mut Tubes, watched: &[Tube], moving: Moving, share: Share)
     ensures { tubes.new ≡ with_crowds_at_all watched.now (recounted moving share) tubes.old }
@@ -80,6 +82,7 @@ fn recount_all(tubes: &mut Tubes, watched: &[Tube], moving: Moving, share: Share
 }
 
 // Does the same; an empty share needs no search.
+#[inline(always)]
 #[tactic(auto, using(crate::proofs::CrowdLemmas::all_same, crate::proofs::CrowdLemmas::none_recounted))]
 fn recount_watched(tubes: &mut Tubes, watched: &[Tube], moving: Moving, share: Share)
     ensures { tubes.new ≡ with_crowds_at_all watched.now (recounted moving share) tubes.old }
@@ -112,6 +115,7 @@ fn as_watcher(client: &SeatRecord, what: Share) -> Share
 }
 
 /// Adds a seat's shares to its tubes' counts, or removes them, restricted to `what`.
+#[inline(always)]
 #[tactic(auto, using(crate::proofs::NamedLemmas::kept_alike))]
 pub(crate) fn recount(tubes: &mut Tubes, client: Option<&SeatRecord>, moving: Moving, what: Share)
     ensures { tubes.new ≡ recounted_for moving what (option_copied client.entry) tubes.old }

@@ -146,6 +146,7 @@ impl Waiting {
     }
 
     /// Inserts the turn of the client, if there is one and it waits.
+    #[inline(always)]
     #[tactic(auto, using(std::proofs::lemmas::Grind::common_steps, crate::proofs::WaitingLemmas::placed_length))]
     pub(crate) fn join(&mut self, client: Option<&SeatRecord>)
         requires fits { length (with_turn (option_copied client) self.old.turns) ≤ self.old.room }
@@ -162,6 +163,7 @@ impl Waiting {
     }
 
     /// Removes the turn of the client.
+    #[inline(always)]
     pub(crate) fn leave(&mut self, client: Option<&SeatRecord>)
         ensures turns { self.new.turns ≡ without_turn (option_copied client.entry) self.old.turns }
         ensures room { self.new.room ≡ self.old.room }

@@ -17,6 +17,7 @@ pub enum FirstTimeout {
 }
 
 // Returns true if a change of a seat keeps it.
+#[inline(always)]
 fn keeps(client: &SeatRecord, what: &SeatChange) -> bool
     ensures { result ≡ keeps_timeout what.now client.now }
 {
@@ -34,6 +35,7 @@ fn keeps(client: &SeatRecord, what: &SeatChange) -> bool
 
 impl FirstTimeout {
     /// What is known after a change of a seat; `client` is its record before.
+    #[inline(always)]
     pub(crate) fn change(&mut self, client: Option<&SeatRecord>, what: &SeatChange)
         ensures { self.new ≡ timeout_after what.now (option_copied client.entry) self.old }
     {

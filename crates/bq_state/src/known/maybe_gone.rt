@@ -107,6 +107,7 @@ impl MaybeGone {
 
     /// Marks each tube as possibly gone that the seat used or watched, and whose counts, without
     /// this seat, show no job and no client. Only the shares that `what` names matter.
+    #[inline(always)]
     pub(crate) fn leave(&mut self, tubes: &Tubes, client: Option<&SeatRecord>, what: Share)
         ensures { self.new ≡ gone_of what tubes.now (option_copied client.entry) self.old }
     {
