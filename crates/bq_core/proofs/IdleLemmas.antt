@@ -1,9 +1,14 @@
 -- A state where no client may have a job.
-use Rattle.std.proofs.Common.{None, sym, true, ◌≡◌}
-use Rattle.bq_job.specs.machine.{next_job}
+use Rattle.std.{proofs.Common.{None, false, sym, true, ◌≡◌}, specs.List.list_any}
+use Rattle.bq_core.proofs.TurnLemmas.{no_ready_job}
+use Rattle.bq_job.specs.machine.{is_ready, next_job}
 use Rattle.bq_state.{proofs.WantedLemmas.none_known, specs.{CoreParts.machine_of, WantedJobs.is_nothing}}
 use Rattle.bq_state.specs.declared.core_parts.CoreParts.{CoreParts}
 
 -- If that is known, there is no next job.
 pub none_next : (st : CoreParts) → true ≡ is_nothing st.known.wanted → next_job (machine_of st) ≡ None
 none_next st nothing = none_known st.known.wanted (machine_of st) (sym nothing) st.sound.known.wanted_jobs
+
+-- If no job is ready, there is none either.
+pub none_ready : (st : CoreParts) → false ≡ list_any is_ready st.jobs.jobs → next_job (machine_of st) ≡ None
+none_ready st none = no_ready_job (machine_of st) (sym none)

@@ -1,6 +1,6 @@
 -- A turn of dispatch or of the ends of waits, and chains of turns.
 use Rattle.std.proofs.Common.{Bool, List, None, Some, [], append-nil, arith, false, get_or, inl, inr, length, refl, slice_get, subst, true}
-use Rattle.std.proofs.{Common.{ℕ, ◌++◌, ◌<◌, ◌||◌, ◌∷◌, ◌≡◌}, Math.Bool.{or-false, or-true}, lemmas.Grind.common_steps}
+use Rattle.std.proofs.{Common.{ℕ, ◌++◌, ◌<◌, ◌||◌, ◌∷◌, ◌≡◌}, Math.Bool.{and-false, or-false, or-true}, lemmas.Grind.common_steps}
 use Rattle.std.{proofs.lemmas.{List.length-append, Option.slice_get_read, Result.IfOk-weaker}, specs.List.{Contains, list_any}}
 use Rattle.std.specs.Prelude.{IfOk, Ok, Result, option_map}
 use Rattle.bq_core.specs.{HandOuts.{AddsHandOut, HandsOut}, Turns.{Gives, HasRoom, none_refused}, WaitEnds.AddsWaitEnd}
@@ -8,8 +8,8 @@ use Rattle.bq_core_api.specs.Outbox.{Outbox}
 use Rattle.bq_job.proofs.{ChoiceLemmas.first_of_none_passes, ComputedLemmas.{next_seat_waits, waiting_falls}, DispatchLemmas.turn_of}
 use Rattle.bq_job.{proofs.{LawfulLemmas.end_of, ListLemmas.{all_always, all_weaker, list_any_not, none_pass}}, specs.beside.waiting_count}
 use Rattle.bq_job.specs.{declared.{answer.Answer.Answer, fault.NoMemory.NoMemory, job.Job.Job}, machine.{Chain, DispatchTurn, GivenAnswer}}
-use Rattle.bq_job.specs.machine.{Machine.Machine, SeatRecord, WaitEndTurn, end_of_wait, has_refused_share, is_job_before, is_waiting}
-use Rattle.bq_job.specs.machine.{is_waiting_for, next_end, next_job, next_seat, reserved_by, with_job, with_seat, without_wait}
+use Rattle.bq_job.specs.machine.{Machine.Machine, SeatRecord, WaitEndTurn, end_of_wait, has_refused_share, is_job_before, is_ready}
+use Rattle.bq_job.specs.machine.{is_waiting, is_waiting_for, next_end, next_job, next_seat, reserved_by, with_job, with_seat, without_wait}
 use Rattle.bq_job.specs.declared.answer.Answer.TheVariants as answers
 
 -- if none passes the first test, none passes the second
@@ -21,6 +21,11 @@ none_stronger p q xs less none = list_any_not q xs (all_weaker _ _ xs less (none
 pub no_next_job : (m : Machine) → list_any is_waiting m.seats ≡ false → next_job m ≡ None
 no_next_job m h = first_of_none_passes _ is_job_before m.jobs (list_any_not _ m.jobs (all_always _ m.jobs
     (λ j. none_stronger is_waiting (is_waiting_for m j) m.seats (λ s none. rw none refl) h)))
+
+-- no job is ready: there is no next job
+pub no_ready_job : (m : Machine) → list_any is_ready m.jobs ≡ false → next_job m ≡ None
+no_ready_job m h = first_of_none_passes _ is_job_before m.jobs (none_stronger is_ready _ m.jobs
+    (λ j none. list_any_not _ m.seats (all_always _ m.seats (λ s. rw none (and-false (is_waiting s))))) h)
 
 -- What the end of a wait and the reservation of a job keep, turns keep.
 module _ (P : Machine → Type 0) (stops : (m : Machine) (number : ℕ) → P m → P (with_seat number without_wait m)) where

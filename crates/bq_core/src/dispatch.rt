@@ -202,12 +202,16 @@ fn next_offer(state: &mut CoreParts) -> Option<Offer>
     }
 }
 
-// Returns the id of the job that is handed out next. If no client waits, nothing is searched.
+// Returns the id of the job that is handed out next. If no job is ready or no client waits, nothing
+// is searched.
 #[tactic(auto, using(crate::proofs::AskLemmas::asks_more, crate::proofs::AskLemmas::asks_none, crate::proofs::DispatchLemmas::id_of_best))]
 fn next_job(state: &mut CoreParts) -> Option<JobId>
     ensures id { result ≡ option_map (λ j. j.id) (next_job (machine_of state.old)) }
     ensures kept { Looks (waited (machine_of state.old)) state.old state.new }
 {
+    if !state.has_ready() {
+        return None;
+    }
     if !state.has_waiter() {
         return None;
     }
@@ -340,8 +344,8 @@ fn dispatch_all(state: &mut CoreParts, outs: &mut Outs)
 }
 
 /// While a waiting client may have a ready job, hands the least such job out to the client that has
-/// waited longest. If it is known that no client may have one, nothing is searched.
-#[tactic(auto, using(crate::proofs::IdleLemmas::none_next, crate::proofs::TurnLemmas::gives_nothing))]
+/// waited longest. If no job is ready, or it is known that no client may have one, nothing is searched.
+#[tactic(auto, using(crate::proofs::IdleLemmas::none_next, crate::proofs::IdleLemmas::none_ready, crate::proofs::TurnLemmas::gives_nothing))]
 pub(crate) fn dispatch(state: &mut CoreParts, outs: &mut Outs)
     requires room { HasRoom 0 (machine_of state.old) outs.old }
     ensures given { Gives DispatchTurn has_refused_share
@@ -352,7 +356,9 @@ pub(crate) fn dispatch(state: &mut CoreParts, outs: &mut Outs)
         (waited (machine_of state.old)) outs.old outs.new state.old.jobs state.new.jobs }
 {
     if !state.known.wanted.is_nothing() {
-        dispatch_all(state, outs);
+        if state.has_ready() {
+            dispatch_all(state, outs);
+        }
         changes::record_none_wanted(state);
     }
 }

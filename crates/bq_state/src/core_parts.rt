@@ -50,7 +50,7 @@ pub struct CoreParts {
 
 impl CoreParts {
     ghost use Rattle.std.specs.{List.list_any, Option.option_map, Prelude.{IfOk, IfSome, count_by, filter, is_some, ◌&&◌}};
-    ghost use Rattle.bq_job.specs.machine.{Changes.{is_held_by, is_waiting, job_with, seat_with}, JobStates.{is_delayed, is_reserved}};
+    ghost use Rattle.bq_job.specs.machine.{Changes.{is_held_by, is_ready, is_waiting, job_with, seat_with}, JobStates.{is_delayed, is_reserved}};
     ghost use Rattle.bq_job.specs.reading.TubeName.{is_same_name};
     ghost use Rattle.bq_jobs.specs.Seen.{IsBodyOf};
     ghost use Rattle.bq_state.specs.{CoreParts.machine_of, Crowds.crowd_of, JobChanges.{is_passed_by, passes, ttr_held_by}};
@@ -126,6 +126,14 @@ impl CoreParts {
         ensures kept { Looks 1 self.old self.new }
     {
         job_store::first(&mut self.jobs, self.tubes.names(), kind, tube)
+    }
+
+    /// Returns true if some job is ready.
+    #[tactic(auto, using(crate::proofs::TallyPlaces::some_ready))]
+    pub fn has_ready(&self) -> bool
+        ensures { result ≡ list_any is_ready self.now.jobs.jobs }
+    {
+        self.known.tally.ready > 0
     }
 
     /// Returns true if some client holds a job.
