@@ -11,7 +11,7 @@ use Rattle.bq_job.specs.{machine.{may_have, next_job, next_seat}, reading.TubeNa
 use Rattle.bq_jobs.specs.{Kept.ranked, Seen.{IsBodyOf, IsTubeOf}}
 use Rattle.bq_state.{proofs.TubeLemmas.{paused_is, same_itself, same_name}, specs.{CoreParts.machine_of, Offers.{better_rank, offered}}}
 use Rattle.bq_state.specs.{Offers.{waits_at, with_offer, with_offers}, WantedJobs.AreKnown, declared.core_parts.CoreParts.CoreParts}
-use Rattle.bq_state.specs.declared.known.wanted.Wanted.TheVariants.{Client}
+use Rattle.bq_state.specs.declared.known.wanted.Wanted.TheVariants.{Client, Tube}
 
 -- neither the order of offers nor how they are grouped matters, and the same offer counts once
 pub ranks_swap : (b x y : Option (ℕ × ℕ)) → better_rank (better_rank b x) y ≡ better_rank (better_rank b y) x
@@ -130,6 +130,13 @@ waits_alike m j e s = let first = next_has_seat m j e in grind (arith, common_st
 pub seat_at_tube : (m : Machine) (j : Job) → next_job m ≡ Some j → first_of (waits_at j.tube) is_wait_before m.seats ≡ next_seat m j
 seat_at_tube m j e = grind (arith, common_steps, first_of_agrees, all_always, waits_alike)
 
+-- if only jobs of one tube may be had, the next one is in it
+tube_known : (m : Machine) (name : List ℕ) → AreKnown (Tube name) m.jobs m.seats m.tubes → (j : Job) → next_job m ≡ Some j → name ≡ j.tube
+tube_known m name known j e =
+    let first = next_has_seat m j e in
+    let may = all_at _ _ _ known (first_of_contains _ _ _ _ e) in
+    grind (arith, common_steps, next_seat_waits m j first.0 first.1, all_at, same_name)
+
 -- if only one client may have jobs, it gets the next one
 pub taker_known : (m : Machine) (waiter : ℕ) → AreKnown (Client waiter) m.jobs m.seats m.tubes → IsPicked m waiter
 taker_known m waiter known j e =
@@ -148,6 +155,10 @@ module _ (m : Machine) (id : ℕ) (ids : AreIdsWithin 1 m.jobs m.next_id) (first
   -- a reference to its body
   pub body_of_next : (shared : Result (List ℕ) NoMemory) → IfOk shared (IsBodyOf (job_with id m.jobs)) → IfOk shared (IsBodyOf (next_job m))
   body_of_next shared told = rw next_is told
+
+  -- the tube that it is in
+  pub tube_of_next : (name : List ℕ) → AreKnown (Tube name) m.jobs m.seats m.tubes → IsTubeOf (job_with id m.jobs) name
+  tube_of_next name known j found = tube_known m name known j (next_is ∙ found)
 
   -- the client that waits for jobs of its tube, and has waited longest among those, gets it
   module _ (seats : List SeatRecord) (seats_are : seats ≡ m.seats) (name tube : List ℕ) (name_is : name ≡ tube)

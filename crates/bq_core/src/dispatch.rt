@@ -243,7 +243,7 @@ fn pick_at_tube(state: &mut CoreParts, id: JobId) -> Option<(Seat, Result<Body, 
 
 // Returns the client that gets the next job, and another reference to the job's body, unless that
 // is refused. If only one client may have any job, it is that one, and neither the other clients
-// nor the job's tube are checked.
+// nor the job's tube are checked. If only jobs of one tube may be had, the job is in that tube.
 fn pick(state: &mut CoreParts, id: JobId) -> Option<(Seat, Result<Body, NoMemory>)>
     requires next { Some id ≡ option_map (λ j. j.id) (next_job (machine_of state.old)) }
     ensures some { is_some result ≡ true }
@@ -254,6 +254,15 @@ fn pick(state: &mut CoreParts, id: JobId) -> Option<(Seat, Result<Body, NoMemory
     match &state.known.wanted {
         Wanted::Client(seat) => {
             let seat = *seat;
+            let shared = state.jobs.share_body(id)?;
+            Some((seat, shared))
+        }
+        Wanted::Tube(tube) => {
+            let seat = seats::first_waiting(
+                state.seats.as_slice(),
+                state.waiting.as_slice(),
+                tube.name(),
+            )?;
             let shared = state.jobs.share_body(id)?;
             Some((seat, shared))
         }
