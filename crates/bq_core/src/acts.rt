@@ -208,6 +208,9 @@ fn ask(state: &mut CoreParts, alloc: Global, seat: Seat, request: &Request, outs
             ref body,
         } => job_acts::put(state, alloc, seat, NewJob { pri, delay, ttr }, body, outs),
         Request::Delete { id } => job_acts::delete(state, seat, id, outs),
+        Request::Reserve => {
+            let _silent = job_acts::reserve(state, seat, None);
+        }
         _ => ask_other(state, alloc, seat, request, outs),
     }
 }
