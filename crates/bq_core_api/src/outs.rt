@@ -9,7 +9,7 @@ use std::collections::VecDeque;
 use std::marker::Model;
 
 /// The answers of a step in order, each with the seat that it goes to.
-#[derive(Debug, Drop)]
+#[derive(Drop)]
 pub struct Outs {
     answers: VecDeque<(Seat, Answer), Global>,
     most: usize,

@@ -4,7 +4,7 @@ ghost use Rattle.bq_job.specs.beside.Codes.{answer_code};
 use super::{Body, JobId, Text, TubeName};
 
 /// An answer to a client.
-#[derive(Debug, Drop)]
+#[derive(Drop)]
 pub enum Answer {
     /// `INSERTED`: the put was accepted, and the job has this id.
     Inserted(JobId),

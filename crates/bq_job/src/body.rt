@@ -6,7 +6,7 @@ use std::alloc::Global;
 use std::marker::Model;
 
 /// The bytes of a job. Several answers can share them.
-#[derive(Debug, Drop)]
+#[derive(Drop)]
 pub struct Body {
     bytes: Bytes,
 }
@@ -48,7 +48,7 @@ impl Body {
 }
 
 /// A body and a number that its owner keeps with it. It takes no more memory than the body.
-#[derive(Debug, Drop)]
+#[derive(Drop)]
 pub struct NumberedBody {
     bytes: Bytes,
 }
@@ -90,7 +90,7 @@ impl NumberedBody {
 }
 
 /// A body that is being filled. `new` allocates everything that it needs.
-#[derive(Debug, Drop)]
+#[derive(Drop)]
 pub struct BodyBuilder {
     bytes: Bytes,
 }

@@ -15,7 +15,7 @@ use std::sync::Arc;
 /// six lengths, and the first number says how many bytes at its front are in use. More bytes are in
 /// a vector, which is an allocation of its own. The second number is the reference's own. Both
 /// numbers are between the tag and the pointer, so they take no memory.
-#[derive(Debug, Drop)]
+#[derive(Drop)]
 pub(crate) enum Bytes {
     UpTo16(u8, u32, Arc<[u8; 16], Global>),
     UpTo32(u8, u32, Arc<[u8; 32], Global>),

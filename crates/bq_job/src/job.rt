@@ -1,7 +1,7 @@
 use super::{Body, JobId, Moment, Pri, Seat, TubeName};
 
 /// A job, from the put that made it until its deletion.
-#[derive(Debug, Drop)]
+#[derive(Drop)]
 pub struct Job {
     /// Given by the server, from 1 up. No two jobs have the same id.
     pub id: JobId,
@@ -21,7 +21,7 @@ pub struct Job {
 }
 
 /// How often each thing happened to a job. A count stops at 2^64 - 1.
-#[derive(Clone, Copy, Debug, Default, PartialEq, Eq)]
+#[derive(Clone, Copy, Default, PartialEq, Eq)]
 pub struct Counts {
     /// How often it was handed out to a client.
     pub reserves: u64,
@@ -36,7 +36,7 @@ pub struct Counts {
 }
 
 /// The state of a job. A job is in one state at a time.
-#[derive(Clone, Copy, Debug, PartialEq, Eq)]
+#[derive(Clone, Copy, PartialEq, Eq)]
 pub enum JobState {
     /// A client may reserve it, unless its tube is paused.
     Ready,

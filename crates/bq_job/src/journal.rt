@@ -1,7 +1,7 @@
 use super::{Moment, Seat, Step};
 
 /// An entry of a journal: a step that the core took.
-#[derive(Debug, Drop)]
+#[derive(Drop)]
 pub struct Entry {
     /// The moment that the caller passed in, in milliseconds.
     pub moment: Moment,

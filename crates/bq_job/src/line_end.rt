@@ -1,5 +1,5 @@
 /// How a client's connection ended.
-#[derive(Clone, Copy, Debug, PartialEq, Eq)]
+#[derive(Clone, Copy, PartialEq, Eq)]
 pub enum LineEnd {
     /// The client sent `quit`.
     Quit,
@@ -12,7 +12,7 @@ pub enum LineEnd {
 }
 
 /// The first fault of a connection.
-#[derive(Clone, Copy, Debug, PartialEq, Eq)]
+#[derive(Clone, Copy, PartialEq, Eq)]
 pub enum LineFault {
     /// A read of the connection failed.
     Read,

@@ -2,7 +2,7 @@ ghost use Rattle.std.specs.Prelude.{◌≡◌};
 ghost use Rattle.bq_job.specs.beside.Codes.{refusal_code};
 
 /// Why the reader rejected a request.
-#[derive(Clone, Copy, Debug, PartialEq, Eq)]
+#[derive(Clone, Copy, PartialEq, Eq)]
 pub enum Refusal {
     /// The first word names no command: `UNKNOWN_COMMAND`.
     UnknownCommand,

@@ -5,7 +5,7 @@ use super::{Body, JobId, NoMemory, Pri, Refusal, TubeName};
 
 /// A request of a client, as the reader returns it. Delays, times to run and timeouts are in
 /// seconds.
-#[derive(Debug, Drop)]
+#[derive(Drop)]
 pub enum Request {
     /// `put`: a new job in the used tube.
     Put {

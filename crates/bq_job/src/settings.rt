@@ -1,5 +1,5 @@
 /// What is chosen when a server starts.
-#[derive(Clone, Copy, Debug)]
+#[derive(Clone, Copy)]
 pub struct Settings {
     /// How many clients can be connected at the same time, 1 to 256.
     pub seats: u16,

@@ -4,7 +4,7 @@ ghost use Rattle.bq_job.specs.beside.StepBody.{has_body};
 use super::{NoMemory, Request};
 
 /// An event at a seat, the input of the core.
-#[derive(Debug, Drop)]
+#[derive(Drop)]
 pub enum Step {
     /// A client connected.
     Connect,

@@ -4,7 +4,7 @@ use std::alloc::Global;
 use std::marker::Model;
 
 /// The YAML text of an answer: statistics or a list.
-#[derive(Debug, Drop)]
+#[derive(Drop)]
 pub struct Text {
     bytes: Vec<u8, Global>,
 }

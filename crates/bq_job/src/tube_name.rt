@@ -15,7 +15,7 @@ pub const LONGEST_NAME: usize = 200;
 /// The name of a tube: 1 to 200 bytes of ASCII letters, digits and `- + / ; . $ _ ( )`; the first
 /// byte is not `-`. The name is in a fixed array, so making and cloning one allocate nothing. The
 /// length comes before the bytes, so that a short name is read from one place in memory.
-#[derive(Clone, Copy, Debug)]
+#[derive(Clone, Copy)]
 pub struct TubeName {
     len: u8,
     bytes: [u8; LONGEST_NAME],

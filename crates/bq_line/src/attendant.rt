@@ -71,7 +71,7 @@ pub trait Link {
 
 /// Whether an action of a seat moved something. Unless it is `Moved`, the seat submitted no step and
 /// took no answer, and the value says what remains to be done or what was missing.
-#[derive(Clone, Copy, Debug, PartialEq, Eq)]
+#[derive(Clone, Copy, PartialEq, Eq)]
 pub enum Progress {
     /// Something moved.
     Moved,
@@ -114,7 +114,7 @@ pub enum LinePlace<L> {
 }
 
 /// The result of opening the next connection without waiting.
-#[derive(Clone, Copy, Debug, PartialEq, Eq)]
+#[derive(Clone, Copy, PartialEq, Eq)]
 pub enum Looked {
     /// A connection was opened.
     Opened,

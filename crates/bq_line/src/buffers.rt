@@ -43,7 +43,7 @@ impl Buffers {
 const MOST_WRITTEN: usize = 262_144;
 
 /// How far the writing of a text got.
-#[derive(Clone, Copy, Debug, PartialEq, Eq)]
+#[derive(Clone, Copy, PartialEq, Eq)]
 pub enum Wrote {
     /// All of it is written.
     Whole,

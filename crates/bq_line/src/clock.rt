@@ -170,7 +170,7 @@ fn with_reading(tag: &Tag, reading: Option<Moment>) -> Tag
 }
 
 /// What a run reports to the operator of the server.
-#[derive(Clone, Copy, Debug, PartialEq, Eq)]
+#[derive(Clone, Copy, PartialEq, Eq)]
 pub enum Notice {
     /// The server accepts no more puts.
     Draining,

@@ -164,7 +164,7 @@ pub trait Line {
 }
 
 /// What a stream is ready for, as far as that is known.
-#[derive(Clone, Copy, Debug, PartialEq, Eq)]
+#[derive(Clone, Copy, PartialEq, Eq)]
 pub struct Readiness {
     /// There may be bytes to read, or the end of the input.
     pub reads: bool,
