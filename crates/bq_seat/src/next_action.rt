@@ -112,17 +112,26 @@ impl NextAction {
         &self.answer
     }
 
-    /// Returns the action.
+    /// Returns the action. What it does not carry is freed by calls: the code that takes a step and an
+    /// answer apart would else be part of each branch, and of what has to be proved of it.
     pub(crate) fn into_action(self) -> Action
         ensures { result ≡ self }
     {
-        match self.does {
-            Does::Submit => Action::Submit(self.step),
-            Does::Read => Action::Read,
-            Does::PollMail => Action::PollMail,
-            Does::Write => Action::Write(self.answer),
-            Does::LineOver(end) => Action::LineOver(end),
-            Does::Stray => Action::Stray,
+        let NextAction { does, step, answer } = self;
+        match does {
+            Does::Submit => {
+                drop(answer);
+                Action::Submit(step)
+            }
+            Does::Write => {
+                drop(step);
+                Action::Write(answer)
+            }
+            _ => {
+                drop(step);
+                drop(answer);
+                plain_action(does)
+            }
         }
     }
 
@@ -182,6 +191,19 @@ impl NextAction {
             Step::Ask(place) => reader.take(alloc, bytes, place),
             _ => unreachable!(),
         }
+    }
+}
+
+// Returns the action that does this, which carries neither a step nor an answer.
+fn plain_action(does: Does) -> Action
+    requires { carries_none does ≡ true }
+    ensures { result ≡ plain_action does }
+{
+    match does {
+        Does::Read => Action::Read,
+        Does::PollMail => Action::PollMail,
+        Does::LineOver(end) => Action::LineOver(end),
+        _ => Action::Stray,
     }
 }
 
