@@ -253,6 +253,7 @@ fn act_without_request(state: &mut CoreParts, seat: Seat, what: &Step, outs: &mu
     let mut closed = Answer::Closed;
     let reply = reply_without_request(state, seat, what);
     append_reply(outs, seat, reply, &mut closed);
+    drop(closed);
 }
 
 /// Carries out the command's own effect, and appends its answer.

@@ -148,7 +148,7 @@ pub(crate) fn list_tubes(state: &CoreParts, alloc: Global, answer: &mut Answer) 
     let Ok(names) = changes::tube_names(state, alloc) else {
         return Reply::LeftOut;
     };
-    match names_text(alloc, names.as_slice()) {
+    match names_text(alloc, names) {
         Ok(text) => {
             set_answer(answer, Answer::Ok(text));
             Reply::Told
@@ -174,7 +174,7 @@ pub(crate) fn list_tubes_watched(
     let Ok(names) = name_lists::in_order(alloc, client.watched()) else {
         return Reply::LeftOut;
     };
-    match names_text(alloc, names.as_slice()) {
+    match names_text(alloc, names) {
         Ok(text) => {
             set_answer(answer, Answer::Ok(text));
             Reply::Told

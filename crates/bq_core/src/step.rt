@@ -8,7 +8,7 @@ ghost use Rattle.bq_state.specs.CoreParts.{machine_of};
 
 use crate::{dispatch, timers, waits};
 use bq_core_api::{Config, CoreFault, Outs, QueueCore};
-use bq_job::{LARGEST_BODY, MOST_SEATS, Moment, Seat, Step};
+use bq_job::{LARGEST_BODY, MOST_SEATS, Moment, NoMemory, Seat, Step};
 use bq_state::core_parts::CoreParts;
 use bq_state::tubes::Tubes;
 use bq_state::waiting::Waiting;
@@ -92,10 +92,58 @@ fn is_job_limit(most: Option<u32>) -> bool
     }
 }
 
+// Returns why no core can be made with these settings, if that is so.
+fn judge(config: Config) -> Result<(), CoreFault>
+    ensures bad_seats { IsErrOf result CoreFault.BadSeats ↔ IsTrue
+        (not (is_seat_count config.seats)) }
+    ensures bad_max_job_size { IsErrOf result CoreFault.BadMaxJobSize ↔
+        (IsTrue (is_seat_count config.seats) × IsTrue (not (is_body_size config.max_job_size))) }
+    ensures bad_max_jobs { IsErrOf result CoreFault.BadMaxJobs ↔
+        (IsTrue (is_seat_count config.seats && is_body_size config.max_job_size) × IsTrue (not (is_job_limit config.max_jobs))) }
+{
+    if !is_seat_count(config.seats) {
+        return Err(CoreFault::BadSeats);
+    }
+    if !is_body_size(config.max_job_size) {
+        return Err(CoreFault::BadMaxJobSize);
+    }
+    if !is_job_limit(config.max_jobs) {
+        return Err(CoreFault::BadMaxJobs);
+    }
+    Ok(())
+}
+
+// Returns a core without jobs, or `NoMemory` if an allocation fails.
+#[tactic(auto, using(bq_job::proofs::LawfulLemmas::new_is_lawful))]
+fn empty_core(alloc: Global, config: Config) -> Result<Core, NoMemory>
+    ensures { IfOk result (λ core. core ≡ record { machine = new_machine config; comparisons = 0 }) }
+{
+    let Ok(seats) = seats::free_seats(alloc, config.seats) else {
+        return Err(NoMemory);
+    };
+    let Ok(waiting) = Waiting::new(alloc, config.seats) else {
+        drop(seats);
+        return Err(NoMemory);
+    };
+    let Ok(tubes) = Tubes::new(alloc) else {
+        drop(seats);
+        drop(waiting);
+        return Err(NoMemory);
+    };
+    let Ok(jobs) = changes::no_jobs(alloc, &tubes) else {
+        drop(seats);
+        drop(waiting);
+        drop(tubes);
+        return Err(NoMemory);
+    };
+    Ok(Core {
+        parts: changes::new_parts(config, jobs, seats, waiting, tubes),
+    })
+}
+
 impl Core {
     /// Returns a core with no jobs and with all seats free. Returns the first setting that is out
     /// of range, or `NoMemory` if an allocation fails.
-    #[tactic(auto, using(bq_job::proofs::LawfulLemmas::new_is_lawful))]
     pub fn new(alloc: Global, config: Config) -> Result<Core, CoreFault>
         ensures made { IfOk result
             (λ core. core ≡ record { machine = new_machine config; comparisons = 0 }) }
@@ -106,36 +154,11 @@ impl Core {
         ensures bad_max_jobs { IsErrOf result CoreFault.BadMaxJobs ↔
             (IsTrue (is_seat_count config.seats && is_body_size config.max_job_size) × IsTrue (not (is_job_limit config.max_jobs))) }
     {
-        if !is_seat_count(config.seats) {
-            return Err(CoreFault::BadSeats);
+        judge(config)?;
+        match empty_core(alloc, config) {
+            Ok(core) => Ok(core),
+            Err(_) => Err(CoreFault::NoMemory),
         }
-        if !is_body_size(config.max_job_size) {
-            return Err(CoreFault::BadMaxJobSize);
-        }
-        if !is_job_limit(config.max_jobs) {
-            return Err(CoreFault::BadMaxJobs);
-        }
-        let Ok(seats) = seats::free_seats(alloc, config.seats) else {
-            return Err(CoreFault::NoMemory);
-        };
-        let Ok(waiting) = Waiting::new(alloc, config.seats) else {
-            drop(seats);
-            return Err(CoreFault::NoMemory);
-        };
-        let Ok(tubes) = Tubes::new(alloc) else {
-            drop(seats);
-            drop(waiting);
-            return Err(CoreFault::NoMemory);
-        };
-        let Ok(jobs) = changes::no_jobs(alloc, &tubes) else {
-            drop(seats);
-            drop(waiting);
-            drop(tubes);
-            return Err(CoreFault::NoMemory);
-        };
-        Ok(Core {
-            parts: changes::new_parts(config, jobs, seats, waiting, tubes),
-        })
     }
 
     /// Takes a step: what happens at a seat, at a moment in milliseconds. Afterwards `outs` holds

@@ -5,6 +5,7 @@ ghost use Rattle.bq_state.specs.Names.{names_of};
 use super::builder::TextBuilder;
 use super::lines::{Line, text_of};
 use bq_job::{NoMemory, Text};
+use bq_state::name_lists::Names;
 use std::alloc::Global;
 
 impl<'a> Line for &'a [u8] {
@@ -26,9 +27,11 @@ impl<'a> Line for &'a [u8] {
 
 /// Returns the list of these names, which are in byte order, or `NoMemory` if its allocation fails.
 #[tactic(auto, using(crate::proofs::TextLemmas::names_told))]
-pub(crate) fn names_text(alloc: Global, names: &[&[u8]]) -> Result<Text, NoMemory>
-    requires { IsTrue (is_in_order (names_of names.now)) }
-    ensures { IfOk result (λ text. text ≡ name_list (names_of names.now)) }
+pub(crate) fn names_text(alloc: Global, names: Names) -> Result<Text, NoMemory>
+    requires { IsTrue (is_in_order (names_of names.items)) }
+    ensures { IfOk result (λ text. text ≡ name_list (names_of names.entry.items)) }
 {
-    text_of(alloc, names)
+    let text = text_of(alloc, names.as_slice());
+    drop(names);
+    text
 }
