@@ -253,18 +253,20 @@ fn deletes_in_place(alloc: Global, machine: &mut SeatMachine) -> bool {
     machine.submitted(alloc, &mut next);
     let reads = next.is_read();
     machine.bytes(alloc, b"delete 7\r\n", &mut next);
-    connects && reads && takes_answer(alloc, machine, next)
+    let answered = takes_answer(alloc, machine, &mut next);
+    drop(next);
+    connects && reads && answered
 }
 
 // Passes a machine that submits a delete its answer.
-fn takes_answer(alloc: Global, machine: &mut SeatMachine, mut next: NextAction) -> bool {
+fn takes_answer(alloc: Global, machine: &mut SeatMachine, next: &mut NextAction) -> bool {
     let asks = matches!(next.does(), Does::Submit) && machine.is_asking();
-    machine.submitted(alloc, &mut next);
+    machine.submitted(alloc, next);
     let polls = matches!(next.does(), Does::PollMail);
     next.write(Answer::Deleted);
-    machine.mail(&mut next);
+    machine.mail(next);
     let writes = matches!(next.does(), Does::Write) && matches!(next.answer(), Answer::Deleted);
-    machine.write_done(alloc, &mut next);
+    machine.write_done(alloc, next);
     asks && polls && writes && next.is_read()
 }
 
