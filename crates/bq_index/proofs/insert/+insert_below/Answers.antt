@@ -1,6 +1,7 @@
 use Rattle.bq_index.proofs.Parts.{by_entry, by_key, changed_left, changed_right, come_apart, goes_left, goes_nowhere}
 use Rattle.bq_index.proofs.Parts.{goes_right, left_in_order, right_in_order}
 use Rattle.std.proofs.Common.{◌≡◌, ◌+◌, ◌<◌, Some, ap, arith, rules, subst, ◌∙◌}
+use Rattle.bq_index.proofs.Kept.{kept_on_left, kept_on_right}
 use Rattle.bq_index.specs.Order.{InOrder, LacksKeyOf, with_entry}
 use Rattle.bq_index.specs.Tree.{entries_in, entries_of, entry_in, height_in, height_of, left_in, right_in, IsBalancedFrom, IsLevel}
 use Rattle.bq_index.proofs.insert.+insert_below.Goals as goal
@@ -78,3 +79,15 @@ returns-in-Greater-clause-is g t c =
     (Some c.in-Both.left.value) (Some (c.in-Both.key, c.in-Both.value)) c.in-Both.right.value
     c.insert_below-grown-in-Greater.new.here (ap left_in c.in-Both.is) (ap entry_in c.in-Both.is)
     (ap right_in c.in-Both.is) low c.mend-in-Greater.ensures.rebalanced.is
+
+pub mend-requires-clause-kept : goal.mend-requires-clause-kept
+mend-requires-clause-kept g t c =
+    let e : c.deref_mut.result.now ≡ c.in-Both.left.value = search rules in
+    let level = subst IsLevel c.in-Both.is c.requires.here_level in
+    kept_on_left (level.0, level.1) (ap height_in e) c.insert_below-grown.ensures.raised.3
+
+pub mend-requires-in-Greater-clause-kept : goal.mend-requires-in-Greater-clause-kept
+mend-requires-in-Greater-clause-kept g t c =
+    let e : c.deref_mut-in-Greater.result.now ≡ c.in-Both.right.value = search rules in
+    let level = subst IsLevel c.in-Both.is c.requires.here_level in
+    kept_on_right (level.0, level.1) (ap height_in e) c.insert_below-grown-in-Greater.ensures.raised.3

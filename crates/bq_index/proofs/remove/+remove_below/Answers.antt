@@ -5,6 +5,7 @@ use Rattle.std.specs.BTreeMap.{is_at}
 use Rattle.std.specs.Prelude.{is_some}
 use Rattle.bq_index.proofs.Removed.{cut_of_left, cut_of_right, gone_above, gone_below, taken_of}
 use Rattle.bq_index.specs.Edited.{value_of}
+use Rattle.bq_index.proofs.Kept.{kept_on_left, kept_on_right}
 use Rattle.bq_index.specs.Order.{InOrder}
 use Rattle.bq_index.specs.Removed.{lookup_if, passing, removed_if, value_of_top}
 use Rattle.bq_index.specs.Tree.{entries_in, entries_of, entry_in, height_in, height_of, left_in, right_in, IsBalancedFrom, IsLevel}
@@ -151,3 +152,21 @@ returns-in-Equal-clause-found g t c =
     (come_apart c.args.here.now c.requires.here_level.0) c.requires.in_order at c.in-Equal.is in
     let q = g.T.Test.passed c.args.test.now c.args.key.now in
     c.take_out_if.ensures.value ∙ sym (ap (λ n. passing q (value_of n)) c.in-Both.is) ∙ ap (passing q) (sym w.looked_up)
+
+pub mend-requires-clause-kept : goal.mend-requires-clause-kept
+mend-requires-clause-kept g t c =
+    let e : c.deref_mut.result.now ≡ c.in-Both.left.value = search rules in
+    let level = subst IsLevel c.in-Both.is c.requires.here_level.0 in
+    kept_on_left (level.0, level.1) (ap height_in e) c.remove_below-shrunk.ensures.lowered.3
+
+pub mend-requires-in-Greater-clause-kept : goal.mend-requires-in-Greater-clause-kept
+mend-requires-in-Greater-clause-kept g t c =
+    let e : c.deref_mut-in-Greater.result.now ≡ c.in-Both.right.value = search rules in
+    let level = subst IsLevel c.in-Both.is c.requires.here_level.0 in
+    kept_on_right (level.0, level.1) (ap height_in e) c.remove_below-shrunk-in-Greater.ensures.lowered.3
+
+pub cut_left-requires-clause-room : goal.cut_left-requires-clause-room
+cut_left-requires-clause-room g t c = omega (arith, c.requires.room, c.requires.here_level.1, c.compare_within.ensures.counts_one)
+
+pub cut_right-requires-clause-room : goal.cut_right-requires-clause-room
+cut_right-requires-clause-room g t c = omega (arith, c.requires.room, c.requires.here_level.1, c.compare_within.ensures.counts_one)
