@@ -1,7 +1,7 @@
 use Rattle.std.proofs.Common.{ap, refl, sym, ◌∙◌, arith}
 use Rattle.std.specs.Option.{option_map}
 use Rattle.bq_index.specs.Tree.{lent}
-use Rattle.bq_index.proofs.Parts.{left_in_order, lent_apart, right_in_order, is_below, is_above, is_at_entry}
+use Rattle.bq_index.proofs.Parts.{left_in_order, lent_apart, right_in_order, shorter, is_below, is_above, is_at_entry}
 use Rattle.bq_index.proofs.find.get.Goals as goal
 
 pub compare_to-requires : goal.compare_to-requires
@@ -46,3 +46,11 @@ returns-in-Equal-clause-counted g c =
     let i = c.loop-below.invariant in
     let p = lent_apart c.in-Some.node.now (ap lent c.in-Some.is) refl refl i.balanced in
     (omega (arith, i.more, c.compare_to.ensures.counted.0), omega (arith, i.few, c.compare_to.ensures.counted.1, p.high))
+
+pub loop-below-smaller-in-Less : goal.loop-below-smaller-in-Less
+loop-below-smaller-in-Less g c =
+    (shorter (lent_apart c.in-Some.node.now (ap lent c.in-Some.is) c.left-below.ensures refl c.loop-below.invariant.balanced)).0
+
+pub loop-below-smaller : goal.loop-below-smaller
+loop-below-smaller g c =
+    (shorter (lent_apart c.in-Some.node.now (ap lent c.in-Some.is) refl c.right-below.ensures c.loop-below.invariant.balanced)).1

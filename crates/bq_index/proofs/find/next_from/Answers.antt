@@ -1,7 +1,7 @@
 use Rattle.std.specs.Option.{option_or}
 use Rattle.std.proofs.Common.{◌≡◌, Option, None, Some, ap, refl, sym, ◌∙◌, arith}
 use Rattle.bq_index.specs.Tree.{lent}
-use Rattle.bq_index.proofs.Parts.{first_above, first_at, first_below, left_in_order, lent_apart, right_in_order}
+use Rattle.bq_index.proofs.Parts.{first_above, first_at, first_below, left_in_order, lent_apart, right_in_order, shorter}
 use Rattle.bq_index.proofs.find.next_from.Goals as goal
 
 -- the result is the one found further down, or else the last entry met above
@@ -68,3 +68,11 @@ returns-in-Equal-clause-counted g c =
     let i = c.loop-below.invariant in
     let p = lent_apart c.in-Some.node.now (ap lent c.in-Some.is) refl refl i.balanced in
     (omega (arith, i.more, c.compare_to.ensures.counted.0), omega (arith, i.few, c.compare_to.ensures.counted.1, p.high))
+
+pub loop-below-smaller-in-Less : goal.loop-below-smaller-in-Less
+loop-below-smaller-in-Less g c =
+    (shorter (lent_apart c.in-Some.node.now (ap lent c.in-Some.is) c.left-below.ensures refl c.loop-below.invariant.balanced)).0
+
+pub loop-below-smaller : goal.loop-below-smaller
+loop-below-smaller g c =
+    (shorter (lent_apart c.in-Some.node.now (ap lent c.in-Some.is) refl c.right-below.ensures c.loop-below.invariant.balanced)).1

@@ -1,6 +1,18 @@
+use Rattle.std.proofs.Common.{rules}
 use Rattle.bq_index.specs.Walk.{entry_of, passes_by}
+use Rattle.bq_index.proofs.Parts.{shorter}
 use Rattle.bq_index.proofs.FirstPassing.{found_here, found_left, found_right}
 use Rattle.bq_index.proofs.walk.+first.Goals as goal
+
+pub first-requires : goal.first-requires
+first-requires g t c =
+    let less = shorter c.in_ok-left.ensures.parts in
+    search rules
+
+pub first-requires-else-passes : goal.first-requires-else-passes
+first-requires-else-passes g t c =
+    let less = shorter c.in_ok-left.ensures.parts in
+    search rules
 
 pub returns-then-passes : goal.returns-then-passes
 returns-then-passes g t c =

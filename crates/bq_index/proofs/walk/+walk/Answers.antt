@@ -1,6 +1,17 @@
+use Rattle.std.proofs.Common.{rules}
 use Rattle.bq_index.specs.Walk.{seen_by}
-use Rattle.bq_index.proofs.Parts.{seen_parts}
+use Rattle.bq_index.proofs.Parts.{seen_parts, shorter}
 use Rattle.bq_index.proofs.walk.+walk.Goals as goal
+
+pub walk-requires : goal.walk-requires
+walk-requires g t c =
+    let less = shorter c.in-Some.ensures.parts in
+    search rules
+
+pub walk-requires-2 : goal.walk-requires-2
+walk-requires-2 g t c =
+    let less = shorter c.in-Some.ensures.parts in
+    search rules
 
 pub returns : goal.returns
 returns g t c =

@@ -37,3 +37,14 @@ pub returns-clause-comparisons : goal.returns-clause-comparisons
 returns-clause-comparisons g c =
     let low = height_bound c.args.tree.now c.requires.balanced in
     search rules
+
+pub overflow_add-self : goal.overflow_add-self
+overflow_add-self g c =
+    let h = rw c.in_ok-node.was at c.remove.ensures.found in
+    let less = length_removed (is_at (g.K.Ord.cmp c.args.key.now)) (entries c.args.tree.now)
+    (Some (c.args.key.now, c.in_ok-node.value)) refl h in
+    let spare : c.args.self.now.spare ≡ c.self.inside.spare = search rules in
+    omega (arith, less, spare, c.requires.fits)
+
+pub returns-clause-balanced : goal.returns-clause-balanced
+returns-clause-balanced g c = c.remove.ensures.balanced
