@@ -1,11 +1,11 @@
 -- Texts that are written in several parts.
-use Rattle.std.proofs.Common.{◌≡◌, ℕ, ◌+◌, ◌-◌, ◌≤◌, Bool, true, false, List, [], ◌∷◌, ◌++◌, append-nil}
-use Rattle.std.proofs.Common.{refl, sym, ap, subst, ◌∙◌, arith, length, take, take_all, drop, take-add, append_assoc, if◌then◌else◌}
+use Rattle.std.proofs.Common.{◌≡◌, ℕ, zero, suc, ◌+◌, ◌-◌, ◌≤◌, Bool, true, false, List, [], ◌∷◌, ◌++◌, append-nil}
+use Rattle.std.proofs.Common.{refl, sym, ap, subst, ◌∙◌, arith, length, take, take_all, drop, take-add, append_assoc, ◌<◌, if◌then◌else◌}
 use Rattle.std.proofs.Common.{◌==◌, Result, Ok, Err}
 use Rattle.std.specs.Io.{WritesAtMost}
 use Rattle.std.proofs.lemmas.Bool.Decides.{nat_tests}
 use Rattle.std.proofs.lemmas.Grind.{common_steps}
-use Rattle.std.proofs.lemmas.List.{length-append, take-append-drop, take-append-le}
+use Rattle.std.proofs.lemmas.List.{length-append, take-append-drop, take-append-le, drop-append-le}
 use Rattle.bq_job.specs.promise.LineSteps.{LineSeen, IsBeginning}
 use Rattle.bq_job.specs.declared.line_end.LineFault.TheVariants as faults
 use Rattle.bq_line.specs.LineCalls.{after_write, with_line_fault}
@@ -91,3 +91,42 @@ pub nothing_appended : (head body tail : List ℕ) → (length body == 0) ≡ tr
 nothing_appended head [] [] none nothing = sym (append-nil (head ++ []) ∙ append-nil head)
 nothing_appended head [] (b ∷ tail) none nothing = absurd (grind (arith, nat_tests))
 nothing_appended head (b ∷ body) tail none nothing = absurd (grind (arith, nat_tests))
+
+-- ---- what follows the first bytes of several parts
+
+-- A write from a text is one from an equal text.
+pub from_same : (result : Result ℕ StreamError) (part whole : List ℕ) (old new : LineSeen) → new ≡ after_write result part old
+    → part ≡ whole → new ≡ after_write result whole old
+from_same result part whole old new is same = is ∙ ap (λ bytes. after_write result bytes old) same
+
+drop_past : (n : ℕ) (xs ys : List ℕ) → length xs ≤ n → drop n (xs ++ ys) ≡ drop (n - length xs) ys
+drop_past n [] ys le = ap (λ k. drop k ys) (omega arith)
+drop_past zero (x ∷ xs) ys le = absurd (omega arith)
+drop_past (suc n) (x ∷ xs) ys le = drop_past n xs ys (omega arith) ∙ ap (λ k. drop k ys) (omega arith)
+
+pub in_first_of_two : (done : ℕ) (body tail rest : List ℕ) → rest ≡ drop done body → done < length body
+    → rest ++ tail ≡ drop done (body ++ tail)
+in_first_of_two done body tail rest is lt = ap (λ b. b ++ tail) is ∙ sym (drop-append-le done body tail (omega arith))
+
+pub in_second_of_two : (done : ℕ) (body tail rest : List ℕ) → rest ≡ drop (done - length body) tail → length body ≤ done
+    → rest ≡ drop done (body ++ tail)
+in_second_of_two done body tail rest is le = is ∙ sym (drop_past done body tail le)
+
+pub in_first_of_three : (done : ℕ) (head body tail rest : List ℕ) → rest ≡ drop done head → done < length head
+    → (rest ++ body) ++ tail ≡ drop done ((head ++ body) ++ tail)
+in_first_of_three done head body tail rest is lt =
+    let long = length-append head body in
+    in_first_of_two done (head ++ body) tail (rest ++ body) (in_first_of_two done head body rest is lt) (omega arith)
+
+pub behind_first_of_three : (done : ℕ) (head body tail : List ℕ) → length head ≤ done
+    → drop (done - length head) (body ++ tail) ≡ drop done ((head ++ body) ++ tail)
+behind_first_of_three done head body tail le =
+    sym (drop_past done head (body ++ tail) le) ∙ ap (drop done) (sym (append_assoc head body tail))
+
+pub some_behind_first : (done : ℕ) (head body tail : List ℕ) → done < length ((head ++ body) ++ tail) → length head ≤ done
+    → done - length head < length (body ++ tail)
+some_behind_first done head body tail lt le =
+    let all = length-append (head ++ body) tail in
+    let two = length-append head body in
+    let rest = length-append body tail in
+    omega arith

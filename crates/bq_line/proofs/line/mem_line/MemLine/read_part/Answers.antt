@@ -35,3 +35,38 @@ returns-in-Some-Bytes-clause-answered c =
     let is : part ≡ parts.Bytes c.in-Some-Bytes.bytes = c.in-Some-Bytes.field-0-is in
     rw (here, is) (some_given _ _ _ _ _ _ _ c.in-Some-Bytes.bytes.items c.requires.open found.3.0 found.1
     (rw is refl) c.requires.some count)
+
+pub returns-in-Some-AfterWritten-clause-answered : goal.returns-in-Some-AfterWritten-clause-answered
+returns-in-Some-AfterWritten-clause-answered c =
+    let found = rw c.deref.ensures.value at c.in-Some-AfterWritten.ensures.lookup in
+    let here =
+    slice_get_read c.args.self.now.parts.items _ c.args.self.now.place c.in-Some-AfterWritten.field-0.now refl found.3.0 found.1 in
+    rw (here, c.in-Some-AfterWritten.field-0-is) refl
+
+pub returns-in-Some-Fault-clause-answered : goal.returns-in-Some-Fault-clause-answered
+returns-in-Some-Fault-clause-answered c =
+    let found = rw c.deref.ensures.value at c.in-Some-Fault.ensures.lookup in
+    let here =
+    slice_get_read c.args.self.now.parts.items _ c.args.self.now.place c.in-Some-Fault.field-0.now refl found.3.0 found.1 in
+    rw (here, c.in-Some-Fault.field-0-is) refl
+
+pub returns-in-Some-Bytes-clause-place : goal.returns-in-Some-Bytes-clause-place
+returns-in-Some-Bytes-clause-place c =
+    let found = rw c.deref.ensures.value at c.in-Some-Bytes.ensures.lookup in
+    let here =
+    slice_get_read c.args.self.now.parts.items _ c.args.self.now.place c.in-Some-Bytes.field-0.now refl found.3.0 found.1 in
+    rw (here, c.in-Some-Bytes.field-0-is) refl
+
+pub returns-in-Some-AfterWritten-clause-place : goal.returns-in-Some-AfterWritten-clause-place
+returns-in-Some-AfterWritten-clause-place c =
+    let found = rw c.deref.ensures.value at c.in-Some-AfterWritten.ensures.lookup in
+    let here =
+    slice_get_read c.args.self.now.parts.items _ c.args.self.now.place c.in-Some-AfterWritten.field-0.now refl found.3.0 found.1 in
+    rw (here, c.in-Some-AfterWritten.field-0-is) refl
+
+pub returns-in-Some-Fault-clause-place : goal.returns-in-Some-Fault-clause-place
+returns-in-Some-Fault-clause-place c =
+    let found = rw c.deref.ensures.value at c.in-Some-Fault.ensures.lookup in
+    let here =
+    slice_get_read c.args.self.now.parts.items _ c.args.self.now.place c.in-Some-Fault.field-0.now refl found.3.0 found.1 in
+    rw (here, c.in-Some-Fault.field-0-is) (add-one c.args.self.now.place)
