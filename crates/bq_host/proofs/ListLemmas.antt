@@ -1,9 +1,9 @@
 -- Properties that hold for each element of a list, as elements are added and taken.
-use Rattle.std.proofs.Common.{◌≡◌, ◌∙◌, ℕ, List, [], ◌∷◌, ◌++◌, Some, ap, subst, sym, append_assoc, map, take}
+use Rattle.std.proofs.Common.{◌≡◌, ◌∙◌, ℕ, List, [], ◌∷◌, ◌++◌, Some, ap, subst, sym, append_assoc, map, take, ◌+◌, replicate}
 use Rattle.std.specs.Prelude.{reverse}
 use Rattle.std.specs.List.{All}
 use Rattle.std.specs.Option.{option_to_list}
-use Rattle.std.proofs.lemmas.List.{map-append, reverse-append}
+use Rattle.std.proofs.lemmas.List.{map-append, replicate_more, reverse-append}
 use Rattle.std.proofs.lemmas.List.Elements.{All-head, All-pop, All-push, All-rest, All-take}
 
 pub all_pushed : {X : Type 0} (xs ys : List X) (x : X) (P : X → Type 0) → ys ≡ xs ++ x ∷ [] → All P xs → P x → All P ys
@@ -43,3 +43,7 @@ handed_on f g all rest x ys more y all_is more_are same =
     let here : map g more ≡ map g ys ++ f x ∷ [] = ap (map g) more_are ∙ map-append g ys (y ∷ []) ∙ ap (λ z. map g ys ++ z ∷ []) same in
     ap (λ zs. zs ++ reverse (map f rest)) here ∙ append_assoc (map g ys) (f x ∷ []) (reverse (map f rest))
     ∙ ap (λ zs. map g ys ++ zs) (sym there)
+
+pub one_more : {X : Type 0} (n : ℕ) (x y : X) (xs ys : List X) → xs ≡ replicate n x → ys ≡ xs ++ y ∷ [] → y ≡ x → ys ≡ replicate (n + 1) x
+one_more n x y xs ys xs_are ys_are same =
+    ys_are ∙ ap (λ zs. zs ++ y ∷ []) xs_are ∙ ap (λ z. replicate n x ++ z ∷ []) same ∙ replicate_more n x

@@ -1,4 +1,4 @@
-ghost use Rattle.std.specs.Prelude.{◌≡◌, ◌≤◌, ◌++◌, ◌∷◌, [], length, IfOk, IsErr, IsNone, IsTrue, MatchResult, ◌↔◌, replicate};
+ghost use Rattle.std.specs.Prelude.{◌≡◌, ◌<◌, ◌≤◌, ◌++◌, ◌∷◌, [], length, IfOk, IsErr, IsNone, IsTrue, MatchResult, ◌↔◌, replicate};
 ghost use Rattle.std.specs.Option.{option_to_list};
 ghost use Rattle.bq_host.specs.LastParts.{last_part};
 
@@ -72,8 +72,17 @@ impl Mail {
         ensures { self.new ≡ last_part 4 (self.old ++ answer ∷ []) }
     {
         if self.answers.len() == MAIL_ROOM {
-            let _oldest = self.take_first();
+            drop(self.take_first());
         }
+        self.push(answer);
+    }
+
+    // Appends an answer, for which there is room.
+    #[inline(always)]
+    fn push(&mut self, answer: Answer)
+        requires { length self.old < 4 }
+        ensures { self.new ≡ self.old ++ answer ∷ [] }
+    {
         self.answers.push_back(answer).unwrap();
     }
 }
@@ -86,10 +95,10 @@ pub fn new_mails(alloc: Global, seats: u16) -> Result<Vec<Mail, Global>, NoMemor
         return Err(NoMemory);
     };
     for _ in 0..seats {
-        let mail = Mail::new(alloc)?;
-        if mails.push(mail).is_err() {
+        let Ok(mail) = Mail::new(alloc) else {
             return Err(NoMemory);
-        }
+        };
+        mails.push_reserved(mail);
     }
     Ok(mails)
 }
