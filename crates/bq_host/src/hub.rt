@@ -9,6 +9,7 @@ ghost use Rattle.bq_host.specs.MailStates.{IsInOrder};
 ghost use Rattle.bq_host.specs.Hubs.{IsInOrderFor, KeepsFresh, OnlyMoves, WentAt, WentInOrder, state_of, with_pending};
 ghost use Rattle.bq_host.specs.Told.{HasLogged, concern_of, none_told, none_unlogged, noted, told_after};
 ghost use Rattle.bq_host.specs.WakeLists.{Wakes, none_waits, to_wake};
+ghost use Rattle.bq_seat.specs.declared.machine.Action.TheVariants as actions;
 
 use crate::fault::RunFault;
 use crate::mail::{Mail, new_mails};
@@ -197,7 +198,7 @@ impl<C: Clock + Drop, K: QueueCore + Drop> Hub<C, K> {
             return false;
         };
         if seat == first {
-            place.write(answer);
+            write(place, answer);
             self.note_none_pending();
             return true;
         }
@@ -226,10 +227,11 @@ impl<C: Clock + Drop, K: QueueCore + Drop> Hub<C, K> {
     }
 
     // Makes an answer the oldest one again.
+    #[inline(always)]
     fn put_back(&mut self, seat: Seat, answer: Answer)
         ensures { self.new ≡ with_pending (Some (seat, answer)) self.old.timed.outs.given false self.old }
     {
-        self.held = Some((seat, answer));
+        hold(&mut self.held, seat, answer);
         self.is_sorted = false;
     }
 
@@ -384,6 +386,44 @@ impl<C: Clock + Drop, K: QueueCore + Drop> Hub<C, K> {
         self.is_sorted = may_tick & !is_due;
         is_due
     }
+}
+
+// Writes this answer next. The most frequent answers are made anew in their place. Another one is
+// moved there, for which room for the largest answer is copied twice.
+#[inline(always)]
+fn write(place: &mut NextAction, answer: Answer)
+    ensures { place.new ≡ actions.Write answer }
+{
+    match answer {
+        Answer::Inserted(id) => place.write(Answer::Inserted(id)),
+        Answer::Reserved(id, body) => place.write(Answer::Reserved(id, body)),
+        Answer::Deleted => place.write(Answer::Deleted),
+        other => write_other(place, other),
+    }
+}
+
+// Moves an answer to its place. Inlined, like `put_back`: so room for the answer, which is passed to a
+// call, is initialized only if the call is made.
+#[inline(always)]
+fn write_other(place: &mut NextAction, answer: Answer)
+    ensures { place.new ≡ actions.Write answer }
+{
+    write_moved(place, answer);
+}
+
+#[inline(never)]
+fn write_moved(place: &mut NextAction, answer: Answer)
+    ensures { place.new ≡ actions.Write answer }
+{
+    place.write(answer);
+}
+
+// Keeps an answer until there is room for it in the mail of its seat.
+#[inline(never)]
+fn hold(held: &mut Option<(Seat, Answer)>, seat: Seat, answer: Answer)
+    ensures { held.new ≡ Some (seat, answer) }
+{
+    *held = Some((seat, answer));
 }
 
 // Puts an answer into the mail of its seat and notes that the seat has to be woken, or returns the
