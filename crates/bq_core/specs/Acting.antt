@@ -39,11 +39,13 @@ with_reply seat Told told outs = with_answer seat told outs
 with_reply seat LeftOut told outs = record (with_answer seat answers.OutOfMemory outs) { left_out = true }
 with_reply seat Unshared told outs = record (with_answer seat answers.OutOfMemory outs) { unshared = true }
 
--- the requests that have no room for an answer: theirs is made where it goes
-abbrev pub is_put_or_delete : Request → Bool
-is_put_or_delete (requests.Put pri delay ttr body) = true
-is_put_or_delete (requests.Delete id) = true
-is_put_or_delete request = false
+-- the requests that need no room for an answer: that to a put or a delete is made where it goes, and a reserve is
+-- answered when its wait ends
+abbrev pub needs_no_room : Request → Bool
+needs_no_room (requests.Put pri delay ttr body) = true
+needs_no_room (requests.Delete id) = true
+needs_no_room requests.Reserve = true
+needs_no_room request = false
 
 abbrev pub is_request : Step → Bool
 is_request (steps.Ask request) = true

@@ -1,6 +1,6 @@
 //! The command's own effect, by kind, and its answer.
 ghost use Rattle.std.specs.Prelude.{◌<◌, ◌≡◌, false, length, true};
-ghost use Rattle.bq_core.specs.{Acting.{Acts, is_put_or_delete, is_request, with_answer, with_reply}, Replying.{RepliesAt, RepliesBy}, Turns.HasRoom};
+ghost use Rattle.bq_core.specs.{Acting.{Acts, is_request, needs_no_room, with_answer, with_reply}, Replying.{RepliesAt, RepliesBy}, Turns.HasRoom};
 ghost use Rattle.bq_job.specs.machine.{Asked.{asked, effect, refusal_answer as answer_of_refusal}, Changes.seat_with};
 ghost use Rattle.bq_job.specs.machine.Steps.{step_takes_memory, takes_memory};
 ghost use Rattle.bq_state.specs.{Asking.AsksAsChanged, CoreParts.machine_of, SeatStates.is_asking};
@@ -79,9 +79,10 @@ fn refuse(why: Refusal, answer: &mut Answer) -> Reply
     Reply::Told
 }
 
-// Carries out a request that a connected client may make, other than a put or a delete. A call
-// initializes the room for all its large values before it begins, whichever branch it takes. So
-// commands that need a name or a job by value are kept in functions of their own (`inline(never)`).
+// Carries out a request that a connected client may make, other than a put, a delete or a plain
+// reserve. A call initializes the room for all its large values before it begins, whichever branch it
+// takes. So commands that need a name or a job by value are kept in functions of their own
+// (`inline(never)`).
 #[tactic(auto, using(std::proofs::lemmas::Grind::common_steps, crate::proofs::ActLemmas::number_found))]
 fn carry_out(
     state: &mut CoreParts,
@@ -91,14 +92,13 @@ fn carry_out(
     answer: &mut Answer,
 ) -> Reply
     requires asks { is_asking (seat_with seat state.old.seats.items) ≡ true }
-    requires other { is_put_or_delete request.now ≡ false }
+    requires other { needs_no_room request.now ≡ false }
     ensures reply { RepliesAt seat (takes_memory request.now)
         (asked request.now) state.old result answer.new state.new }
     ensures asks { AsksAsChanged state.old.jobs state.new.jobs }
 {
     match *request {
-        Request::Put { .. } | Request::Delete { .. } => Reply::Silent,
-        Request::Reserve => job_acts::reserve(state, seat, None),
+        Request::Put { .. } | Request::Delete { .. } | Request::Reserve => Reply::Silent,
         Request::ReserveWithTimeout { seconds } => job_acts::reserve_until(state, seat, seconds),
         Request::ReserveJob { id } => job_acts::reserve_job(state, seat, id, answer),
         Request::Release { id, pri, delay } => {
@@ -154,8 +154,8 @@ fn append_reply(outs: &mut Outs, seat: Seat, reply: Reply, answer: &mut Answer)
     }
 }
 
-// Carries out a request other than a put or a delete, and appends its answer. There is room for an
-// answer in `answer`.
+// Carries out one of the other requests, and appends its answer. There is room for an answer in
+// `answer`.
 #[tactic(auto, using(crate::proofs::ActLemmas::acts_replied))]
 fn ask_with(
     state: &mut CoreParts,
@@ -166,7 +166,7 @@ fn ask_with(
     answer: &mut Answer,
 )
     requires asks { is_asking (seat_with seat state.old.seats.items) ≡ true }
-    requires other { is_put_or_delete request.now ≡ false }
+    requires other { needs_no_room request.now ≡ false }
     requires room { length outs.old.given < outs.old.most }
     ensures acts { Acts (machine_of state.old) seat (steps.Ask request.now) outs.old outs.new
         (machine_of state.new) }
@@ -176,12 +176,12 @@ fn ask_with(
     append_reply(outs, seat, reply, answer);
 }
 
-// Does the same. Not inlined, because it initializes room for an answer, which puts and deletes do
-// not need.
+// Does the same. Not inlined, because it initializes room for an answer, which puts, deletes and
+// reserves do not need.
 #[inline(never)]
 fn ask_other(state: &mut CoreParts, alloc: Global, seat: Seat, request: &Request, outs: &mut Outs)
     requires asks { is_asking (seat_with seat state.old.seats.items) ≡ true }
-    requires other { is_put_or_delete request.now ≡ false }
+    requires other { needs_no_room request.now ≡ false }
     requires room { length outs.old.given < outs.old.most }
     ensures acts { Acts (machine_of state.old) seat (steps.Ask request.now) outs.old outs.new
         (machine_of state.new) }
