@@ -60,19 +60,48 @@ impl<'r, R: Net> Watch<'r, R> {
         let Ok(events) = Vec::from_elem(alloc, unused, EVENTS) else {
             return Err(TurnsFault::NoMemory);
         };
-        let Ok(poll) = Poll::new(rt) else {
-            return Err(TurnsFault::Refused);
-        };
-        watch_doors(poll.registry(), doors)?;
-        let control = ControlWatch::new(poll.registry(), control)?;
-        Ok(Watch {
-            rt,
-            poll,
-            events,
-            came: 0,
-            control,
-        })
+        match watch_all(rt, doors, control) {
+            Ok((poll, control)) => Ok(Watch {
+                rt,
+                poll,
+                events,
+                came: 0,
+                control,
+            }),
+            Err(fault) => {
+                drop(events);
+                Err(fault)
+            }
+        }
     }
+}
+
+// Returns an epoll that has the doors and the control line registered.
+fn watch_all<R: Net, L: Line + Drop, D: Door<Line = L>>(
+    rt: &R,
+    doors: &[D],
+    control: Option<RawFd>,
+) -> Result<(Poll, ControlWatch), TurnsFault> {
+    let Ok(poll) = Poll::new(rt) else {
+        return Err(TurnsFault::Refused);
+    };
+    match register_all(poll.registry(), doors, control) {
+        Ok(control) => Ok((poll, control)),
+        Err(fault) => {
+            drop(poll);
+            Err(fault)
+        }
+    }
+}
+
+// Registers the doors and the control line.
+fn register_all<L: Line + Drop, D: Door<Line = L>>(
+    registry: &Registry,
+    doors: &[D],
+    control: Option<RawFd>,
+) -> Result<ControlWatch, TurnsFault> {
+    watch_doors(registry, doors)?;
+    ControlWatch::new(registry, control)
 }
 
 impl<'r, R> Watch<'r, R> {
