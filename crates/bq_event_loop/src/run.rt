@@ -222,6 +222,18 @@ fn new_parts<L: Line + Drop, C: Clock + Drop, K: QueueCore + Drop>(
     if doors != usize::from(config.seats) {
         return Err(RunFault::BadConfiguration);
     }
+    new_parts_for(alloc, config, clock)
+}
+
+// The same, if there is a door for each seat.
+fn new_parts_for<L: Line + Drop, C: Clock + Drop, K: QueueCore + Drop>(
+    alloc: Global,
+    config: Config,
+    clock: C,
+) -> Result<NewParts<L, C, K>, RunFault>
+    ensures new { IfOk result (IsNewLoop K.QueueCore config clock) }
+    ensures bad_configuration { IsErrOf result RunFault.BadConfiguration ↔ IsTrue (not (are_in_range config)) }
+{
     let core: Hub<C, K> = new_hub(alloc, config, clock)?;
     match new_room(alloc, &config) {
         Ok((seats, buffer)) => Ok(NewParts {
