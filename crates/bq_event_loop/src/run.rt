@@ -1,17 +1,24 @@
 //! The run of many doors by one thread that owns the core.
-ghost use Rattle.std.specs.Prelude.{◌≡◌, ◌↔◌, ◌&&◌, ◌==◌, true, false, not, length, Ok, IfErr, IfOk, IsErrOf, IsTrue, vec_len};
+ghost use Rattle.std.specs.Prelude.{◌≡◌, ◌↔◌, ◌&&◌, ◌==◌, true, false, not, [], length, Ok, IfErr, IfOk, IsErrOf, IsTrue, vec_len};
 ghost use Rattle.std.specs.List.{All};
 ghost use Rattle.bq_core_api.specs.Limits.{are_in_range, is_body_size};
 ghost use Rattle.bq_job.specs.laws.TheHeadline.{AreJobsServedIn};
+ghost use Rattle.bq_line.specs.ControlSeen.{new_control};
 ghost use Rattle.bq_line.specs.Tending.{AreSame, IsNewDoor, IsNewSeat, door_seen};
 ghost use Rattle.bq_event_loop.specs.EventLoopRuns.{IsEventLoopRun, IsEventLoopSoFar};
+ghost use Rattle.bq_event_loop.specs.ControlTold.{HasTold};
 ghost use Rattle.bq_event_loop.specs.Known.{KnowsAll};
+ghost use Rattle.bq_event_loop.specs.KnownTurns.{AreKnownBy};
 ghost use Rattle.bq_host.specs.Hubs.{state_of};
 ghost use Rattle.bq_host.specs.MailStates.{IsInOrder, IsNewMailState};
 ghost use Rattle.bq_host.specs.WakeLists.{none_waits};
 ghost use Rattle.bq_event_loop.specs.NewLoops.{IsNewLoop};
 ghost use Rattle.bq_event_loop.specs.Refused.{IsRefusedBy};
+ghost use Rattle.bq_event_loop.specs.Rows.{AreDone};
+ghost use Rattle.bq_event_loop.specs.Serving.{AreReady, IsServing};
 ghost use Rattle.bq_event_loop.specs.SoFar.{began_with, beginning};
+ghost use Rattle.bq_event_loop.specs.declared.control_turns.ControlTurns.{ControlTurns};
+ghost use Rattle.bq_event_loop.specs.declared.control_turns.Stage.TheVariants as stages;
 
 use crate::control_turns::ControlTurns;
 use crate::row::Row;
@@ -73,6 +80,14 @@ struct NewParts<L: Line + Drop, C: Clock + Drop, K: QueueCore + Drop> {
     core: Hub<C, K>,
     seats: Vec<Attendant<L>, Global>,
     buffer: ReadBuffer,
+}
+
+// What was served. `has_ended` is false if the run was broken off.
+struct Served<L: Line + Drop, D: Door<Line = L>, C: Clock + Drop, I, K: QueueCore + Drop> {
+    row: Row<L, D>,
+    control: ControlTurns<I>,
+    core: Hub<C, K>,
+    has_ended: bool,
 }
 
 /// Serves the connections of all doors, each door at a seat of its own, until no more connections
@@ -317,17 +332,67 @@ fn run_at<
     ensures same { AreSame D.same doors.items result.doors.items }
     ensures settings { (K.machine result.core).settings ≡ config }
 {
+    let input = ControlLine::new(control);
+    let Served {
+        row,
+        control,
+        core,
+        has_ended: is_over,
+    } = serve_new(config, parts, doors, input, turns, sleeper);
+    steps_keep_settings();
+    let (clock, core) = core.into_parts();
+    EventLoopRun {
+        seats: row.seats,
+        doors: row.doors,
+        clock,
+        control: control.input,
+        core,
+        is_over,
+    }
+}
+
+// Serves all doors, from a new core and new seats on. That is a function of its own, so that what
+// holds at the start is no part of what is proved of the result.
+#[tactic(auto, using(crate::proofs::SoFarLemmas::serving_since))]
+fn serve_new<
+    T: Turns,
+    W: Sleeper,
+    L: Line + Drop,
+    D: Door<Line = L>,
+    C: Clock + Drop,
+    I: ControlInput + Drop,
+    K: QueueCore + Drop,
+>(
+    config: Config,
+    parts: NewParts<L, C, K>,
+    doors: Vec<D, Global>,
+    input: I,
+    turns: &mut T,
+    sleeper: &mut W,
+) -> Served<L, D, C, I, K>
+    requires new { IsNewLoop K.QueueCore config parts.core.timed.time.clock parts }
+    requires doored { length doors.items ≡ config.seats }
+    requires unread { I.seen input ≡ new_control }
+    requires of_run { T.is_of (beginning config doors.items parts.core.timed.time.clock (I.remaining input) (I.may_fail input)) }
+    requires knows { KnowsAll config.seats (T.seats turns.old) (T.listed turns.old) (T.looks turns.old) }
+    requires new_doors { All
+        (λ door. IsNewDoor (door_seen D.is_out D.is_at_end D.lines_over door)) doors.items }
+    ensures done { result.has_ended ≡ true → AreDone result.row.seats.items }
+    ensures over { result.has_ended ≡ true → result.control.stage ≡ stages.Over }
+    ensures serving { IsServing K.QueueCore C.Clock L.Line D.Door I.ControlInput
+        (beginning config doors.items parts.core.timed.time.clock (I.remaining input) (I.may_fail input))
+        result.core result.row result.control }
+{
+    let began = begin(config, &parts, &doors, &input, turns);
     let NewParts {
         mut core,
         seats,
         mut buffer,
     } = parts;
-    let input = ControlLine::new(control);
-    let began = begin_with(&config, &doors, &core.timed.time.clock, &input);
     let mut row = Row { seats, doors };
     let mut control = ControlTurns::new(input);
     let mut buffers = Buffers::new();
-    let is_over = serve(
+    let has_ended = serve(
         &began,
         turns,
         sleeper,
@@ -340,16 +405,48 @@ fn run_at<
     drop(began);
     drop(buffers);
     drop(buffer);
-    steps_keep_settings();
-    let (clock, core) = core.into_parts();
-    EventLoopRun {
-        seats: row.seats,
-        doors: row.doors,
-        clock,
-        control: control.input,
+    Served {
+        row,
+        control,
         core,
-        is_over,
+        has_ended,
     }
+}
+
+// What a run begins with, for the proofs, and what holds then.
+fn begin<
+    T: Turns,
+    L: Line + Drop,
+    D: Door<Line = L>,
+    C: Clock + Drop,
+    I: ControlInput,
+    K: QueueCore + Drop,
+>(
+    config: Config,
+    parts: &NewParts<L, C, K>,
+    doors: &Vec<D, Global>,
+    input: &I,
+    _turns: &T,
+) -> Began<D, C, I>
+    requires new { IsNewLoop K.QueueCore config parts.now.core.timed.time.clock parts.now }
+    requires doored { length doors.now.items ≡ config.seats }
+    requires of_run { T.is_of
+        (beginning config doors.now.items parts.now.core.timed.time.clock (I.remaining input.now) (I.may_fail input.now)) }
+    requires knows { KnowsAll config.seats (T.seats _turns.now) (T.listed _turns.now) (T.looks _turns.now) }
+    requires new_doors { All
+        (λ door. IsNewDoor (door_seen D.is_out D.is_at_end D.lines_over door)) doors.now.items }
+    ensures began { began_with I.ControlInput result
+        ≡ beginning config doors.now.items parts.now.core.timed.time.clock (I.remaining input.now) (I.may_fail input.now) }
+    ensures of_run { T.is_of (began_with I.ControlInput result) }
+    ensures ready { AreReady K.QueueCore L.Line D.Door parts.now.core (record { seats = parts.now.seats; doors = doors.now }) }
+    ensures known { AreKnownBy L.Line T.Turns _turns.now [] parts.now.seats.items parts.now.core.mails.items }
+    ensures woken { parts.now.core.woken ≡ none_waits (length parts.now.core.mails.items) }
+    ensures serving { (control : ControlTurns I)
+        → HasTold I.ControlInput (I.remaining input.now) (I.may_fail input.now) control []
+        → IsServing K.QueueCore C.Clock L.Line D.Door I.ControlInput (began_with I.ControlInput result) parts.now.core
+        (record { seats = parts.now.seats; doors = doors.now }) control }
+{
+    begin_with(&config, doors, &parts.core.timed.time.clock, input)
 }
 
 // What a run begins with, for the proofs.
