@@ -3,7 +3,7 @@ use Rattle.std.proofs.Common.{◌≡◌, ℕ, zero, suc, ◌+◌, ◌<◌, Bool,
 use Rattle.std.proofs.Common.{length, replicate, refl, sym, ap, ◌∙◌, ◌⊎◌, inl, inr, subst, append-nil, append_assoc, arith}
 use Rattle.std.specs.Prelude.{◌==◌, slice_index_or, slice_set}
 use Rattle.std.proofs.lemmas.{Bool.{cases_Bool, eqb-true, eqb-false}, Grind.common_steps}
-use Rattle.std.proofs.lemmas.List.{get_or-set_other, length-replicate}
+use Rattle.std.proofs.lemmas.List.{get_or-set_other, length-replicate, length-set}
 use Rattle.bq_job.specs.declared.answer.Answer.{Answer}
 use Rattle.bq_job.specs.declared.settings.Settings.{Settings}
 use Rattle.bq_job.specs.declared.step.Step.{Step}
@@ -61,6 +61,11 @@ gone_only : (seat : ℕ) (what : Step) (flags : List Bool) (t : ℕ) → IsSet (
     → IsSet flags t ⊎ ((t ≡ seat) × (what ≡ Gone))
 gone_only seat Gone flags t set = elim (set_only flags seat t set) [ inl e ↦ inl e | inr e ↦ inr (e, refl) ]
 gone_only seat _ flags t set = inl set
+
+-- No flag is added or taken away.
+pub same_many : (seat : ℕ) (what : Step) (old new : List Bool) → new ≡ gone_after seat what old → length new ≡ length old
+same_many seat Gone old new marked = rw marked (length-set old seat true)
+same_many seat _ old new marked = ap length marked
 
 marks : (seat : ℕ) (what : Step) (old new : List Bool) (all : List (ℕ × Step)) → new ≡ gone_after seat what old
     → ((t : ℕ) → IsSet old t → HasGone (steps_of t all)) → (t : ℕ) → IsSet new t → HasGone (steps_of t (all ++ (seat, what) ∷ []))

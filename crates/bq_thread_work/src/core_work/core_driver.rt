@@ -275,7 +275,7 @@ impl<C: Clock + Drop, K: QueueCore + Drop> CoreDriver<C, K> {
             ≡ gone_after seat what.now self.old.gone.flags.items }
         ensures sender { self.new.sender ≡ self.old.sender }
     {
-        self.mark(seat, what);
+        self.gone.mark_if_gone(seat, what);
         self.timed.take_step(seat, what);
     }
 
@@ -293,19 +293,6 @@ impl<C: Clock + Drop, K: QueueCore + Drop> CoreDriver<C, K> {
         ensures ticked { result ≡ true → HasTicked K.machine self.old self.new }
     {
         self.timed.tick_if_due(0, false, true)
-    }
-
-    // Records an end as gone if its step says so.
-    fn mark(&mut self, seat: Seat, what: &Step)
-        requires order { IsInOrder K.machine self.old }
-        ensures order { IsInOrder K.machine self.new }
-        ensures marked { self.new.gone.flags.items
-            ≡ gone_after seat what.now self.old.gone.flags.items }
-        ensures rest { self.new ≡ record self.old { gone = self.new.gone } }
-    {
-        if let Step::Gone = what {
-            self.gone.mark(seat);
-        }
     }
 
     // Waits until a step arrives or something is due: it polls for a while, and sleeps if it found

@@ -2,7 +2,7 @@
 ghost use Rattle.std.specs.Prelude.{◌≡◌, ◌↔◌, false, true, slice_set};
 ghost use Rattle.bq_thread_work.specs.Flags.{AreAllSet};
 
-use bq_job::Seat;
+use bq_job::{Seat, Step};
 use std::alloc::Global;
 
 /// A flag for each end that has gone, and whether all have.
@@ -13,6 +13,8 @@ pub struct GoneEnds {
 }
 
 impl GoneEnds {
+    ghost use Rattle.bq_thread_work.specs.Worked.{KnowsAll, gone_after};
+
     /// Returns a value in which no end has gone.
     pub fn none(flags: Vec<bool, Global>) -> GoneEnds
         ensures flags { result.flags ≡ flags }
@@ -26,10 +28,27 @@ impl GoneEnds {
         ensures marked { self.new.flags.items ≡ slice_set self.old.flags.items seat true }
         ensures all { self.new.all ≡ true ↔ AreAllSet self.new.flags.items }
     {
-        if let Some(flag) = self.flags.get_mut(usize::from(seat)) {
-            *flag = true;
-        }
+        set_flag(&mut self.flags, seat);
         self.all = are_all_set(self.flags.as_slice());
+    }
+
+    /// Records an end as gone if its step says so.
+    pub fn mark_if_gone(&mut self, seat: Seat, what: &Step)
+        requires known { KnowsAll self.old }
+        ensures marked { self.new.flags.items ≡ gone_after seat what.now self.old.flags.items }
+        ensures known { KnowsAll self.new }
+    {
+        if let Step::Gone = what {
+            self.mark(seat);
+        }
+    }
+}
+
+fn set_flag(flags: &mut Vec<bool, Global>, seat: Seat)
+    ensures { flags.new.items ≡ slice_set flags.old.items seat true }
+{
+    if let Some(flag) = flags.get_mut(usize::from(seat)) {
+        *flag = true;
     }
 }
 
