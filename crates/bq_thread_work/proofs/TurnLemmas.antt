@@ -42,6 +42,22 @@ on_paced given machine compared h yielding polling order = record {
   work = λ settings from first w. w;
 }
 
+-- A step was taken out of the intake, and nothing else happened.
+pub in_order_taken : {C K : Type 0} (machine : K → Machine) (h : CoreDriver C K) (step : ℕ × Step) → IsInOrder machine h
+    → IsInOrder machine (record h { sender = record h.sender { end = record h.sender.end { taken = h.sender.end.taken ++ step ∷ [] } } })
+in_order_taken machine h step order =
+    let rest = order.sender in
+    record {
+      ready = order.ready;
+      sender = record {
+        places = record { ends = rest.places.ends; for_kept = rest.places.for_kept; for_aside = rest.places.for_aside };
+        few = rest.few;
+        none_aside = rest.none_aside;
+      };
+      many = order.many;
+      all = order.all;
+    }
+
 -- One thing was done, and then another.
 pub on_both : {C K : Type 0} (given : Gives C) (machine : K → Machine) (compared : K → ℕ) (old mid new : CoreDriver C K)
     → WorksOn given machine compared old mid → WorksOn given machine compared mid new

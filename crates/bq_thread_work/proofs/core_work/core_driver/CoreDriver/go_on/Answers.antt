@@ -2,6 +2,12 @@ use Rattle.std.proofs.Common.{◌∙◌}
 use Rattle.bq_thread_work.proofs.TurnLemmas.{finds_tick}
 use Rattle.bq_thread_work.proofs.core_work.core_driver.CoreDriver.go_on.Goals as goal
 
+pub tick_if_due-requires-clause-order : goal.tick_if_due-requires-clause-order
+tick_if_due-requires-clause-order g c = rw c.has_none.ensures.same c.requires.order.1
+
+pub take_one-requires-clause-order : goal.take_one-requires-clause-order
+take_one-requires-clause-order g c = rw c.has_none.ensures.same c.requires.order
+
 pub returns-then-has_none-clause-on : goal.returns-then-has_none-clause-on
 returns-then-has_none-clause-on g c =
     rw c.has_none.ensures.same at c.tick_if_due.ensures.on

@@ -11,6 +11,11 @@ go_on-requires-clause-order g c = let on = c.give_way.ensures.on in (on.end.0 �
 pub go_on-requires-clause-none : goal.go_on-requires-clause-none
 go_on-requires-clause-none g c = ap (λ (h : CoreDriver _ _). h.timed.outs.given) c.give_way.ensures.rest ∙ c.requires.none
 
+pub await_step-requires : goal.await_step-requires
+await_step-requires g c = record {
+  order = (c.go_on.ensures.on.end.0 ∙ c.give_way.ensures.on.end.0 ∙ c.requires.order.0, c.go_on.ensures.on.order);
+}
+
 pub returns-then-not-go_on-clause-on : goal.returns-then-not-go_on-clause-on
 returns-then-not-go_on-clause-on g c = on_both _ _ _ c.args.self.now c.go_on.new.self c.await_step.new.self
     (on_both _ _ _ c.args.self.now c.give_way.new.self c.go_on.new.self c.give_way.ensures.on c.go_on.ensures.on) c.await_step.ensures.on
