@@ -9,7 +9,7 @@ use Rattle.bq_job.specs.promise.Runs.{answers_to}
 use Rattle.bq_job.proofs.OneClientLemmas.{answers_append}
 use Rattle.bq_link.specs.EndStates.{CoreState, room_for, sent_to}
 use Rattle.bq_link.specs.EndChanges.{with_room, with_sent}
-use Rattle.bq_thread_work.specs.Sending.{AreSent}
+use Rattle.bq_thread_work.specs.Sending.{AreSent, AreStuck}
 
 -- one sending after another
 pub sent_on : (a b c : CoreState) (xs ys zs : List GivenAnswer) → AreSent a xs b ys → AreSent b ys c zs → AreSent a xs c zs
@@ -79,3 +79,29 @@ sent_one old new kept seat answer is to none = record {
         ∙ ap (λ (all : List Answer). sent_to old t ++ all)
         (sym (answers_append t kept ((seat, answer) ∷ [])
         ∙ ap (λ (all : List Answer). answers_to t kept ++ all) (to_other seat t answer other) ∙ append-nil (answers_to t kept)))
+
+-- An answer was sent to an end for which none was kept.
+pub stuck_sent : (old new : CoreState) (kept same : List GivenAnswer) (seat : ℕ) (answer : Answer)
+    → new ≡ with_room (with_sent old seat answer) seat (room_for new seat) → answers_to seat kept ≡ [] → same ≡ kept
+    → AreStuck old kept → AreStuck new same
+stuck_sent old new kept same seat answer is none e stuck = rw e (λ t. elim (cases_Bool (seat == t)) [
+  | inl own ↦ inl (rw (← eqb-true seat t own) none)
+  | inr other ↦ elim (stuck t) [
+    | inl nothing ↦ inl nothing
+    | inr full ↦ inr (elsewhere t (λ x. eqb-false seat t other (sym x)) ∙ full)
+  ]
+])
+  where
+    elsewhere : (t : ℕ) → t ≢ seat → room_for new t ≡ room_for old t
+    elsewhere t other = ap (λ (c : CoreState). room_for c t) is ∙ get_or-set_other old.room seat t (room_for new seat) 0 other
+
+-- An answer was kept after the others because the ring of its end was full.
+pub stuck_kept : (end : CoreState) (kept same new : List GivenAnswer) (seat : ℕ) (answer : Answer) → room_for end seat ≡ 0
+    → same ≡ kept → new ≡ same ++ (seat, answer) ∷ [] → AreStuck end kept → AreStuck end new
+stuck_kept end kept same new seat answer full e more stuck = rw (more, e) (λ t. elim (cases_Bool (seat == t)) [
+  | inl own ↦ inr (rw (← eqb-true seat t own) full)
+  | inr other ↦ elim (stuck t) [
+    | inl nothing ↦ inl (answers_append t kept ((seat, answer) ∷ []) ∙ rw nothing (to_other seat t answer (eqb-false seat t other)))
+    | inr full ↦ inr full
+  ]
+])

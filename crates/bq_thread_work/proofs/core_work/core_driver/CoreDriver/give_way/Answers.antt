@@ -4,6 +4,13 @@ use Rattle.bq_thread_work.specs.declared.core_work.core_driver.CoreDriver.{CoreD
 use Rattle.bq_thread_work.proofs.TurnLemmas.{on_both, on_paced}
 use Rattle.bq_thread_work.proofs.core_work.core_driver.CoreDriver.give_way.Goals as goal
 
+pub yield_once-took-requires : goal.yield_once-took-requires
+yield_once-took-requires g c =
+    let old = c.args.self.now in
+    let paced = on_paced g.C.Clock.given g.K.QueueCore.machine g.K.QueueCore.comparisons old c.is_yield_next.new.self.yielding old.polling
+    c.requires.order.1 in
+    record { order = rw c.is_yield_next.ensures.rest paced.order }
+
 pub returns-then-is_yield_next-clause-on : goal.returns-then-is_yield_next-clause-on
 returns-then-is_yield_next-clause-on g c =
     let old = c.args.self.now in
