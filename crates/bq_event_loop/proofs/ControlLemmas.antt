@@ -1,13 +1,13 @@
 -- A control line that is read between the turns of the seats.
 use Rattle.std.proofs.Common.{◌≡◌, ℕ, ◌+◌, Bool, true, false, List, [], ◌∷◌, ◌++◌}
-use Rattle.std.proofs.Common.{Option, IfSome, refl, sym, ap, ◌∙◌, subst, arith, append-nil, append_assoc, replicate}
+use Rattle.std.proofs.Common.{Option, Some, None, IfSome, refl, sym, ap, ◌∙◌, subst, arith, append-nil, append_assoc, replicate}
 use Rattle.std.proofs.lemmas.List.{replicate-append-replicate}
 use Rattle.std.specs.Io.KnownBytes.{Consumes, IsAtEnd}
 use Rattle.std.specs.Option.{option_to_list}
 use Rattle.bq_job.specs.declared.step.Step.{Step}
 use Rattle.bq_job.specs.declared.step.Step.TheVariants.{Drain, Gone}
 use Rattle.bq_job.specs.promise.ControlDid.{IsControlDone, are_same, drain_word, drains, drains_from, one_if}
-use Rattle.bq_line.specs.ControlRead.{IsOver, IsReadToEnd}
+use Rattle.bq_line.specs.ControlRead.{HasRead, IsOver, IsReadToEnd}
 use Rattle.bq_line.specs.ControlSeen.{after_heard}
 use Rattle.bq_line.specs.declared.control_line.Heard.TheVariants as hears
 use Rattle.bq_line.proofs.ControlLemmas.{ends_read, fails_read}
@@ -141,6 +141,75 @@ module _ {I : Type 0} (i : Control I) where
       → TellsOn i (turns_of old kept owes stage) [] (turns_of new kept owes stages.Ended)
   tells_fault_if old new kept owes stage none reads is may_is read may_be =
       rw (none, reads) (tells_fault old new kept is may_is read may_be)
+
+none_first : (n : ℕ) → n ≡ 0 + n
+none_first n = omega arith
+
+consumes_more : (first mid last : Option (List ℕ)) (text bytes : List ℕ) → Consumes first mid text → Consumes mid last bytes
+    → Consumes first last (text ++ bytes)
+consumes_more None mid last text bytes h k = tt
+consumes_more (Some x) None last text bytes h k = absurd h
+consumes_more (Some x) (Some y) None text bytes h k = absurd k
+consumes_more (Some x) (Some y) (Some z) text bytes h k = h ∙ ap (λ (rest : List ℕ). text ++ rest) k ∙ sym (append_assoc text bytes z)
+
+module _ {I : Type 0} (i : Control I) where
+  -- These bytes were read, which may be none. A line that they have ended may ask for a drain.
+  tells_heard : (old new : I) (kept later bytes : List ℕ) (owes : Bool) → i.may_fail new ≡ i.may_fail old
+      → (i.seen new).text ≡ (i.seen old).text ++ bytes → (i.seen new).failed ≡ (i.seen old).failed
+      → Consumes (i.remaining old) (i.remaining new) bytes
+      → ((rest : List ℕ) (failed : Bool) → drains_from kept (bytes ++ rest) failed ≡ one_if owes + drains_from later rest failed)
+      → TellsOn i (turns_of old kept false stages.Reads) [] (turns_of new later owes stages.Reads)
+  tells_heard old new kept later bytes owes may_is text_is failed_is read counted = record {
+    on = λ first may before h. let r = h.at_stage.1 in tells_same first may (turns_of new later owes stages.Reads) before (record {
+      same = may_is ∙ h.same;
+      count = h.count;
+      at_stage = (
+        h.at_stage.0,
+        record {
+          read = subst (λ (text : List ℕ). Consumes first (i.remaining new) text) (sym text_is)
+              (consumes_more first (i.remaining old) (i.remaining new) (i.seen old).text bytes r.read read);
+          well = failed_is ∙ r.well;
+          counted = λ rest failed.
+              ap (λ (text : List ℕ). drains (text ++ rest) failed) text_is
+              ∙ ap (λ (text : List ℕ). drains text failed) (append_assoc (i.seen old).text bytes rest)
+              ∙ r.counted (bytes ++ rest) failed ∙ ap (λ n. (h.count + 0) + n) (counted rest failed)
+              ∙ plus h.count (one_if owes) (drains_from later rest failed);
+        },
+      );
+    });
+  }
+    where
+      plus : (a b c : ℕ) → (a + 0) + (b + c) ≡ (a + b) + c
+      plus a b c = omega arith
+
+  -- Nothing has come.
+  pub tells_nothing_if : (old new : I) (kept : List ℕ) (owes : Bool) (stage : Stage) → owes ≡ false → stage ≡ stages.Reads
+      → i.seen new ≡ after_heard hears.NothingYet (i.seen old) → i.may_fail new ≡ i.may_fail old
+      → Consumes (i.remaining old) (i.remaining new) [] → TellsOn i (turns_of old kept owes stage) [] (turns_of new kept owes stage)
+  tells_nothing_if old new kept owes stage none reads is may_is read =
+      rw (none, reads) (tells_heard old new kept kept [] false may_is (ap (λ s. s.text) is ∙ sym (append-nil (i.seen old).text))
+      (ap (λ s. s.failed) is) read (λ rest failed. none_first (drains_from kept rest failed)))
+
+  -- A byte of the line was read.
+  pub tells_byte_if : (byte : ℕ) (old new : I) (kept later : List ℕ) (owes : Bool) (stage : Stage) (ended : Bool) → owes ≡ false
+      → stage ≡ stages.Reads → ended ≡ false → i.seen new ≡ after_heard (hears.Byte byte) (i.seen old)
+      → i.may_fail new ≡ i.may_fail old → Consumes (i.remaining old) (i.remaining new) (byte ∷ [])
+      → HasRead kept (byte ∷ []) ended later → TellsOn i (turns_of old kept owes stage) [] (turns_of new later owes stage)
+  tells_byte_if byte old new kept later owes stage ended none reads goes_on is may_is read counts =
+      let counted = rw goes_on at counts in
+      rw (none, reads) (tells_heard old new kept later (byte ∷ []) false may_is (ap (λ s. s.text) is) (ap (λ s. s.failed) is) read
+      (λ rest failed. counted rest failed ∙ none_first (drains_from later rest failed)))
+
+  -- A byte was read that has ended the line.
+  pub tells_line_if : (byte : ℕ) (old new : I) (kept later next : List ℕ) (owes : Bool) (stage : Stage) (ended word : Bool)
+      → owes ≡ false → stage ≡ stages.Reads → ended ≡ true → word ≡ are_same later drain_word → next ≡ []
+      → i.seen new ≡ after_heard (hears.Byte byte) (i.seen old) → i.may_fail new ≡ i.may_fail old
+      → Consumes (i.remaining old) (i.remaining new) (byte ∷ []) → HasRead kept (byte ∷ []) ended later
+      → TellsOn i (turns_of old kept owes stage) [] (turns_of new next word stage)
+  tells_line_if byte old new kept later next owes stage ended word none reads ends word_is next_is is may_is read counts =
+      let counted = rw ends at counts in
+      rw (none, reads, word_is, next_is) (tells_heard old new kept [] (byte ∷ []) (are_same later drain_word) may_is
+      (ap (λ s. s.text) is) (ap (λ s. s.failed) is) read counted)
 
 -- A control line that was read to its end and whose steps were all submitted.
 pub record IsToldSo {I : Type 0} (i : Control I) (first : Option (List ℕ)) (may : Bool) (c : ControlTurns I) (told : List Step)

@@ -1,4 +1,4 @@
-use Rattle.bq_event_loop.proofs.ControlLemmas.{tells_end_if, tells_fault_if}
+use Rattle.bq_event_loop.proofs.ControlLemmas.{tells_byte_if, tells_end_if, tells_fault_if, tells_line_if, tells_nothing_if}
 use Rattle.bq_event_loop.proofs.control_turns.ControlTurns.read_on.Goals as goal
 
 pub returns-in-End : goal.returns-in-End
@@ -15,3 +15,26 @@ returns-in-Fault g c =
     let e = c.in-Fault.ensures in
     tells_fault_if g.I.ControlInput old.input c.next.new.self old.line
     old.owes_drain old.stage c.requires.none_owed c.requires.more e.seen e.same e.left e.fault
+
+pub returns-in-NothingYet : goal.returns-in-NothingYet
+returns-in-NothingYet g c =
+    let old = c.args.self.now in
+    let e = c.in-NothingYet.ensures in
+    tells_nothing_if g.I.ControlInput old.input c.next.new.self old.line
+    old.owes_drain old.stage c.requires.none_owed c.requires.more e.seen e.same e.left
+
+pub returns-then-ends_by : goal.returns-then-ends_by
+returns-then-ends_by g c =
+    let old = c.args.self.now in
+    let e = c.in-Byte.ensures in
+    tells_line_if g.I.ControlInput _ old.input c.next.new.self old.line c.ends_by.new.self c.new-self.result
+    old.owes_drain old.stage c.ends_by.result c.says_drain-self.result c.requires.none_owed c.requires.more c.if-ends_by.true
+    c.says_drain-self.ensures c.new-self.ensures e.seen e.same e.left c.ends_by.ensures
+
+pub returns-else-ends_by : goal.returns-else-ends_by
+returns-else-ends_by g c =
+    let old = c.args.self.now in
+    let e = c.in-Byte.ensures in
+    tells_byte_if g.I.ControlInput _ old.input c.next.new.self old.line c.ends_by.new.self
+    old.owes_drain old.stage c.ends_by.result c.requires.none_owed c.requires.more c.if-ends_by.false
+    e.seen e.same e.left c.ends_by.ensures
