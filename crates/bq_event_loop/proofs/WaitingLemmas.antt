@@ -7,9 +7,12 @@ use Rattle.bq_job.specs.declared.answer.Answer.{Answer}
 use Rattle.bq_line.specs.declared.attendant.Attendant.{Attendant}
 use Rattle.bq_line.specs.declared.attendant.LinePlace.TheVariants as places
 use Rattle.bq_event_loop.specs.Meanings.{Core, Line}
-use Rattle.bq_event_loop.specs.Sleeping.{IsWaitFor, MayWait}
+use Rattle.bq_event_loop.specs.Sleeping.{IsAtTurn, IsWaitFor, MayWait}
 use Rattle.bq_host.specs.declared.hub.Hub.{Hub}
-use Rattle.bq_event_loop.specs.Known.{AreApart, AreKnown, ChangesOnly, IsKnown, IsListedIn, KeepsAll}
+use Rattle.bq_event_loop.specs.Known.{AreApart, AreKnown, AreStill, ChangesOnly, IsKnown, IsListedIn, KeepsAll}
+use Rattle.bq_event_loop.specs.declared.control_turns.ControlTurns.{ControlTurns}
+use Rattle.bq_event_loop.specs.declared.turns.ControlStands.{ControlStands}
+use Rattle.bq_event_loop.proofs.KnownLemmas.{known_as, known_changed}
 use Rattle.bq_host.specs.Marks.{times}
 use Rattle.bq_event_loop.specs.Still.{IsStill}
 use Rattle.bq_event_loop.specs.declared.turns.Turn.{Turn}
@@ -65,9 +68,49 @@ listed_on listed later (turns.Look i) keeps acts = keeps i acts
 listed_on listed later (turns.HandOn i) keeps acts = keeps i acts
 listed_on listed later _ keeps acts = tt
 
+-- The seat of a turn, by what the turn is.
+pub listed_in : (listed : ℕ → Bool) {turn next : Turn} → turn ≡ next → IsListedIn listed turn → IsListedIn listed next
+listed_in listed is acts = subst (λ t. IsListedIn listed t) is acts
+
 -- It does not matter which seats are to be woken.
 pub wait_woken : {C K : Type 0} (k : Core K) (most : Option ℕ) (core later : Hub C K) → later ≡ record core { woken = later.woken }
     → IsWaitFor k most core → IsWaitFor k most later
 wait_woken k most core later same (inl now) = inl now
 wait_woken k most core later same (inr may) =
     inr (subst (λ h. MayWait k most h) (sym same) (record { sorted = may.sorted; in_time = may.in_time }))
+
+module _ {L C K I : Type 0} {line : Line L} {k : Core K} {many : ℕ} {listed looks : ℕ → Bool} {seats : List (Attendant L)}
+    {mails : List (List Answer)} {due : Option ℕ} {standing : ControlStands} {core : Hub C K} {control : ControlTurns I}
+    (at : IsAtTurn line k many listed looks seats mails due standing core control) where
+  -- A seat that the turns let act was changed.
+  pub known_beside : {i : ℕ} {later : List (Attendant L)} → listed i ≡ true → ChangesOnly i seats later
+      → AreKnown line many listed looks [] later mails
+  known_beside {i} {later} acts only = known_changed line many listed looks [] i seats later mails acts only at.known
+
+  module _ {later later_looks : ℕ → Bool} (acts_same : (t : ℕ) → later t ≡ listed t)
+      (looks_same : (t : ℕ) → later_looks t ≡ looks t) where
+    -- The turns still let the same seats act, and the same check for a client.
+    pub known_even : {later_many : ℕ} → later_many ≡ many → AreKnown line later_many later later_looks [] seats mails
+    known_even {later_many} same =
+        known_as line many later_many listed looks later later_looks seats mails same
+        (λ t looking on. at.known.apart t (sym (looks_same t) ∙ looking) (sym (acts_same t) ∙ on))
+        (λ t looking. inl (sym (looks_same t) ∙ looking))
+        (λ t below on. inl (acts_same t ∙ on))
+        (λ t below looking. inr (looks_same t ∙ looking))
+        at.known
+
+    -- They let no seat act, and none check for a client that may have come, so nothing moves at any seat.
+    pub still_all : {may_come : Bool} → ((t : ℕ) → later t ≡ false) → (may_come ≡ true → (t : ℕ) → later_looks t ≡ false)
+        → AreStill line may_come seats mails
+    still_all {may_come} acts checks t below a = by (at.known.known t below a) where
+      none : looks t ≡ true → (may_come ≡ true) ⊎ (may_come ≡ false) → may_come ≡ false
+      none is (inl may) = absurd (let f : true ≡ false = sym is ∙ sym (looks_same t) ∙ checks may t in cc)
+      none is (inr not_now) = not_now
+
+      by : IsKnown (listed t) (looks t) (times t []) (IsStill line (slice_index_or seats t a) (slice_index_or mails t []))
+          → IsStill line (slice_index_or seats t a) (slice_index_or mails t [])
+          ⊎ (((slice_index_or seats t a).place ≡ places.Between) × (may_come ≡ false))
+      by (inl on) = absurd (let f : true ≡ false = sym on ∙ sym (acts_same t) ∙ acts t in cc)
+      by (inr (inl is)) = inr (at.known.looking t below is a, none is (cases_Bool may_come))
+      by (inr (inr (inl waits))) = absurd (omega (arith, waits))
+      by (inr (inr (inr still))) = inl still
