@@ -216,8 +216,9 @@ def served_before_a_lone_command(bqd, most, **chosen):
 @of_loop
 def run_batch_beside_a_lone_command(bqd):
     """A client that sends many commands at once has an event loop for some 64 of them, and then another client has its
-    turn."""
-    served_before_a_lone_command(bqd, 72)
+    turn. On a busy machine that turn may end by the clock before the other client's second command, `stats`: then the
+    first client has one more turn."""
+    served_before_a_lone_command(bqd, 2 * 72)
 
 
 @of_loop
