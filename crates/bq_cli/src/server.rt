@@ -364,8 +364,7 @@ pub fn serve_doors<
     clock: C,
     control: I,
 ) -> Result<Run<TcpDoor<'l, R>, C, I, Core>, RunFault>
-    requires new { All (λ door. IsNewDoor (door_seen ⟦<TcpDoor<'l, R> as Door>⟧.is_out
-        ⟦<TcpDoor<'l, R> as Door>⟧.is_at_end ⟦<TcpDoor<'l, R> as Door>⟧.lines_over door)) doors.items }
+    requires new { All (λ door. IsNewDoor (door_seen ⟦<TcpDoor<'l, R> as Door>⟧ door)) doors.items }
     // There is one history of the steps of all connections and of the control line, and the one-list model takes it by
     // the options. Each connection of each door received exactly the bytes that this history prescribes for it, as far as
     // its reads and writes show.
@@ -401,8 +400,7 @@ pub fn serve_doors_by_loop<
     source: Option<RawFd>,
     ending: &Ending,
 ) -> Result<EventLoopRun<TcpLine, TcpDoor<'l, R>, C, I, Core>, RunRefused<TcpDoor<'l, R>>>
-    requires new { All (λ door. IsNewDoor (door_seen ⟦<TcpDoor<'l, R> as Door>⟧.is_out
-        ⟦<TcpDoor<'l, R> as Door>⟧.is_at_end ⟦<TcpDoor<'l, R> as Door>⟧.lines_over door)) doors.items }
+    requires new { All (λ door. IsNewDoor (door_seen ⟦<TcpDoor<'l, R> as Door>⟧ door)) doors.items }
     ensures served { IfOk result (λ run. run.is_over ≡ true → IsEventLoopRun C.given ⟦<TcpDoor<'l, R> as Door>⟧.lines_over
         I.remaining I.may_fail ⟦<Core as QueueCore>⟧.machine ⟦<Core as QueueCore>⟧.comparisons (settings_of options.now)
         clock control run) }
@@ -499,8 +497,7 @@ fn new_door<'l, R: Clock + Eprint>(
     buffer: ReadBuffer,
     tell: &'l DoorsTell<'l>,
 ) -> TcpDoor<'l, R>
-    ensures new { IsNewDoor (door_seen ⟦<TcpDoor<'l, R> as Door>⟧.is_out ⟦<TcpDoor<'l, R> as Door>⟧.is_at_end
-        ⟦<TcpDoor<'l, R> as Door>⟧.lines_over result) }
+    ensures new { IsNewDoor (door_seen ⟦<TcpDoor<'l, R> as Door>⟧ result) }
     ensures at { IsDoorAt listener.now sessions result }
 {
     TcpDoor::new(rt, listener, sessions, buffer)
@@ -517,8 +514,7 @@ fn new_doors<'l, R: Clock + Eprint>(
     listener: &'l TcpListener,
     tell: &'l DoorsTell<'l>,
 ) -> Result<Vec<TcpDoor<'l, R>, Global>, NoMemory>
-    ensures new { IfOk result (λ all. All (λ door. IsNewDoor (door_seen ⟦<TcpDoor<'l, R> as Door>⟧.is_out
-        ⟦<TcpDoor<'l, R> as Door>⟧.is_at_end ⟦<TcpDoor<'l, R> as Door>⟧.lines_over door)) all.items) }
+    ensures new { IfOk result (λ all. All (λ door. IsNewDoor (door_seen ⟦<TcpDoor<'l, R> as Door>⟧ door)) all.items) }
     ensures at { IfOk result
         (λ all. All (λ door. IsDoorAt listener.now options.now.sessions door) all.items) }
     ensures many { IfOk result (λ all. vec_len all ≡ options.now.seats) }

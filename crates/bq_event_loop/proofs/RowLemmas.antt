@@ -8,10 +8,10 @@ use Rattle.std.proofs.lemmas.List.{get_or-set_other, get_or-set_same, get_or_def
 use Rattle.bq_job.specs.declared.answer.Answer.{Answer}
 use Rattle.bq_job.specs.declared.step.Step.{Step}
 use Rattle.bq_job.specs.promise.LineSteps.{LineSeen}
-use Rattle.bq_line.specs.Tending.{AreSame, DoorSeen, IsNewDoor, IsNewSeat, IsPlaced, Tends}
+use Rattle.bq_line.specs.Tending.{AreSame, DoorSeen, IsNewDoor, IsNewSeat, IsPlaced, Tends, door_seen}
 use Rattle.bq_line.specs.declared.attendant.Attendant.{Attendant}
 use Rattle.bq_line.proofs.TendingLemmas.{tended_new, tends_still}
-use Rattle.bq_event_loop.specs.Meanings.{Door, Line, at}
+use Rattle.bq_event_loop.specs.Meanings.{Door, Line}
 use Rattle.bq_event_loop.specs.Still.{IsStill}
 use Rattle.bq_event_loop.specs.Rows.{AllRested, AllTended, IsSomehowTended}
 use Rattle.bq_event_loop.specs.declared.row.Row.{Row}
@@ -97,13 +97,14 @@ module _ {L D : Type 0} (l : Line L) (d : Door D L) where
   -- A seat acted, with its door.
   pub tended_set : (seats : List (Attendant L)) (doors : List D) (i : ℕ) (a new : Attendant L) (x next : D) (submitted : List Step)
       (taken : List Answer) → i < length seats → AllTended l d seats doors → a ≡ slice_index_or seats i a → x ≡ slice_index_or doors i x
-      → Tends l.seen a (at d x) submitted taken new (at d next) → AllTended l d (slice_set seats i new) (slice_set doors i next)
+      → Tends l.seen a (door_seen d x) submitted taken new (door_seen d next) → AllTended l d (slice_set seats i new)
+      (slice_set doors i next)
   tended_set seats doors i a new x next submitted taken below all a_is x_is tends = record {
     doored = length-set doors i next ∙ all.doored ∙ sym (length-set seats i new);
-    each = λ t here y z. set_each (λ (n : ℕ) (u : Attendant L) (v : D). IsSomehowTended l u (at d v)) seats doors i new next y z
+    each = λ t here y z. set_each (λ (n : ℕ) (u : Attendant L) (v : D). IsSomehowTended l u (door_seen d v)) seats doors i new next y z
         below all.doored
-        (somehow_on l a new (at d x) (at d next) submitted taken tends
-        (looked_up (λ (u : Attendant L) (v : D). IsSomehowTended l u (at d v))
+        (somehow_on l a new (door_seen d x) (door_seen d next) submitted taken tends
+        (looked_up (λ (u : Attendant L) (v : D). IsSomehowTended l u (door_seen d v))
         seats doors i a a x x below all.doored a_is x_is (all.each i below a x)))
         (λ n differs there. all.each n there y z) t (subst (λ (m : ℕ). t < m) (length-set seats i new) here);
   }
@@ -111,18 +112,21 @@ module _ {L D : Type 0} (l : Line L) (d : Door D L) where
   -- A seat rested with its door.
   rested_set : (firsts seats : List (Attendant L)) (first_doors doors : List D) (i : ℕ) (a new : Attendant L) (x next : D)
       → i < length seats → length doors ≡ length seats → a ≡ slice_index_or seats i a → x ≡ slice_index_or doors i x
-      → Tends l.seen a (at d x) [] [] new (at d next) → ((first : D) → d.same first x → d.same first next)
+      → Tends l.seen a (door_seen d x) [] [] new (door_seen d next) → ((first : D) → d.same first x → d.same first next)
       → AllRested l d firsts first_doors seats doors
       → AllRested l d firsts first_doors (slice_set seats i new) (slice_set doors i next)
   rested_set firsts seats first_doors doors i a new x next below doored a_is x_is tends on all = record {
     many = length-set seats i new ∙ all.many;
     doored = length-set doors i next ∙ all.doored;
     each = λ t here y z. set_each (λ (n : ℕ) (u : Attendant L) (v : D).
-        Tends l.seen (slice_index_or firsts n y) (at d (slice_index_or first_doors n z)) [] [] u (at d v)) seats doors i new next y z
+        Tends l.seen (slice_index_or firsts n y) (door_seen d (slice_index_or first_doors n z)) [] [] u
+        (door_seen d v)) seats doors i new next y z
         below doored
-        (tends_then l.seen (slice_index_or firsts i y) a new (at d (slice_index_or first_doors i z)) (at d x) (at d next)
-        (looked_up (λ (u : Attendant L) (v : D). Tends l.seen (slice_index_or firsts i y) (at d (slice_index_or first_doors i z)) [] [] u
-        (at d v)) seats doors i a y x z below doored a_is x_is (all.each i (subst (λ (m : ℕ). i < m) all.many below) y z)) tends)
+        (tends_then l.seen (slice_index_or firsts i y) a new (door_seen d (slice_index_or first_doors i z)) (door_seen d x)
+        (door_seen d next)
+        (looked_up (λ (u : Attendant L) (v : D). Tends l.seen (slice_index_or firsts i y) (door_seen d (slice_index_or first_doors i z))
+        [] [] u
+        (door_seen d v)) seats doors i a y x z below doored a_is x_is (all.each i (subst (λ (m : ℕ). i < m) all.many below) y z)) tends)
         (λ n differs there. all.each n (subst (λ (m : ℕ). n < m) all.many there) y z) t (subst (λ (m : ℕ). t < m) (sym all.many) here);
     same_doors = λ handed_in h. same_set d.same handed_in doors i x next
         (subst (λ (z : D). (first : D) → d.same first z → d.same first next) x_is on) (all.same_doors handed_in h);
@@ -132,7 +136,7 @@ module _ {L D : Type 0} {l : Line L} {d : Door D L} {seats : List (Attendant L)}
   -- Both of a seat that rested with its door.
   pub keeps_set : {a new : Attendant L} {x next : D} → i < length seats
       → AllTended l d seats doors → a ≡ slice_index_or seats i a → x ≡ slice_index_or doors i x
-      → Tends l.seen a (at d x) [] [] new (at d next) → ((first : D) → d.same first x → d.same first next)
+      → Tends l.seen a (door_seen d x) [] [] new (door_seen d next) → ((first : D) → d.same first x → d.same first next)
       → AllTended l d (slice_set seats i new) (slice_set doors i next)
       × ((first : Row L D) → AllRested l d first.seats.items first.doors.items seats doors
       → AllRested l d first.seats.items first.doors.items (slice_set seats i new) (slice_set doors i next))
@@ -153,14 +157,14 @@ module _ {L D : Type 0} {l : Line L} {d : Door D L} {seats : List (Attendant L)}
       subst (λ (ds : List D). AllTended l d (slice_set seats i new) ds
       × ((first : Row L D) → AllRested l d first.seats.items first.doors.items seats doors
       → AllRested l d first.seats.items first.doors.items (slice_set seats i new) ds)) (set-get_or doors i (some_one doors i there))
-      (keeps_set below all is (get_or_default doors i (some_one doors i there) x there) (tends (at d x))
+      (keeps_set below all is (get_or_default doors i (some_one doors i there) x there) (tends (door_seen d x))
       (λ first h. h))
 
   -- A seat and a door that were looked up are placed together.
   pub placed_there : {a : Attendant L} {x : D} → i < length seats
-      → AllTended l d seats doors → a ≡ slice_index_or seats i a → x ≡ slice_index_or doors i x → IsPlaced a.place (at d x)
+      → AllTended l d seats doors → a ≡ slice_index_or seats i a → x ≡ slice_index_or doors i x → IsPlaced a.place (door_seen d x)
   placed_there {a} {x} below all a_is x_is =
-      looked_up (λ (u : Attendant L) (v : D). IsPlaced u.place (at d v)) seats doors i a a x x below all.doored a_is x_is
+      looked_up (λ (u : Attendant L) (v : D). IsPlaced u.place (door_seen d v)) seats doors i a a x x below all.doored a_is x_is
       (let t = all.each i below a x in t.tended.placed)
 
 module _ {L D : Type 0} (l : Line L) (d : Door D L) where
@@ -169,20 +173,20 @@ module _ {L D : Type 0} (l : Line L) (d : Door D L) where
   rested_none seats doors = record {
     many = refl;
     doored = refl;
-    each = λ n here x y. tends_still l.seen (slice_index_or seats n x) (at d (slice_index_or doors n y));
+    each = λ n here x y. tends_still l.seen (slice_index_or seats n x) (door_seen d (slice_index_or doors n y));
     same_doors = λ handed_in h. h;
   }
 
   -- All seats and doors are new.
   pub tended_at_first : {size : ℕ} {seats : List (Attendant L)} {doors : List D} → length doors ≡ length seats → All (IsNewSeat size) seats
-      → All (λ x. IsNewDoor (at d x)) doors → AllTended l d seats doors
+      → All (λ x. IsNewDoor (door_seen d x)) doors → AllTended l d seats doors
   tended_at_first {size} {seats} {doors} doored seats_new doors_new = record {
     doored = doored;
     each = λ t here x y. record {
       max_job_size = size;
       submitted = [];
       taken = [];
-      tended = tended_new l.seen size (slice_index_or seats t x) (at d (slice_index_or doors t y)) (seats_new t x here)
+      tended = tended_new l.seen size (slice_index_or seats t x) (door_seen d (slice_index_or doors t y)) (seats_new t x here)
           (doors_new t y (omega (arith, doored, here)));
     };
   }

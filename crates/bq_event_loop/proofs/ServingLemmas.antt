@@ -18,12 +18,12 @@ use Rattle.bq_host.specs.declared.hub.Hub.{Hub}
 use Rattle.bq_host.proofs.{TimedRunLemmas.{gave_none, gave_then}, WentLemmas.{core_none, core_on, steps_append}}
 use Rattle.bq_host.proofs.HubLemmas.{called, went_none, went_then}
 use Rattle.bq_line.specs.GivenReadings.{GaveReadings}
-use Rattle.bq_line.specs.Tending.{AreSame, DoorSeen, GoesOn, IsCounted, IsTended, Tends, ended_lines}
+use Rattle.bq_line.specs.Tending.{AreSame, DoorSeen, GoesOn, IsCounted, IsTended, Tends, door_seen, ended_lines}
 use Rattle.bq_line.specs.declared.attendant.Attendant.{Attendant}
 use Rattle.bq_line.proofs.CountedLemmas.{counted_on}
 use Rattle.bq_line.proofs.TendingLemmas.{tends_still}
 use Rattle.bq_event_loop.specs.ControlTold.{TellsOn}
-use Rattle.bq_event_loop.specs.Meanings.{Clock, Control, Core, Door, Line, at, state}
+use Rattle.bq_event_loop.specs.Meanings.{Clock, Control, Core, Door, Line, state}
 use Rattle.bq_event_loop.specs.Known.{ChangesOnly}
 use Rattle.bq_event_loop.specs.Rows.{AllRested, AreTended, KeepsRow}
 use Rattle.bq_event_loop.specs.Serving.{AreReadyFor, AreServed, AreServedFrom, ControlWent, LoopWent, SeatActed, ServesOn}
@@ -68,8 +68,8 @@ served_on : {L D : Type 0} (l : Line L) (d : Door D L) (size : ℕ) (control tol
     (took : ℕ → List Answer) → (s : AreServed l d size control first readings core seats doors) → CoreWent core reads part took next
     → length later ≡ length seats → length after ≡ length doors
     → ((t : ℕ) → t < length seats → (a : Attendant L) (x : D)
-    → Tends l.seen (slice_index_or seats t a) (at d (slice_index_or doors t x)) (steps_at t part) (took t) (slice_index_or later t a)
-    (at d (slice_index_or after t x)))
+    → Tends l.seen (slice_index_or seats t a) (door_seen d (slice_index_or doors t x)) (steps_at t part) (took t) (slice_index_or later t a)
+    (door_seen d (slice_index_or after t x)))
     → steps_at (length seats) part ≡ told → ((t : ℕ) → length seats < t → steps_at t part ≡ [])
     → AreServedFrom s.history l d size (control ++ told) first (readings ++ reads) next later after
 served_on {L} {D} l d size control told first core next readings reads seats later doors after part took s w many doored tends told_is
@@ -102,25 +102,25 @@ served_on {L} {D} l d size control told first core next readings reads seats lat
     past t above = omega (arith, many, above)
 
     goes : (t : ℕ) → t < length seats → (a : Attendant L) (x : D)
-        → IsTended l.seen size (slice_index_or later t a) (at d (slice_index_or after t x)) (steps_at t (s.history ++ part))
+        → IsTended l.seen size (slice_index_or later t a) (door_seen d (slice_index_or after t x)) (steps_at t (s.history ++ part))
         (s.took t ++ took t)
-        × IsCounted (slice_index_or seats t a) (at d (slice_index_or doors t x)) (took t) (slice_index_or later t a)
-        (at d (slice_index_or after t x))
+        × IsCounted (slice_index_or seats t a) (door_seen d (slice_index_or doors t x)) (took t) (slice_index_or later t a)
+        (door_seen d (slice_index_or after t x))
     goes t below a x =
         let g = tends t below a x size (steps_at t s.history) (s.took t) (s.each t below a x) in (
-          subst (λ (xs : List Step). IsTended l.seen size (slice_index_or later t a) (at d (slice_index_or after t x)) xs
+          subst (λ (xs : List Step). IsTended l.seen size (slice_index_or later t a) (door_seen d (slice_index_or after t x)) xs
               (s.took t ++ took t)) (sym (steps_append t s.history part)) g.0,
           g.1,
         )
 
     few : (t : ℕ) → t < length seats → waiting t first ≡ [] → (a : Attendant L) (x : D)
-        → closes (s.took t ++ took t) ≤ ended_lines (slice_index_or later t a) (at d (slice_index_or after t x))
+        → closes (s.took t ++ took t) ≤ ended_lines (slice_index_or later t a) (door_seen d (slice_index_or after t x))
     few t below none a x =
         let g = goes t below a x in
         let law = took_few first next (readings ++ reads) (s.history ++ part) (λ n. s.took n ++ took n) t whole
         (omega (arith, s.mailed, below)) none in
-        counted_on l.seen size (slice_index_or seats t a) (slice_index_or later t a) (at d (slice_index_or doors t x))
-        (at d (slice_index_or after t x)) (steps_at t (s.history ++ part)) (s.took t) (took t) g.1 g.0 law (s.few t below none a x)
+        counted_on l.seen size (slice_index_or seats t a) (slice_index_or later t a) (door_seen d (slice_index_or doors t x))
+        (door_seen d (slice_index_or after t x)) (steps_at t (s.history ++ part)) (s.took t) (took t) g.1 g.0 law (s.few t below none a x)
 
 module _ {C K L D : Type 0} {k : Core K} {c : Clock C} {l : Line L} {d : Door D L} where
   -- The core took the steps of this history, and each seat did what the history has for it.
@@ -129,8 +129,8 @@ module _ {C K L D : Type 0} {k : Core K} {c : Clock C} {l : Line L} {d : Door D 
       → CoreWent (state k old) reads part took (state k new)
       → length later.seats.items ≡ length row.seats.items → length later.doors.items ≡ length row.doors.items
       → ((t : ℕ) → t < length row.seats.items → (a : Attendant L) (x : D)
-      → Tends l.seen (slice_index_or row.seats.items t a) (at d (slice_index_or row.doors.items t x)) (steps_at t part) (took t)
-      (slice_index_or later.seats.items t a) (at d (slice_index_or later.doors.items t x)))
+      → Tends l.seen (slice_index_or row.seats.items t a) (door_seen d (slice_index_or row.doors.items t x)) (steps_at t part) (took t)
+      (slice_index_or later.seats.items t a) (door_seen d (slice_index_or later.doors.items t x)))
       → steps_at (length row.seats.items) part ≡ told → ((t : ℕ) → length row.seats.items < t → steps_at t part ≡ [])
       → ((doors : List D) → AreSame d.same doors row.doors.items → AreSame d.same doors later.doors.items)
       → ServesOn k c l d old row told new later
@@ -226,7 +226,8 @@ module _ {C K L D : Type 0} {k : Core K} {c : Clock C} {l : Line L} {d : Door D 
   serves_control {old} {new} {row} seat more is went =
       let w = went.0.2 in
       serves_by went.0.0 w.history w.took went.0.1 w.went refl refl
-      (λ t below a x. tends_none l (slice_index_or row.seats.items t a) (at d (slice_index_or row.doors.items t x)) (steps_at t w.history)
+      (λ t below a x. tends_none l (slice_index_or row.seats.items t a) (door_seen d (slice_index_or row.doors.items t x))
+      (steps_at t w.history)
       (w.took t) (w.others_still t (λ e. omega (arith, is, below, e))) (w.others_took t (λ e. omega (arith, is, below, e))))
       (ap (λ n. steps_at n w.history) (sym is) ∙ w.submitted_is)
       (λ t above. w.others_still t (λ e. omega (arith, is, above, e))) (λ handed_in h. h)
@@ -238,13 +239,14 @@ module _ {C K L D : Type 0} {k : Core K} {c : Clock C} {l : Line L} {d : Door D 
       let w = went.0.2 in
       let none = none_acted i (state k old) (state k new) went.0.0 w in
       serves_by went.0.0 w.history w.took went.0.1 w.went refl refl
-      (λ t below a x. tends_none l (slice_index_or row.seats.items t a) (at d (slice_index_or row.doors.items t x)) (steps_at t w.history)
+      (λ t below a x. tends_none l (slice_index_or row.seats.items t a) (door_seen d (slice_index_or row.doors.items t x))
+      (steps_at t w.history)
       (w.took t) (none t).0 (none t).1) (none (length row.seats.items)).0 (λ t above. (none t).0) (λ handed_in h. h)
 
   -- A seat acted, with its door, which were looked up.
   pub serves_acted : {old new : Hub C K} {row later : Row L D} (i : ℕ) (a next : Attendant L) (x door : D) → i < length row.seats.items
       → length row.doors.items ≡ length row.seats.items → a ≡ slice_index_or row.seats.items i a → x ≡ slice_index_or row.doors.items i x
-      → GoesOn (WentAt k.machine k.comparisons c.given i) old new l.seen a (at d x) next (at d door)
+      → GoesOn (WentAt k.machine k.comparisons c.given i) old new l.seen a (door_seen d x) next (door_seen d door)
       → ((first : D) → d.same first x → d.same first door)
       → later.seats.items ≡ slice_set row.seats.items i next → later.doors.items ≡ slice_set row.doors.items i door
       → ServesOn k c l d old row [] new later
@@ -252,9 +254,9 @@ module _ {C K L D : Type 0} {k : Core K} {c : Clock C} {l : Line L} {d : Door D 
       serves_by went.0.0 w.history w.took went.0.1 w.went (ap length seats_are ∙ length-set seats i next)
       (ap length doors_are ∙ length-set doors i door)
       (λ t here y z. rw (seats_are, doors_are)
-      (set_each (λ (n : ℕ) (u : Attendant L) (v : D). Tends l.seen (slice_index_or seats n y) (at d (slice_index_or doors n z))
-      (steps_at n w.history) (w.took n) u (at d v)) seats doors i next door y z below doored (own y z)
-      (λ n differs there. tends_none l (slice_index_or seats n y) (at d (slice_index_or doors n z)) (steps_at n w.history) (w.took n)
+      (set_each (λ (n : ℕ) (u : Attendant L) (v : D). Tends l.seen (slice_index_or seats n y) (door_seen d (slice_index_or doors n z))
+      (steps_at n w.history) (w.took n) u (door_seen d v)) seats doors i next door y z below doored (own y z)
+      (λ n differs there. tends_none l (slice_index_or seats n y) (door_seen d (slice_index_or doors n z)) (steps_at n w.history) (w.took n)
       (w.others_still n differs) (w.others_took n differs)) t here))
       (w.others_still (length row.seats.items) (λ e. omega (arith, below, e)))
       (λ t above. w.others_still t (λ e. omega (arith, below, above, e)))
@@ -273,8 +275,9 @@ module _ {C K L D : Type 0} {k : Core K} {c : Clock C} {l : Line L} {d : Door D 
       w : SeatWent i (state k old) went.0.0 goes.0 goes.1 (state k new)
       w = went.0.2
 
-      own : (y : Attendant L) (z : D) → Tends l.seen (slice_index_or seats i y) (at d (slice_index_or doors i z)) (steps_at i w.history)
-          (w.took i) next (at d door)
+      own : (y : Attendant L) (z : D) → Tends l.seen (slice_index_or seats i y) (door_seen d (slice_index_or doors i z))
+          (steps_at i w.history)
+          (w.took i) next (door_seen d door)
       own y z =
           let seat_is : slice_index_or seats i y ≡ a = sym (a_is ∙ get_or_default seats i a y below) in
           let door_is : slice_index_or doors i z ≡ x = sym (x_is ∙ get_or_default doors i x z (omega (arith, doored, below))) in

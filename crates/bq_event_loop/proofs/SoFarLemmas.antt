@@ -29,13 +29,13 @@ use Rattle.bq_line.proofs.LineSoFarLemmas.{line_so_far}
 use Rattle.bq_line.proofs.TendingLemmas.{tended_new}
 use Rattle.bq_line.specs.ControlRead.{IsReadToEnd}
 use Rattle.bq_line.specs.Attending.{IsAt}
-use Rattle.bq_line.specs.Tending.{AreSame, DoorSeen, IsDoorServed, IsNewDoor, IsNewSeat, IsPlaced, IsTended, ended_lines}
+use Rattle.bq_line.specs.Tending.{AreSame, DoorSeen, IsDoorServed, IsNewDoor, IsNewSeat, IsPlaced, IsTended, door_seen, ended_lines}
 use Rattle.bq_line.specs.declared.attendant.Attendant.{Attendant}
 use Rattle.bq_line.specs.declared.attendant.LinePlace.{LinePlace}
 use Rattle.bq_line.specs.declared.attendant.LinePlace.TheVariants as places
 use Rattle.bq_seat.specs.declared.machine.SeatMachine.{SeatMachine}
 use Rattle.bq_event_loop.specs.ControlTold.{HasTold, IsAtStage}
-use Rattle.bq_event_loop.specs.Meanings.{Clock, Control, Core, Door, Line, at, state}
+use Rattle.bq_event_loop.specs.Meanings.{Clock, Control, Core, Door, Line, state}
 use Rattle.bq_event_loop.specs.Rows.{AreDone}
 use Rattle.bq_event_loop.specs.Serving.{IsServing, LoopWent}
 use Rattle.bq_host.specs.declared.hub.Hub.{Hub}
@@ -170,7 +170,7 @@ module _ {L D C I K : Type 0} {k : Core K} {c : Clock C} {l : Line L} {d : Door 
       → c.given begun.clock [] core.timed.time.clock → IsNewMailState begun.settings (state k core)
       → HasTold i begun.left begun.may_fail control []
       → length row.seats.items ≡ begun.settings.seats → length row.doors.items ≡ begun.settings.seats
-      → All (IsNewSeat begun.settings.max_job_size) row.seats.items → All (λ x. IsNewDoor (at d x)) row.doors.items
+      → All (IsNewSeat begun.settings.max_job_size) row.seats.items → All (λ x. IsNewDoor (door_seen d x)) row.doors.items
       → AreSame d.same begun.doors row.doors.items → IsServing k c l d i begun core row control
   serving_first {begun} {core} {row} none new submits many doored new_seats new_doors same_doors = record {
     first = state k core;
@@ -187,7 +187,7 @@ module _ {L D C I K : Type 0} {k : Core K} {c : Clock C} {l : Line L} {d : Door 
       mailed = new_mails_are begun.settings (state k core) new ∙ sym many;
       doored = doored ∙ sym many;
       each = λ t below a x. tended_new l.seen begun.settings.max_job_size (slice_index_or row.seats.items t a)
-          (at d (slice_index_or row.doors.items t x)) (new_seats t a below) (new_doors t x (omega arith));
+          (door_seen d (slice_index_or row.doors.items t x)) (new_seats t a below) (new_doors t x (omega arith));
       few = λ t below none a x. omega arith;
       control_is = refl;
       nobody_else = λ t above. refl;
@@ -256,7 +256,7 @@ module _ {L D C I K : Type 0} {k : Core K} {c : Clock C} {l : Line L} {d : Door 
     few : closes (s.served.took t) ≤ ended_lines a door
 
   seat_served : (t : ℕ) → t < length row.seats.items → (a : Attendant L) (x : D)
-      → IsSeatSoFar t (slice_index_or row.seats.items t a) (at d (slice_index_or row.doors.items t x))
+      → IsSeatSoFar t (slice_index_or row.seats.items t a) (door_seen d (slice_index_or row.doors.items t x))
   seat_served t below a x =
       let none = none_waits begun.settings s.first t s.is_new in
       record {
@@ -268,7 +268,7 @@ module _ {L D C I K : Type 0} {k : Core K} {c : Clock C} {l : Line L} {d : Door 
       }
 
   -- The connections of a seat that have ended are owed what their clients received, and an open one is owed a beginning of it.
-  seat_so_far : (t : ℕ) (a : Attendant L) (x : D) → IsSeatSoFar t a (at d x)
+  seat_so_far : (t : ℕ) (a : Attendant L) (x : D) → IsSeatSoFar t a (door_seen d x)
       → IsDoorOwedSoFar begun.settings.max_job_size
       (record { over = d.lines_over x; out = line_out l.seen a.place; is_out = d.is_out x }) (steps_at t s.served.history)
       (answers_to t s.served.went.given)
@@ -278,27 +278,27 @@ module _ {L D C I K : Type 0} {k : Core K} {c : Clock C} {l : Line L} {d : Door 
       (did.getting ++ waiting t (state k core)) s.served.history s.served.went.given (k.machine core.timed.core) g.within ran.runs
       did.submitted_is
       (g.answers_are ∙ got_first l.seen did.got did.getting (waiting t (state k core)) (s.served.took t) did.taken_is)
-      (got_few l.seen begun.settings.max_job_size a (at d x) (steps_at t s.served.history) (s.served.took t) g.tended g.few)
+      (got_few l.seen begun.settings.max_job_size a (door_seen d x) (steps_at t s.served.history) (s.served.took t) g.tended g.few)
       did.of_lines in
       subst (λ (xs : List Answer). IsDoorOwedSoFar begun.settings.max_job_size
       (record { over = d.lines_over x; out = line_out l.seen a.place; is_out = d.is_out x }) (steps_at t s.served.history) xs)
       (sym g.answers_are)
-      (out_so_far l.seen begun.settings.max_job_size a (at d x) (steps_at t s.served.history) (s.served.took t)
+      (out_so_far l.seen begun.settings.max_job_size a (door_seen d x) (steps_at t s.served.history) (s.served.took t)
       (waiting t (state k core)) g.tended owed)
 
   -- the doors from this seat on
   doors_begun : (n : ℕ) (seats : List (Attendant L)) (doors : List D)
       → ((j : ℕ) → j < length seats → (a : Attendant L) (x : D)
-      → IsSeatSoFar (n + j) (slice_index_or seats j a) (at d (slice_index_or doors j x)))
+      → IsSeatSoFar (n + j) (slice_index_or seats j a) (door_seen d (slice_index_or doors j x)))
       → AreDoorsOwedSoFar begun.settings.max_job_size n
       (doors_so_far l.seen d.lines_over d.is_out seats doors) s.served.history s.served.went.given
   doors_begun n [] [] h = tt
   doors_begun n [] (x ∷ doors) h = tt
   doors_begun n (a ∷ seats) [] h = tt
   doors_begun n (a ∷ seats) (x ∷ doors) h = (
-    seat_so_far n a x (subst (λ (t : ℕ). IsSeatSoFar t a (at d x)) (add-zero n) (h 0 (omega arith) a x)),
+    seat_so_far n a x (subst (λ (t : ℕ). IsSeatSoFar t a (door_seen d x)) (add-zero n) (h 0 (omega arith) a x)),
     doors_begun (suc n) seats doors (λ j below b y.
-        subst (λ (t : ℕ). IsSeatSoFar t (slice_index_or seats j b) (at d (slice_index_or doors j y)))
+        subst (λ (t : ℕ). IsSeatSoFar t (slice_index_or seats j b) (door_seen d (slice_index_or doors j y)))
         (let e : n + suc j ≡ suc n + j = omega arith in e) (h (suc j) (omega (arith, below)) b y)),
   )
 
@@ -318,7 +318,7 @@ module _ {L D C I K : Type 0} {k : Core K} {c : Clock C} {l : Line L} {d : Door 
           run = ran;
           many = many_doors l d row.seats.items row.doors.items s.served.doored ∙ s.many;
           of_doors = doors_begun 0 row.seats.items row.doors.items (λ j below a x.
-              subst (λ (n : ℕ). IsSeatSoFar n (slice_index_or row.seats.items j a) (at d (slice_index_or row.doors.items j x)))
+              subst (λ (n : ℕ). IsSeatSoFar n (slice_index_or row.seats.items j a) (door_seen d (slice_index_or row.doors.items j x)))
               (let e : j ≡ 0 + j = omega arith in e) (seat_served j below a x));
           of_control = subst (λ (xs : List Step). IsControlSoFar (i.seen control.input).text (i.seen control.input).failed xs)
               (sym control_steps) b.begun;
@@ -334,28 +334,29 @@ module _ {L D C I K : Type 0} {k : Core K} {c : Clock C} {l : Line L} {d : Door 
       served : IsDoorServed begun.settings.max_job_size door (steps_at t s.served.history) (s.served.took t)
       answers_are : answers_to t s.served.went.given ≡ s.served.took t ++ waiting t (state k core)
 
-    door_done : (t : ℕ) → t < length row.doors.items → (x : D) → IsDoorDone t (at d (slice_index_or row.doors.items t x))
+    door_done : (t : ℕ) → t < length row.doors.items → (x : D) → IsDoorDone t (door_seen d (slice_index_or row.doors.items t x))
     door_done t below x =
         let here : t < length row.seats.items = let e = s.served.doored in omega arith in
         let a = some_one row.seats.items t here in
         let g = seat_served t here a x in
         record {
           served = tended_done l.seen begun.settings.max_job_size (slice_index_or row.seats.items t a)
-              (at d (slice_index_or row.doors.items t x)) (steps_at t s.served.history) (s.served.took t) (all_done t here a) g.tended;
+              (door_seen d (slice_index_or row.doors.items t x)) (steps_at t s.served.history) (s.served.took t)
+              (all_done t here a) g.tended;
           answers_are = g.answers_are;
         }
 
     -- the doors from this seat on
     doors_tied : (n : ℕ) (rest : List D)
-        → ((j : ℕ) → j < length rest → (x : D) → IsDoorDone (n + j) (at d (slice_index_or rest j x)))
+        → ((j : ℕ) → j < length rest → (x : D) → IsDoorDone (n + j) (door_seen d (slice_index_or rest j x)))
         → AreTied begun.settings.max_job_size n (map d.lines_over rest) (λ t. steps_at t s.served.history) s.served.took
         (λ t. waiting t (state k core)) s.served.history s.served.went.given
     doors_tied n [] h = tt
     doors_tied n (x ∷ rest) h =
         let more = doors_tied (suc n) rest (λ j below y.
-        subst (λ (t : ℕ). IsDoorDone t (at d (slice_index_or rest j y)))
+        subst (λ (t : ℕ). IsDoorDone t (door_seen d (slice_index_or rest j y)))
         (let e : n + suc j ≡ suc n + j = omega arith in e) (h (suc j) (omega (arith, below)) y)) in
-        let here : IsDoorDone n (at d x) = subst (λ (t : ℕ). IsDoorDone t (at d x)) (add-zero n) (h 0 (omega arith) x) in (
+        let here : IsDoorDone n (door_seen d x) = subst (λ (t : ℕ). IsDoorDone t (door_seen d x)) (add-zero n) (h 0 (omega arith) x) in (
           refl,
           here.answers_are,
           here.served.done,
@@ -386,7 +387,7 @@ module _ {L D C I K : Type 0} {k : Core K} {c : Clock C} {l : Line L} {d : Door 
                 (λ n. steps_at n s.served.history) s.served.took (λ n. waiting n (state k core)) s.served.history s.served.went.given
                 (k.machine core.timed.core) (omega (arith, many)) ran.runs
                 (doors_tied 0 row.doors.items (λ j below x.
-                subst (λ (n : ℕ). IsDoorDone n (at d (slice_index_or row.doors.items j x)))
+                subst (λ (n : ℕ). IsDoorDone n (door_seen d (slice_index_or row.doors.items j x)))
                 (let e : j ≡ 0 + j = omega arith in e) (door_done j below x)));
             of_control = control_steps ∙ t.done;
             of_nobody_else = no_others;

@@ -3,16 +3,11 @@
 use Rattle.bq_host.specs.Hubs.{state_of}
 use Rattle.bq_host.specs.MailStates.{MailState}
 use Rattle.bq_host.specs.declared.hub.Hub.{Hub}
-use Rattle.bq_line.specs.Tending.{DoorSeen, door_seen}
 pub use Rattle.bq_line.specs.declared.line.Line.{Ghosts as Line}
 pub use Rattle.bq_line.specs.declared.door.Door.{Ghosts as Door}
 pub use Rattle.bq_line.specs.declared.clock.Clock.{Ghosts as Clock}
 pub use Rattle.bq_line.specs.declared.control_line.ControlInput.{Ghosts as Control}
 pub use Rattle.bq_core_api.specs.declared.queue_core.QueueCore.{Ghosts as Core}
-
--- what a door records
-abbrev pub at : {D L : Type 0} → Door D L → D → DoorSeen
-at d = door_seen d.is_out d.is_at_end d.lines_over
 
 -- the state of a hub
 abbrev pub state : {C K : Type 0} → Core K → Hub C K → MailState

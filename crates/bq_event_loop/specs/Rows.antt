@@ -2,10 +2,10 @@
 use Rattle.std.specs.Prelude.{ℕ, ◌≡◌, ◌<◌, List, [], length, slice_index_or}
 use Rattle.bq_job.specs.declared.answer.Answer.{Answer}
 use Rattle.bq_job.specs.declared.step.Step.{Step}
-use Rattle.bq_line.specs.Tending.{AreSame, DoorSeen, IsTended, Tends}
+use Rattle.bq_line.specs.Tending.{AreSame, DoorSeen, IsTended, Tends, door_seen}
 use Rattle.bq_line.specs.declared.attendant.Attendant.{Attendant}
 use Rattle.bq_line.specs.declared.attendant.LinePlace.TheVariants.{Done}
-use Rattle.bq_event_loop.specs.Meanings.{Door, Line, at}
+use Rattle.bq_event_loop.specs.Meanings.{Door, Line}
 use Rattle.bq_event_loop.specs.declared.row.Row.{Row}
 
 -- A seat has done something for its door's connections, by the rules.
@@ -18,7 +18,7 @@ pub record IsSomehowTended {L : Type 0} (l : Line L) (a : Attendant L) (door : D
 pub record AllTended {L D : Type 0} (l : Line L) (d : Door D L) (seats : List (Attendant L)) (doors : List D) : Type 0 where
   pub doored : length doors ≡ length seats
   pub each : (seat : ℕ) → seat < length seats → (a : Attendant L) (x : D)
-      → IsSomehowTended l (slice_index_or seats seat a) (at d (slice_index_or doors seat x))
+      → IsSomehowTended l (slice_index_or seats seat a) (door_seen d (slice_index_or doors seat x))
 
 -- Each seat has a door and has done something for the door's connections, by the rules.
 abbrev pub AreTended : {L D : Type 0} → Line L → Door D L → Row L D → Type 0
@@ -29,8 +29,8 @@ pub record AllRested {L D : Type 0} (l : Line L) (d : Door D L) (firsts : List (
   pub many : length seats ≡ length firsts
   pub doored : length doors ≡ length first_doors
   pub each : (seat : ℕ) → seat < length firsts → (a : Attendant L) (x : D)
-      → Tends l.seen (slice_index_or firsts seat a) (at d (slice_index_or first_doors seat x)) [] [] (slice_index_or seats seat a)
-      (at d (slice_index_or doors seat x))
+      → Tends l.seen (slice_index_or firsts seat a) (door_seen d (slice_index_or first_doors seat x)) [] [] (slice_index_or seats seat a)
+      (door_seen d (slice_index_or doors seat x))
   pub same_doors : (handed_in : List D) → AreSame d.same handed_in first_doors → AreSame d.same handed_in doors
 
 -- Between these two states no seat submitted a step or took an answer, whatever else was done with

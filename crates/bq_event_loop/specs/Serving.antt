@@ -6,14 +6,14 @@ use Rattle.bq_job.specs.declared.step.Step.{Step}
 use Rattle.bq_job.specs.promise.History.{steps_at}
 use Rattle.bq_job.specs.promise.Runs.{Entry}
 use Rattle.bq_line.specs.GivenReadings.{GaveReadings}
-use Rattle.bq_line.specs.Tending.{AreSame, IsTended, ended_lines}
+use Rattle.bq_line.specs.Tending.{AreSame, IsTended, door_seen, ended_lines}
 use Rattle.bq_line.specs.declared.attendant.Attendant.{Attendant}
 use Rattle.bq_host.specs.Hubs.{WentAt}
 use Rattle.bq_host.specs.MailStates.{IsInOrder, IsNewMailState, MailState, waiting}
 use Rattle.bq_host.specs.WakeLists.{Wakes}
 use Rattle.bq_event_loop.specs.ControlTold.{HasTold, TellsOn}
 use Rattle.bq_event_loop.specs.Known.{ChangesOnly}
-use Rattle.bq_event_loop.specs.Meanings.{Clock, Control, Core, Door, Line, at, state}
+use Rattle.bq_event_loop.specs.Meanings.{Clock, Control, Core, Door, Line, state}
 use Rattle.bq_event_loop.specs.declared.control_turns.ControlTurns.{ControlTurns}
 use Rattle.bq_host.specs.Went.{CoreWent}
 use Rattle.bq_event_loop.specs.Rows.{AreTended}
@@ -33,9 +33,10 @@ pub record AreServed {L D : Type 0} (l : Line L) (d : Door D L) (max_job_size : 
   pub mailed : length first.mails ≡ length seats
   pub doored : length doors ≡ length seats
   pub each : (seat : ℕ) → seat < length seats → (a : Attendant L) (x : D)
-      → IsTended l.seen max_job_size (slice_index_or seats seat a) (at d (slice_index_or doors seat x)) (steps_at seat history) (took seat)
+      → IsTended l.seen max_job_size (slice_index_or seats seat a) (door_seen d (slice_index_or doors seat x)) (steps_at seat history)
+      (took seat)
   pub few : (seat : ℕ) → seat < length seats → waiting seat first ≡ [] → (a : Attendant L) (x : D)
-      → closes (took seat) ≤ ended_lines (slice_index_or seats seat a) (at d (slice_index_or doors seat x))
+      → closes (took seat) ≤ ended_lines (slice_index_or seats seat a) (door_seen d (slice_index_or doors seat x))
   pub control_is : steps_at (length seats) history ≡ control
   pub nobody_else : (seat : ℕ) → length seats < seat → steps_at seat history ≡ []
 

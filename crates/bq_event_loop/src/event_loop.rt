@@ -49,7 +49,7 @@ pub fn run_event_loop<
 ) -> Result<EventLoopRun<L, D, C, I, K>, RunRefused<D>>
     // No door has a connection that is open or was served, and no door is at its end.
     requires new { All
-        (λ door. IsNewDoor (door_seen D.is_out D.is_at_end D.lines_over door)) doors.items }
+        (λ door. IsNewDoor (door_seen D.Door door)) doors.items }
     // There is one history of the steps of all clients and of the control line, each at the moment
     // of a reading of the clock. The one-list model takes this history, the core represents the
     // model after it, and each connection received exactly the bytes that the history prescribes

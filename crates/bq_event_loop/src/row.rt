@@ -167,8 +167,8 @@ fn look_at<L: Line + Drop, D: Door<Line = L>, W: Watcher>(
     may_have_come: bool,
     watcher: &W,
 ) -> Looked
-    requires placed { IsPlaced seat.old.place (door_seen D.is_out D.is_at_end D.lines_over door.old) }
-    ensures went { let at = door_seen D.is_out D.is_at_end D.lines_over in
+    requires placed { IsPlaced seat.old.place (door_seen D.Door door.old) }
+    ensures went { let at = door_seen D.Door in
         Tends L.seen seat.old (at door.old) [] [] seat.new (at door.new) }
     ensures same { (first : D) → D.same first door.old → D.same first door.new }
     ensures none { (result ≡ Looked.NotYet) ⊎ (result ≡ Looked.Later) → seat.new.place ≡ LinePlace.Between }
@@ -186,7 +186,7 @@ fn exchange_at<L: Line + Drop, D: Door<Line = L>>(
     door: &mut D,
     buffer: &mut ReadBuffer,
 )
-    ensures went { let at = door_seen D.is_out D.is_at_end D.lines_over in
+    ensures went { let at = door_seen D.Door in
         Tends L.seen seat.old (at door.old) [] [] seat.new (at door.new) }
     ensures same { (first : D) → D.same first door.old → D.same first door.new }
 {

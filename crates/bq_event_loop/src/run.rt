@@ -117,7 +117,7 @@ pub fn run_turns<
 ) -> Result<EventLoopRun<L, D, C, I, K>, RunRefused<D>>
     // No door has a connection that is open or was served, and no door is at its end.
     requires new { All
-        (λ door. IsNewDoor (door_seen D.is_out D.is_at_end D.lines_over door)) doors.items }
+        (λ door. IsNewDoor (door_seen D.Door door)) doors.items }
     // The turns are for this run.
     requires of_run { T.is_of (beginning config doors.items clock (I.remaining control) (I.may_fail control)) }
     // They know each seat.
@@ -323,7 +323,7 @@ fn run_at<
     requires of_run { T.is_of (beginning config doors.items parts.core.timed.time.clock (I.remaining control) (I.may_fail control)) }
     requires knows { KnowsAll config.seats (T.seats turns.old) (T.listed turns.old) (T.looks turns.old) }
     requires new_doors { All
-        (λ door. IsNewDoor (door_seen D.is_out D.is_at_end D.lines_over door)) doors.items }
+        (λ door. IsNewDoor (door_seen D.Door door)) doors.items }
     ensures served { result.is_over ≡ true →
         IsEventLoopRun C.given D.lines_over I.remaining I.may_fail K.machine K.comparisons config parts.core.timed.time.clock control result }
     ensures so_far { IsEventLoopSoFar C.given L.seen D.lines_over D.is_out D.same I.remaining I.may_fail K.machine K.comparisons
@@ -376,7 +376,7 @@ fn serve_new<
     requires of_run { T.is_of (beginning config doors.items parts.core.timed.time.clock (I.remaining input) (I.may_fail input)) }
     requires knows { KnowsAll config.seats (T.seats turns.old) (T.listed turns.old) (T.looks turns.old) }
     requires new_doors { All
-        (λ door. IsNewDoor (door_seen D.is_out D.is_at_end D.lines_over door)) doors.items }
+        (λ door. IsNewDoor (door_seen D.Door door)) doors.items }
     ensures done { result.has_ended ≡ true → AreDone result.row.seats.items }
     ensures over { result.has_ended ≡ true → result.control.stage ≡ stages.Over }
     ensures serving { IsServing K.QueueCore C.Clock L.Line D.Door I.ControlInput
@@ -434,7 +434,7 @@ fn begin<
         (beginning config doors.now.items parts.now.core.timed.time.clock (I.remaining input.now) (I.may_fail input.now)) }
     requires knows { KnowsAll config.seats (T.seats _turns.now) (T.listed _turns.now) (T.looks _turns.now) }
     requires new_doors { All
-        (λ door. IsNewDoor (door_seen D.is_out D.is_at_end D.lines_over door)) doors.now.items }
+        (λ door. IsNewDoor (door_seen D.Door door)) doors.now.items }
     ensures began { began_with I.ControlInput result
         ≡ beginning config doors.now.items parts.now.core.timed.time.clock (I.remaining input.now) (I.may_fail input.now) }
     ensures of_run { T.is_of (began_with I.ControlInput result) }

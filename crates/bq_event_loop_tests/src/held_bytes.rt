@@ -20,8 +20,7 @@ type Ran = EventLoopRun<MemLine, MemDoor, ScriptClock, &'static [u8], Core>;
 
 // Returns one door, where no client connects.
 fn no_clients(alloc: Global) -> Result<Vec<MemDoor, Global>, NoMemory>
-    ensures { IfOk result (λ doors. All (λ door. IsNewDoor (door_seen ⟦<MemDoor as Door>⟧.is_out
-        ⟦<MemDoor as Door>⟧.is_at_end ⟦<MemDoor as Door>⟧.lines_over door)) doors.items) }
+    ensures { IfOk result (λ doors. All (λ door. IsNewDoor (door_seen ⟦<MemDoor as Door>⟧ door)) doors.items) }
 {
     let door = MemDoor::new(alloc, VecDeque::new(alloc))?;
     match Vec::from_array(alloc, [door]) {

@@ -66,7 +66,7 @@ pub fn attend<L: Line + Drop, D: Door<Line = L>, C: Clock + Drop, K: QueueCore +
     buffers: &mut Buffers,
 ) -> Progress
     requires placed { IsPlaced attendant.old.place
-        (door_seen D.is_out D.is_at_end D.lines_over door.old) }
+        (door_seen D.Door door.old) }
     requires ready { IsInOrderFor K.machine K.comparisons seat hub.old }
     ensures order { IsInOrder (state_of K.machine K.comparisons hub.new) }
     // The result is one that this place can have. Unless something moved, the seat submitted
@@ -78,7 +78,7 @@ pub fn attend<L: Line + Drop, D: Door<Line = L>, C: Clock + Drop, K: QueueCore +
     ensures refused { result ≡ Progress.NotAccepted → IsHeldUp (state_of K.machine K.comparisons hub.new) }
     ensures none { result ≡ Progress.NoMail → (waiting seat (state_of K.machine K.comparisons hub.old) ≡ [])
         ⊎ IsHeldUp (state_of K.machine K.comparisons hub.new) }
-    ensures went { let at = door_seen D.is_out D.is_at_end D.lines_over in
+    ensures went { let at = door_seen D.Door in
         GoesOn (WentAt K.machine K.comparisons C.given seat) hub.old hub.new L.seen attendant.old (at door.old) attendant.new (at door.new) }
     ensures fresh { KeepsFresh C.given hub.old hub.new }
     ensures same { (first : D) → D.same first door.old → D.same first door.new }

@@ -20,6 +20,7 @@ use Rattle.bq_line.specs.declared.attendant.LinePlace.{LinePlace}
 use Rattle.bq_line.specs.declared.attendant.LinePlace.TheVariants as places
 use Rattle.bq_line.specs.declared.attendant.Progress.{Progress}
 use Rattle.bq_line.specs.declared.attendant.Progress.TheVariants as results
+use Rattle.bq_line.specs.declared.door.Door.{Ghosts as Door}
 use Rattle.bq_seat.specs.declared.machine.Action.{Action}
 use Rattle.bq_seat.specs.declared.machine.Action.TheVariants as actions
 
@@ -32,9 +33,9 @@ pub record DoorSeen : Type 0 where
   pub is_at_end : Bool
   pub lines_over : List LineOver
 
--- the same, from the members of the trait Door
-abbrev pub door_seen : {D : Type 0} → (D → Bool) → (D → Bool) → (D → List LineOver) → D → DoorSeen
-door_seen is_out is_at_end lines_over door = record { is_out = is_out door; is_at_end = is_at_end door; lines_over = lines_over door }
+-- the same, by what the trait Door means for it
+abbrev pub door_seen : {D L : Type 0} → Door D L → D → DoorSeen
+door_seen d door = record { is_out = d.is_out door; is_at_end = d.is_at_end door; lines_over = d.lines_over door }
 
 -- No connection was opened, and more may come.
 pub record IsNewDoor (door : DoorSeen) : Type 0 where

@@ -265,7 +265,7 @@ impl<L: Line + Drop> Attendant<L> {
     ) -> Looked
         requires between { self.old.place ≡ LinePlace.Between }
         requires more { MayOpen (D.is_out door.old) (D.is_at_end door.old) }
-        ensures went { let at = door_seen D.is_out D.is_at_end D.lines_over in
+        ensures went { let at = door_seen D.Door in
             Tends L.seen self.old (at door.old) [] [] self.new (at door.new) }
         ensures same { (first : D) → D.same first door.old → D.same first door.new }
         ensures sure { StaysSure L.lies_over D.lines_over D.may_fail self.old.place door.old self.new.place door.new }
@@ -302,7 +302,7 @@ impl<L: Line + Drop> Attendant<L> {
         buffers: &mut Buffers,
     ) -> Progress
         requires placed { IsPlaced self.old.place
-            (door_seen D.is_out D.is_at_end D.lines_over door.old) }
+            (door_seen D.Door door.old) }
         requires ready { K.is_ready link.old }
         ensures ready { K.is_ready link.new }
         // The result is one that this place can have. Unless something moved, the seat submitted
@@ -318,7 +318,7 @@ impl<L: Line + Drop> Attendant<L> {
         ensures uses { UsesAt K.went result link.old self.old.place link.new }
         // Whatever it did before, it continued with the steps that it submitted and the answers
         // that it took.
-        ensures went { let at = door_seen D.is_out D.is_at_end D.lines_over in
+        ensures went { let at = door_seen D.Door in
             GoesOn K.went link.old link.new L.seen self.old (at door.old) self.new (at door.new) }
         ensures stays { StaysOpenOver L.lies_over self.old.place self.new.place }
         // No connection of a door whose streams may not fail meets a fault.
@@ -349,7 +349,7 @@ impl<L: Line + Drop> Attendant<L> {
         link: &mut K,
     ) -> Progress
         requires placed { IsPlaced self.old.place
-            (door_seen D.is_out D.is_at_end D.lines_over door.old) }
+            (door_seen D.Door door.old) }
         requires ready { K.is_ready link.old }
         requires without { (line : L) (action : Action) (sent : ℕ) → self.old.place ≡ LinePlace.On line action sent → ⊥ }
         ensures ready { K.is_ready link.new }
@@ -358,7 +358,7 @@ impl<L: Line + Drop> Attendant<L> {
         ensures lacks { LacksAt K.refused K.had_none result link.old self.old.place link.new }
         ensures moves { MovesAt result self.old.place self.new.place }
         ensures uses { UsesAt K.went result link.old self.old.place link.new }
-        ensures went { let at = door_seen D.is_out D.is_at_end D.lines_over in
+        ensures went { let at = door_seen D.Door in
             GoesOn K.went link.old link.new L.seen self.old (at door.old) self.new (at door.new) }
         ensures sure { StaysSure L.lies_over D.lines_over D.may_fail self.old.place door.old self.new.place door.new }
         ensures same { (first : D) → D.same first door.old → D.same first door.new }
@@ -386,7 +386,7 @@ fn open_in_place<L: Line + Drop, D: Door<Line = L>>(
 )
     requires more { MayOpen (D.is_out door.old) (D.is_at_end door.old) }
     ensures opened { place.new ≡ LinePlace.Between → ⊥ }
-    ensures went { let at = door_seen D.is_out D.is_at_end D.lines_over in
+    ensures went { let at = door_seen D.Door in
         Tends L.seen (attendant machine.old LinePlace.Between) (at door.old) [] [] (attendant machine.new place.new) (at door.new) }
     ensures sure { StaysSure L.lies_over D.lines_over D.may_fail LinePlace.Between door.old place.new door.new }
     ensures same { (first : D) → D.same first door.old → D.same first door.new }
@@ -417,9 +417,9 @@ fn shut_line<L: Line + Drop, D: Door<Line = L>>(
     end: LineEnd,
 )
     requires over { (line : L) × (sent : ℕ) × (place.old ≡ LinePlace.On line (Action.LineOver end) sent) }
-    requires placed { IsPlaced place.old (door_seen D.is_out D.is_at_end D.lines_over door.old) }
+    requires placed { IsPlaced place.old (door_seen D.Door door.old) }
     ensures shut { place.new ≡ LinePlace.Between }
-    ensures went { let at = door_seen D.is_out D.is_at_end D.lines_over in
+    ensures went { let at = door_seen D.Door in
         (machine : SeatMachine) → Tends L.seen (attendant machine place.old) (at door.old) [] [] (attendant machine place.new) (at door.new) }
     ensures sure { StaysSure L.lies_over D.lines_over D.may_fail place.old door.old place.new door.new }
     ensures same { (first : D) → D.same first door.old → D.same first door.new }

@@ -43,11 +43,11 @@ pub fn serve_at_desk<
     requires size { IsTrue (is_body_size max_job_size) }
     requires few { vec_len doors ≤ 65535 }
     requires new { All
-        (λ door. IsNewDoor (door_seen D.is_out D.is_at_end D.lines_over door)) doors.items }
+        (λ door. IsNewDoor (door_seen D.Door door)) doors.items }
     ensures fault { IsErrOf result RunFault.BadConfiguration → ⊥ }
     ensures many { IfOk result (λ served. vec_len served ≡ vec_len doors) }
     ensures served { IfOk result (λ served. All
-        (λ door. IsServedToEnd max_job_size (door_seen D.is_out D.is_at_end D.lines_over door)) served.items) }
+        (λ door. IsServedToEnd max_job_size (door_seen D.Door door)) served.items) }
     ensures same { IfOk result (λ served. AreSame D.same doors.items served.items) }
 {
     let seats = doors.len() as u16;
@@ -88,7 +88,7 @@ fn serve_in_scope<
     ensures fault { IsErrOf result RunFault.BadConfiguration → ⊥ }
     ensures many { IfOk result (λ doors. vec_len doors ≡ vec_len posts.all) }
     ensures served { IfOk result (λ doors. All
-        (λ door. IsServedToEnd posts.max_job_size (door_seen D.is_out D.is_at_end D.lines_over door)) doors.items) }
+        (λ door. IsServedToEnd posts.max_job_size (door_seen D.Door door)) doors.items) }
     ensures same { IfOk result
         (λ doors. AreSame D.same (reverse (map (λ post. post.door) posts.all.items)) doors.items) }
 {
@@ -99,7 +99,7 @@ fn serve_in_scope<
             ensures fault { IsErrOf result RunFault.BadConfiguration → ⊥ }
             ensures many { IfOk result (λ doors. vec_len doors ≡ vec_len posts.all) }
             ensures served { IfOk result (λ doors. All
-                (λ door. IsServedToEnd posts.max_job_size (door_seen D.is_out D.is_at_end D.lines_over door)) doors.items) }
+                (λ door. IsServedToEnd posts.max_job_size (door_seen D.Door door)) doors.items) }
             ensures same { IfOk result
                 (λ doors. AreSame D.same
                 (reverse (map (λ post. post.door) posts.all.items)) doors.items) }
@@ -128,7 +128,7 @@ fn new_posts<D: Door + Drop>(
     requires size { IsTrue (is_body_size max_job_size) }
     requires few { vec_len doors ≤ 65535 }
     requires new { All
-        (λ door. IsNewDoor (door_seen D.is_out D.is_at_end D.lines_over door)) doors.items }
+        (λ door. IsNewDoor (door_seen D.Door door)) doors.items }
     ensures many { IfOk result (λ posts. vec_len posts ≡ vec_len doors) }
     ensures limits { IfOk result
         (λ posts. All (λ post. post.max_job_size ≡ max_job_size) posts.items) }
@@ -160,7 +160,7 @@ struct DoorPromise<D> {
 
 impl<D: Door> Promise<Option<D>> for DoorPromise<D> {
     ghost kept_by = { λ promise door.
-        IfSome door (λ d. IsServedToEnd promise.max_job_size (door_seen D.is_out D.is_at_end D.lines_over d))
+        IfSome door (λ d. IsServedToEnd promise.max_job_size (door_seen D.Door d))
         × IfSome door (D.same promise.door.value) };
 }
 
@@ -188,7 +188,7 @@ fn serve_all<
     ensures fault { IsErrOf result RunFault.BadConfiguration → ⊥ }
     ensures many { IfOk result (λ doors. vec_len doors ≡ vec_len posts.all) }
     ensures served { IfOk result (λ doors. All
-        (λ door. IsServedToEnd posts.max_job_size (door_seen D.is_out D.is_at_end D.lines_over door)) doors.items) }
+        (λ door. IsServedToEnd posts.max_job_size (door_seen D.Door door)) doors.items) }
     ensures same { IfOk result
         (λ doors. AreSame D.same (reverse (map (λ post. post.door) posts.all.items)) doors.items) }
 {
@@ -312,7 +312,7 @@ fn join_all<R: Threads, D: Door + Drop + Send>(
     requires limits { All (λ thread. thread.promise.max_job_size ≡ max_job_size) threads.items }
     ensures fault { IsErrOf result RunFault.BadConfiguration → ⊥ }
     ensures many { IfOk result (λ all. vec_len all ≡ vec_len threads) }
-    ensures served { IfOk result (λ all. All (λ door. IsServedToEnd max_job_size (door_seen D.is_out D.is_at_end D.lines_over door))
+    ensures served { IfOk result (λ all. All (λ door. IsServedToEnd max_job_size (door_seen D.Door door))
         all.items) }
     ensures same { IfOk result
         (λ all. AreSame D.same

@@ -39,7 +39,7 @@ impl<D: Door + Drop> Post<D> {
     /// Returns a post of this seat. All memory but that for bodies is allocated here.
     pub fn new(alloc: Global, max_job_size: u32, seat: Seat, door: D) -> Result<Post<D>, NoMemory>
         requires size { IsTrue (is_body_size max_job_size) }
-        requires new { IsNewDoor (door_seen D.is_out D.is_at_end D.lines_over door) }
+        requires new { IsNewDoor (door_seen D.Door door) }
         ensures seat { IfOk result (λ post. post.seat ≡ seat) }
         ensures limit { IfOk result (λ post. post.max_job_size ≡ max_job_size) }
         ensures door { IfOk result (λ post. post.door ≡ door) }
@@ -69,7 +69,7 @@ impl<L: Line + Drop, D: Door<Line = L> + Drop> Post<D> {
     ) -> Option<D>
         ensures served { IfSome result
             (λ door. IsServedToEnd self.max_job_size
-            (door_seen D.is_out D.is_at_end D.lines_over door)) }
+            (door_seen D.Door door)) }
         ensures same { IfSome result (D.same self.door) }
     {
         if !start.wait(rt) {

@@ -50,11 +50,11 @@ pub fn run_locked<
 ) -> Result<LockedRun<D, C>, RunFault>
     // No door has a connection that is open or was served, and no door is at its end.
     requires new { All
-        (λ door. IsNewDoor (door_seen D.is_out D.is_at_end D.lines_over door)) doors.items }
+        (λ door. IsNewDoor (door_seen D.Door door)) doors.items }
     // Each door was served to its end: the steps of its connections were submitted, and each
     // connection received the answers that were taken for it. No clause states how these relate to
     // the steps of the core.
-    ensures served { IfOk result (λ run. All (λ door. IsServedToEnd config.max_job_size (door_seen D.is_out D.is_at_end D.lines_over door))
+    ensures served { IfOk result (λ run. All (λ door. IsServedToEnd config.max_job_size (door_seen D.Door door))
         run.doors.items) }
     // The doors are those that were passed in, in the same order.
     ensures same { IfOk result (λ run. AreSame D.same doors.items run.doors.items) }

@@ -48,11 +48,11 @@ pub fn seat_work<R: Wait, L: Line + Drop, D: Door<Line = L> + Drop>(
     requires intake { end.intake ≡ intake.now.id }
     requires end { IsNewEnd end }
     requires machine { awaited machine ≡ Awaited.ALine }
-    requires door { IsNewDoor (door_seen D.is_out D.is_at_end D.lines_over door) }
+    requires door { IsNewDoor (door_seen D.Door door) }
     ensures end { IsSameSeat end result.0 }
     // The steps submitted and the answers taken at the end are what the door's connections asked
     // for and received.
-    ensures served { let at = door_seen D.is_out D.is_at_end D.lines_over in
+    ensures served { let at = door_seen D.Door in
         IsDoorServed machine.reader.max_job_size (at result.1) result.0.submitted result.0.taken }
     // It is still the same door.
     ensures same { D.same door result.1 }
@@ -443,13 +443,13 @@ pub fn attend_at<R: Wait, L: Line + Drop, D: Door<Line = L>>(
 ) -> Progress
     requires intake { end.old.intake ≡ intake.now.id }
     requires placed { IsPlaced attendant.old.place
-        (door_seen D.is_out D.is_at_end D.lines_over door.old) }
+        (door_seen D.Door door.old) }
     ensures same { IsSameSeat end.old end.new }
     // The result is one that this place can have. Unless something moved, the seat submitted
     // nothing and took nothing.
     ensures progress { MayEndAt result attendant.old.place }
     ensures still { (result ≡ Progress.Moved → ⊥) → EndWent end.old [] [] end.new }
-    ensures went { let at = door_seen D.is_out D.is_at_end D.lines_over in
+    ensures went { let at = door_seen D.Door in
         GoesOn EndWent end.old end.new L.seen attendant.old (at door.old) attendant.new (at door.new) }
     ensures door { (first : D) → D.same first door.old → D.same first door.new }
 {

@@ -31,7 +31,7 @@ pub fn new_posts<'a, D: Door + Drop, C: Clock + Drop, K: QueueCore + Drop>(
     requires ends { AreNewSeats core_end ends.items }
     requires many { vec_len ends ≡ vec_len doors + 1 }
     requires new { All
-        (λ door. IsNewDoor (door_seen D.is_out D.is_at_end D.lines_over door)) doors.items }
+        (λ door. IsNewDoor (door_seen D.Door door)) doors.items }
     ensures config { IfOk result (λ posts. posts.core.new_core.config ≡ new_core.config) }
     ensures core { IfOk result (λ posts. posts.core.end ≡ core_end) }
     ensures clock { IfOk result (λ posts. posts.core.clock ≡ clock) }
@@ -78,7 +78,7 @@ fn new_seats<'a, D: Door + Drop>(
     requires of_intake { All (λ end. end.intake ≡ intake.now.id) ends.items }
     requires new_ends { All (λ end. IsNewEnd end) ends.items }
     requires new { All
-        (λ door. IsNewDoor (door_seen D.is_out D.is_at_end D.lines_over door)) doors.items }
+        (λ door. IsNewDoor (door_seen D.Door door)) doors.items }
     ensures limits { IfOk result
         (λ posts. All (λ post. post.max_job_size ≡ max_job_size) posts.items) }
     ensures ends { IfOk result (λ posts. reverse (map (λ p. p.end) posts.items) ≡ ends.items) }
@@ -116,7 +116,7 @@ fn fill_seats<'a, D: Door + Drop>(
     requires of_intake { All (λ end. end.intake ≡ intake.now.id) ends.old.items }
     requires new_ends { All (λ end. IsNewEnd end) ends.old.items }
     requires new { All
-        (λ door. IsNewDoor (door_seen D.is_out D.is_at_end D.lines_over door)) doors.old.items }
+        (λ door. IsNewDoor (door_seen D.Door door)) doors.old.items }
     requires none { posts.old.items ≡ [] }
     requires room { vec_len doors.old ≤ vec_capacity posts.old }
     ensures limits { OnOk result

@@ -30,7 +30,7 @@ pub struct SeatPost<'a, D: Door> {
     ghost new_end: { IsNewEnd end },
     ghost limit: { machine.reader.max_job_size ≡ max_job_size },
     ghost waits: { awaited machine ≡ Awaited.ALine },
-    ghost new_door: { IsNewDoor (door_seen D.is_out D.is_at_end D.lines_over door) },
+    ghost new_door: { IsNewDoor (door_seen D.Door door) },
 }
 
 impl<'a, D: Door + Drop> SeatPost<'a, D> {
@@ -45,7 +45,7 @@ impl<'a, D: Door + Drop> SeatPost<'a, D> {
         requires size { IsTrue (is_body_size max_job_size) }
         requires of_intake { end.intake ≡ intake.now.id }
         requires new_end { IsNewEnd end }
-        requires new { IsNewDoor (door_seen D.is_out D.is_at_end D.lines_over door) }
+        requires new { IsNewDoor (door_seen D.Door door) }
         ensures end { IfOk result (λ post. post.end ≡ end) }
         ensures limit { IfOk result (λ post. post.max_job_size ≡ max_job_size) }
         ensures door { IfOk result (λ post. post.door ≡ door) }
@@ -68,7 +68,7 @@ impl<'a, L: Line + Drop, D: Door<Line = L> + Drop> SeatPost<'a, D> {
     /// Serves the door to its end, and returns it with the end of the links. Returns `None` if a
     /// thread was not started; then the door was not opened.
     pub fn serve<R: Wait>(self, rt: &R, start: &Start) -> Option<(SeatEnd, D)>
-        ensures served { let at = door_seen D.is_out D.is_at_end D.lines_over in
+        ensures served { let at = door_seen D.Door in
             IfSome result (λ r. IsSameSeat self.entry.end r.0 × IsDoorServed self.entry.max_job_size (at r.1) r.0.submitted r.0.taken) }
         ensures same { IfSome result (λ r. D.same self.entry.door r.1) }
     {

@@ -32,7 +32,7 @@ struct SeatPromise<D> {
 }
 
 impl<D: Door> Promise<Option<(SeatEnd, D)>> for SeatPromise<D> {
-    ghost kept_by = { λ p result. let at = door_seen D.is_out D.is_at_end D.lines_over in
+    ghost kept_by = { λ p result. let at = door_seen D.Door in
         IfSome result (λ r. IsSameSeat p.end.value r.0 × IsDoorServed p.max_job_size (at r.1) r.0.submitted r.0.taken)
         × IfSome result (λ r. D.same p.door.value r.1) };
 }
@@ -75,7 +75,7 @@ pub fn serve_in_scope<
     control: I,
 ) -> Result<Ended<D, C, I, K>, RunFault>
     ensures fault { IsErrOf result RunFault.BadConfiguration → ⊥ }
-    ensures over { let at = door_seen D.is_out D.is_at_end D.lines_over in
+    ensures over { let at = door_seen D.Door in
         let ends = posts.entry.ends in
         let over = AreOver at D.same I.remaining I.may_fail ends.max_job_size (map (λ p. p.end) ends.seats.items)
         (map (λ p. p.door) ends.seats.items) ends.control.end control in
@@ -89,7 +89,7 @@ pub fn serve_in_scope<
         rt,
         move |scope| -> Result<Ended<D, C, I, K>, RunFault>
             ensures fault { IsErrOf result RunFault.BadConfiguration → ⊥ }
-            ensures over { let at = door_seen D.is_out D.is_at_end D.lines_over in
+            ensures over { let at = door_seen D.Door in
                 let ends = posts.entry.ends in
                 let over = AreOver at D.same I.remaining I.may_fail ends.max_job_size (map (λ p. p.end) ends.seats.items)
                 (map (λ p. p.door) ends.seats.items) ends.control.end control in
@@ -120,7 +120,7 @@ fn serve_all<
     control: I,
 ) -> Result<Ended<D, C, I, K>, RunFault>
     ensures fault { IsErrOf result RunFault.BadConfiguration → ⊥ }
-    ensures over { let at = door_seen D.is_out D.is_at_end D.lines_over in
+    ensures over { let at = door_seen D.Door in
         let ends = posts.entry.ends in
         let over = AreOver at D.same I.remaining I.may_fail ends.max_job_size (map (λ p. p.end) ends.seats.items)
         (map (λ p. p.door) ends.seats.items) ends.control.end control in
@@ -215,7 +215,7 @@ fn serve_ends<
     requires ends { (rooms.1.items ≡ []) × (vec_len posts.seats < vec_capacity rooms.1) }
     requires doors { (rooms.2.items ≡ []) × (vec_len posts.seats ≤ vec_capacity rooms.2) }
     ensures fault { IsErrOf result RunFault.BadConfiguration → ⊥ }
-    ensures over { let at = door_seen D.is_out D.is_at_end D.lines_over in
+    ensures over { let at = door_seen D.Door in
         let seats = posts.entry.seats.items in
         IfOk result (AreOver at D.same I.remaining I.may_fail posts.entry.max_job_size (map (λ p. p.end) seats) (map (λ p. p.door) seats)
         posts.entry.control.end control) }
@@ -354,7 +354,7 @@ fn join_seats<R: Threads, D: Door + Drop + Send>(
     requires limits { All (λ t. t.promise.max_job_size ≡ max_job_size) threads.items }
     ensures fault { IsErrOf result RunFault.BadConfiguration → ⊥ }
     ensures room { IfOk result (λ r. vec_len r.0 < vec_capacity r.0) }
-    ensures served { let at = door_seen D.is_out D.is_at_end D.lines_over in
+    ensures served { let at = door_seen D.Door in
         IfOk result (λ r. AreServed at max_job_size (map (λ t. t.promise.end.value) threads.items) r.0.items r.1.items) }
     ensures same { IfOk result
         (λ r. AreSame D.same (map (λ t. t.promise.door.value) threads.items) r.1.items) }

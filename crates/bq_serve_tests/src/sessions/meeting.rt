@@ -36,8 +36,7 @@ fn doors<'m>(
     meeting: &'m Meeting,
     chosen: u16,
 ) -> Result<Vec<GuestDoor<'m>, Global>, NoMemory>
-    ensures { IfOk result (λ doors. All (λ door. IsNewDoor (door_seen ⟦<GuestDoor<'m> as Door>⟧.is_out
-        ⟦<GuestDoor<'m> as Door>⟧.is_at_end ⟦<GuestDoor<'m> as Door>⟧.lines_over door)) doors.items) }
+    ensures { IfOk result (λ doors. All (λ door. IsNewDoor (door_seen ⟦<GuestDoor<'m> as Door>⟧ door)) doors.items) }
 {
     let mut doors: Vec<GuestDoor<'m>> = Vec::new(alloc);
     for place in 0..GUESTS {

@@ -4,5 +4,5 @@ use Rattle.bq_event_loop.proofs.row.look_at.Goals as goal
 
 pub returns-then-not-is_between-clause-went : goal.returns-then-not-is_between-clause-went
 returns-then-not-is_between-clause-went g c =
-    let at = door_seen g.D.Door.is_out g.D.Door.is_at_end g.D.Door.lines_over in
+    let at = door_seen g.D.Door in
     tends_still g.L.Line.seen c.args.seat.now (at c.args.door.now)

@@ -8,7 +8,7 @@ use Rattle.bq_line.proofs.attendant.shut_line.Goals as goal
 
 pub returns-in-On-clause-went : goal.returns-in-On-clause-went
 returns-in-On-clause-went g c = λ machine.
-    let at = door_seen g.D.Door.is_out g.D.Door.is_at_end g.D.Door.lines_over in
+    let at = door_seen g.D.Door in
     let over : c.args.place.now ≡ places.On c.in-On.line (actions.LineOver c.args.end) c.in-On.field-2 =
     let first = c.requires.over.2 in let second = c.in-On.is in let third = c.replace.ensures.value in cc in
     rw (over, c.replace.ensures.after) (tends_shut g.L.Line.seen machine c.in-On.line c.args.end c.in-On.field-2

@@ -9,7 +9,7 @@ use Rattle.bq_lock.proofs.doors_served.join_all.Goals as goal
 
 pub loop-thread-preserved : goal.loop-thread-preserved
 loop-thread-preserved g c =
-    let at = door_seen g.D.Door.is_out g.D.Door.is_at_end g.D.Door.lines_over in
+    let at = door_seen g.D.Door in
     let limits = c.loop-thread.invariant.limits in
     let step = c.in-Some.ensures.steps in
     let limit = first_passes c.loop-thread.thread-iterator.rest.items _ c.in-Some.thread

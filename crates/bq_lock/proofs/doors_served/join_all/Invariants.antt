@@ -12,5 +12,5 @@ invariant-loop-thread g l = record {
   limits : All (λ thread. thread.promise.max_job_size ≡ l.fn.max_job_size) l.thread-iterator.rest.items;
   back : AreBack g.D.Door.same (λ thread. thread.promise.door.value) l.fn.threads.items l.thread-iterator.rest.items l.doors.items;
   served : All (λ door. IsServedToEnd l.fn.max_job_size
-      (door_seen g.D.Door.is_out g.D.Door.is_at_end g.D.Door.lines_over door)) l.doors.items;
+      (door_seen g.D.Door door)) l.doors.items;
 }

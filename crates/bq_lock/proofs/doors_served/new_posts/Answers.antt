@@ -6,7 +6,7 @@ use Rattle.bq_lock.proofs.doors_served.new_posts.Goals as goal
 
 pub loop-door-preserved : goal.loop-door-preserved
 loop-door-preserved g c =
-    let at = door_seen g.D.Door.is_out g.D.Door.is_at_end g.D.Door.lines_over in
+    let at = door_seen g.D.Door in
     record {
       few = let h = c.loop-door.invariant.few in let e = c.pop.ensures.len in omega arith;
       many = let h = c.loop-door.invariant.many in let e = c.in-Some.ensures.len in let p = c.push_reserved.ensures.len in omega arith;

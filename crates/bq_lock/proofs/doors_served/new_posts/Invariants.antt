@@ -11,7 +11,7 @@ invariant-loop-door g l = record {
   room : vec_len l.fn.doors ≤ vec_capacity l.posts;
   doors : l.doors.items ++ reverse (map (λ post. post.door) l.posts.items) ≡ l.fn.doors.items;
   limits : All (λ post. post.max_job_size ≡ l.max_job_size) l.posts.items;
-  new : All (λ door. IsNewDoor (door_seen (g.D.Door.is_out) (g.D.Door.is_at_end) (g.D.Door.lines_over) door)) l.doors.items;
+  new : All (λ door. IsNewDoor (door_seen g.D.Door door)) l.doors.items;
 }
 
 abbrev pub decreases-loop-door : goal.decreases-loop-door

@@ -47,14 +47,14 @@ settled_run-requires-clause-pairs g c =
     let v = c.in-Ok-serve_in_scope.ensures in
     let ended = c.in-Ok-serve_in_scope.ended in
     let posts = c.in-Ok-new_posts.posts in
-    back_paired (door_seen g.D.Door.is_out g.D.Door.is_at_end g.D.Door.lines_over) posts.ends.max_job_size c.in-Ok.core_end ended.core_end
+    back_paired (door_seen g.D.Door) posts.ends.max_job_size c.in-Ok.core_end ended.core_end
     c.in-Ok.ends.items (reverse (map (λ q. q.end) posts.ends.seats.items)) ended.ends.ends.items ended.ends.doors.items
     posts.ends.control.end ended.ends.control_end c.in-Ok.ensures.seats.1 p.ends v.over.served v.over.control.same
     (subst (λ (end : CoreState). IsSameCore end ended.core_end) p.core v.core.same)
 
 pub returns-clause-served : goal.returns-clause-served
 returns-clause-served g c =
-    let at = door_seen g.D.Door.is_out g.D.Door.is_at_end g.D.Door.lines_over in
+    let at = door_seen g.D.Door in
     let config = c.args.config in
     let p = c.in-Ok-new_posts.ensures in
     let v = c.in-Ok-serve_in_scope.ensures in
@@ -97,7 +97,7 @@ pub returns-clause-at_end : goal.returns-clause-at_end
 returns-clause-at_end g c =
     subst (λ doors. All (λ door. (g.D.Door.is_out door ≡ false) × (g.D.Door.is_at_end door ≡ true)) doors.items)
     (sym c.settled_run.ensures.rest.0)
-    (all_at_end (door_seen g.D.Door.is_out g.D.Door.is_at_end g.D.Door.lines_over) _ _ _ _ c.in-Ok-serve_in_scope.ensures.over.served)
+    (all_at_end (door_seen g.D.Door) _ _ _ _ c.in-Ok-serve_in_scope.ensures.over.served)
 
 pub returns-clause-same : goal.returns-clause-same
 returns-clause-same g c =

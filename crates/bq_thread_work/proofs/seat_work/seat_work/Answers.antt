@@ -7,7 +7,7 @@ use Rattle.bq_thread_work.proofs.seat_work.seat_work.Goals as goal
 
 pub loop-init : goal.loop-init
 loop-init g c =
-    let at = door_seen g.D.Door.is_out g.D.Door.is_at_end g.D.Door.lines_over in
+    let at = door_seen g.D.Door in
     let size = c.args.machine.reader.max_job_size in
     let a = attendant c.args.machine places.Between in
     let first = tended_new g.L.Line.seen size a (at c.args.door)
@@ -21,7 +21,7 @@ loop-init g c =
 
 pub loop-preserved : goal.loop-preserved
 loop-preserved g c =
-    let at = door_seen g.D.Door.is_out g.D.Door.is_at_end g.D.Door.lines_over in
+    let at = door_seen g.D.Door in
     let size = c.args.machine.reader.max_job_size in
     let new = c.attend_at-progress.new in
     let before = c.loop.invariant.same in

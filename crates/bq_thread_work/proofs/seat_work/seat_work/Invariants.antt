@@ -7,6 +7,6 @@ invariant-loop g l = record {
   iterator : (goal.iterator-loop g).can_next l.iterator' × (goal.iterator-loop g).is_finite l.iterator';
   same : IsSameSeat l.fn.end l.end;
   tended : IsTended g.L.Line.seen l.fn.machine.reader.max_job_size l.attendant
-      (door_seen g.D.Door.is_out g.D.Door.is_at_end g.D.Door.lines_over l.door) l.end.submitted l.end.taken;
+      (door_seen g.D.Door l.door) l.end.submitted l.end.taken;
   door : g.D.Door.same l.fn.door l.door;
 }

@@ -13,7 +13,7 @@ returns-in-LineOver-clause-went g c =
 
 pub returns-in-Submit-clause-went : goal.returns-in-Submit-clause-went
 returns-in-Submit-clause-went g c =
-    let at = door_seen g.D.Door.is_out g.D.Door.is_at_end g.D.Door.lines_over c.args.door.now in
+    let at = door_seen g.D.Door c.args.door.now in
     let m = c.args.self.now.machine in
     let new = c.submit_and_take.new in
     let h = c.submit_and_take.ensures.submitted c.in-Submit.ensures.action.0 c.in-Submit.ensures.action.1 in
@@ -27,7 +27,7 @@ returns-in-Submit-clause-went g c =
 
 pub returns-in_default-does-clause-went : goal.returns-in_default-does-clause-went
 returns-in_default-does-clause-went g c =
-    let at = door_seen g.D.Door.is_out g.D.Door.is_at_end g.D.Door.lines_over c.args.door.now in
+    let at = door_seen g.D.Door c.args.door.now in
     let h = c.carry_out.ensures.carried in
     let t = tends_acted g.K.Link.went _ _ _ g.L.Line.seen _ _ c.in-On.line c.carry_out.new.line _ _ c.in-On.sent c.carry_out.new.sent
     h.0 h.1 h.2 h.3 in

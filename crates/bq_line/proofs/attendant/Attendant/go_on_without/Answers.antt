@@ -10,12 +10,12 @@ returns-in-Between-clause-went g c =
 
 pub returns-in-Done-clause-went : goal.returns-in-Done-clause-went
 returns-in-Done-clause-went g c =
-    let at = door_seen g.D.Door.is_out g.D.Door.is_at_end g.D.Door.lines_over in
+    let at = door_seen g.D.Door in
     ([], [], inr (refl {a = c.args.link.now}, refl, refl), tends_still g.L.Line.seen c.args.self.now (at c.args.door.now))
 
 pub returns-in-Leaving-clause-went : goal.returns-in-Leaving-clause-went
 returns-in-Leaving-clause-went g c =
-    let at = door_seen g.D.Door.is_out g.D.Door.is_at_end g.D.Door.lines_over in
+    let at = door_seen g.D.Door in
     c.leave.ensures.went c.args.self.now.machine (at c.args.door.now)
 
 pub returns-in-Between-clause-progress : goal.returns-in-Between-clause-progress

@@ -7,9 +7,9 @@ use Rattle.bq_lock.proofs.post.Post.serve.Goals as goal
 pub loop-init : goal.loop-init
 loop-init g c =
     let post = c.args.self in
-    let at = door_seen g.D.Door.is_out g.D.Door.is_at_end g.D.Door.lines_over in
-    let first = tended_first g.L.Line.seen g.D.Door.is_out g.D.Door.is_at_end g.D.Door.lines_over
-    (attendant post.machine places.Between) post.door refl post.waits post.inside post.more post.none_over in
+    let at = door_seen g.D.Door in
+    let first = tended_first g.L.Line.seen g.D.Door (attendant post.machine places.Between) post.door refl
+    post.waits post.inside post.more post.none_over in
     record {
       iterator = (tt, tt);
       tended = (

@@ -9,6 +9,6 @@ invariant-loop g l = record {
   iterator : (goal.iterator-loop g).can_next l.iterator' × (goal.iterator-loop g).is_finite l.iterator';
   tended : (before : List Step) × (got : List Answer)
       × IsTended (g.L.Line.seen) l.fn.self.max_job_size l.attendant
-      (door_seen (g.D.Door.is_out) (g.D.Door.is_at_end) (g.D.Door.lines_over) l.door) before got;
+      (door_seen g.D.Door l.door) before got;
   same : g.D.Door.same l.fn.self.door l.door;
 }

@@ -7,7 +7,7 @@ use Rattle.bq_run.proofs.run.new_posts.fill_seats.Goals as goal
 
 pub loop-door-preserved : goal.loop-door-preserved
 loop-door-preserved g c =
-    let at = door_seen g.D.Door.is_out g.D.Door.is_at_end g.D.Door.lines_over in
+    let at = door_seen g.D.Door in
     let i = c.loop-door.invariant in
     record {
       many = let h = i.many in let e = c.in-Some.ensures.len in let f = c.in-Some-pop.ensures.len in omega arith;
@@ -36,7 +36,7 @@ new-requires-clause-new_end g c = popped_passes c.loop-door.ends.items _ c.in-So
 
 pub new-requires-clause-new : goal.new-requires-clause-new
 new-requires-clause-new g c =
-    let at = door_seen g.D.Door.is_out g.D.Door.is_at_end g.D.Door.lines_over in
+    let at = door_seen g.D.Door in
     popped_passes c.loop-door.doors.items _ c.in-Some.door (λ d. IsNewDoor (at d)) c.in-Some.ensures.items c.loop-door.invariant.new
 
 pub returns-clause-limits : goal.returns-clause-limits

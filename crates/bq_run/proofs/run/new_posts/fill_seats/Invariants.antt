@@ -12,7 +12,7 @@ invariant-loop-door g l = record {
   limits : All (λ post. post.max_job_size ≡ l.max_job_size) l.posts.items;
   of_intake : All (λ end. end.intake ≡ l.intake.id) l.ends.items;
   new_ends : All (λ end. IsNewEnd end) l.ends.items;
-  new : All (λ door. IsNewDoor (door_seen (g.D.Door.is_out) (g.D.Door.is_at_end) (g.D.Door.lines_over) door)) l.doors.items;
+  new : All (λ door. IsNewDoor (door_seen g.D.Door door)) l.doors.items;
   whole : l.ends.items ++ reverse (map (λ p. p.end) l.posts.items) ≡ l.fn.ends.items;
   doors : l.doors.items ++ reverse (map (λ p. p.door) l.posts.items) ≡ l.fn.doors.items;
 }

@@ -1,4 +1,4 @@
-use Rattle.std.proofs.Common.{◌≡◌, ◌<◌, ℕ}
+use Rattle.std.proofs.Common.{◌<◌, ℕ}
 use Rattle.std.specs.Prelude.{slice_index_or}
 use Rattle.bq_link.specs.EndStates.{SeatState}
 use Rattle.bq_run.specs.Linked.{AreStill, IsCoreStill, IsSettled}

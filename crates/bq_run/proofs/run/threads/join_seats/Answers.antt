@@ -7,7 +7,7 @@ use Rattle.bq_run.proofs.run.threads.join_seats.Goals as goal
 
 pub loop-thread-preserved : goal.loop-thread-preserved
 loop-thread-preserved g c =
-    let at = door_seen g.D.Door.is_out g.D.Door.is_at_end g.D.Door.lines_over in
+    let at = door_seen g.D.Door in
     let size = c.args.max_job_size in
     let limits = c.loop-thread.invariant.limits in
     let before = c.loop-thread.invariant.served in
@@ -43,7 +43,7 @@ returns-clause-room g c = let h = c.loop-thread.invariant.for_ends in omega arit
 pub returns-clause-served : goal.returns-clause-served
 returns-clause-served g c =
     let rest = c.loop-thread.thread-iterator.rest in
-    all_joined (door_seen g.D.Door.is_out g.D.Door.is_at_end g.D.Door.lines_over) c.args.max_job_size (λ t. t.promise.end.value)
+    all_joined (door_seen g.D.Door) c.args.max_job_size (λ t. t.promise.end.value)
     c.args.threads.items rest.items c.loop-thread.ends.items c.loop-thread.doors.items (sym rest.ok.0 ∙ c.in-None.ensures.steps.0)
     c.loop-thread.invariant.served
 

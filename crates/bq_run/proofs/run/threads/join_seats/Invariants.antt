@@ -13,6 +13,6 @@ invariant-loop-thread g l = record {
   for_doors : vec_len l.doors + length l.thread-iterator.rest.items ≤ vec_capacity l.doors;
   served : (firsts : List SeatState)
       × (firsts ++ map (λ t. t.promise.end.value) l.thread-iterator.rest.items ≡ map (λ t. t.promise.end.value) l.fn.threads.items)
-      × AreServed (door_seen g.D.Door.is_out g.D.Door.is_at_end g.D.Door.lines_over) l.fn.max_job_size firsts l.ends.items l.doors.items;
+      × AreServed (door_seen g.D.Door) l.fn.max_job_size firsts l.ends.items l.doors.items;
   back : AreBack g.D.Door.same (λ t. t.promise.door.value) l.fn.threads.items l.thread-iterator.rest.items l.doors.items;
 }
