@@ -1,4 +1,3 @@
-mod ControlLemmas
 mod KnownLemmas
 mod ListingLemmas
 mod RowLemmas

@@ -22,14 +22,14 @@ use Rattle.bq_line.specs.Tending.{AreSame, DoorSeen, GoesOn, IsCounted, IsTended
 use Rattle.bq_line.specs.declared.attendant.Attendant.{Attendant}
 use Rattle.bq_line.proofs.CountedLemmas.{counted_on}
 use Rattle.bq_line.proofs.TendingLemmas.{tends_still}
-use Rattle.bq_event_loop.specs.ControlTold.{TellsOn}
+use Rattle.bq_line.specs.ControlTold.{TellsOn}
 use Rattle.bq_event_loop.specs.Meanings.{Clock, Control, Core, Door, Line, state}
 use Rattle.bq_event_loop.specs.Known.{ChangesOnly}
 use Rattle.bq_event_loop.specs.Rows.{AllRested, AreTended, KeepsRow}
 use Rattle.bq_event_loop.specs.Serving.{AreReadyFor, AreServed, AreServedFrom, ControlWent, LoopWent, SeatActed, ServesOn}
-use Rattle.bq_event_loop.specs.declared.control_turns.ControlTurns.{ControlTurns}
+use Rattle.bq_line.specs.declared.control_steps.ControlSteps.{ControlSteps}
 use Rattle.bq_event_loop.specs.declared.row.Row.{Row}
-use Rattle.bq_event_loop.proofs.ControlLemmas.{tells_none, tells_then}
+use Rattle.bq_line.proofs.ToldLemmas.{tells_none, tells_then}
 use Rattle.bq_host.proofs.WakeLemmas.{wakes_none, wakes_then}
 use Rattle.bq_event_loop.proofs.KnownLemmas.{changed_none, changed_then}
 use Rattle.bq_event_loop.proofs.RowLemmas.{rested_none, same_set, set_each}
@@ -300,7 +300,7 @@ module _ {C K L D : Type 0} {k : Core K} {c : Clock C} {l : Line L} {d : Door D 
 
 module _ {C K I : Type 0} {k : Core K} {c : Clock C} {i : Control I} where
   -- The control line was read, or left alone, and submitted nothing.
-  pub control_read : {core : Hub C K} {control next : ControlTurns I} → IsInOrder (state k core) → TellsOn i control [] next
+  pub control_read : {core : Hub C K} {control next : ControlSteps I} → IsInOrder (state k core) → TellsOn i control [] next
       → ControlWent k c i core control core next
   control_read {core} order read = record {
     order = order;
@@ -309,11 +309,11 @@ module _ {C K I : Type 0} {k : Core K} {c : Clock C} {i : Control I} where
     went = went_none k.machine k.comparisons c.given (length core.mails.items) core;
   }
 
-  pub control_none : {core : Hub C K} {control : ControlTurns I} → IsInOrder (state k core) → ControlWent k c i core control core control
+  pub control_none : {core : Hub C K} {control : ControlSteps I} → IsInOrder (state k core) → ControlWent k c i core control core control
   control_none order = control_read order tells_none
 
   -- The control line submitted one thing after another.
-  pub control_then : {old core new : Hub C K} {control mid next : ControlTurns I} → ControlWent k c i old control core mid
+  pub control_then : {old core new : Hub C K} {control mid next : ControlSteps I} → ControlWent k c i old control core mid
       → ControlWent k c i core mid new next → ControlWent k c i old control new next
   control_then {old} {core} {new} a b = record {
     order = b.order;
@@ -325,22 +325,22 @@ module _ {C K I : Type 0} {k : Core K} {c : Clock C} {i : Control I} where
 
 module _ {C K L D I : Type 0} {k : Core K} {c : Clock C} {l : Line L} {d : Door D L} {i : Control I} where
   -- The control line submitted nothing.
-  pub loop_serves : {old new : Hub C K} {row later : Row L D} {control : ControlTurns I} → ServesOn k c l d old row [] new later
+  pub loop_serves : {old new : Hub C K} {row later : Row L D} {control : ControlSteps I} → ServesOn k c l d old row [] new later
       → LoopWent k c l d i old row control new later control
   loop_serves s = record { told = []; tells = tells_none; serves = s }
 
   -- Nothing was done.
-  pub loop_none : {core : Hub C K} {row : Row L D} {control : ControlTurns I} → LoopWent k c l d i core row control core row control
+  pub loop_none : {core : Hub C K} {row : Row L D} {control : ControlSteps I} → LoopWent k c l d i core row control core row control
   loop_none = loop_serves serves_none
 
   -- One thing after another.
-  pub loop_then : {old core new : Hub C K} {row mid later : Row L D} {control half next : ControlTurns I}
+  pub loop_then : {old core new : Hub C K} {row mid later : Row L D} {control half next : ControlSteps I}
       → LoopWent k c l d i old row control core mid half → LoopWent k c l d i core mid half new later next
       → LoopWent k c l d i old row control new later next
   loop_then a b = record { told = a.told ++ b.told; tells = tells_then a.tells b.tells; serves = serves_then a.serves b.serves }
 
   -- The control line submitted steps, and no seat acted.
-  pub loop_control : {old new : Hub C K} {row : Row L D} {control next : ControlTurns I} → length old.mails.items ≡ length row.seats.items
+  pub loop_control : {old new : Hub C K} {row : Row L D} {control next : ControlSteps I} → length old.mails.items ≡ length row.seats.items
       → ControlWent k c i old control new next → LoopWent k c l d i old row control new row next
   loop_control {old} same w = record {
     told = w.told;
@@ -349,7 +349,7 @@ module _ {C K L D I : Type 0} {k : Core K} {c : Clock C} {l : Line L} {d : Door 
   }
 
   -- The seats rested after some of them were woken.
-  pub loop_rested : {old new : Hub C K} {row later : Row L D} {control : ControlTurns I} → new ≡ record old { woken = new.woken }
+  pub loop_rested : {old new : Hub C K} {row later : Row L D} {control : ControlSteps I} → new ≡ record old { woken = new.woken }
       → AllRested l d row.seats.items row.doors.items later.seats.items later.doors.items
       → LoopWent k c l d i old row control new later control
   loop_rested same r = loop_serves (serves_then (serves_woken same) (serves_rested r))

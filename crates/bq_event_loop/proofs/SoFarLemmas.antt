@@ -34,17 +34,17 @@ use Rattle.bq_line.specs.declared.attendant.Attendant.{Attendant}
 use Rattle.bq_line.specs.declared.attendant.LinePlace.{LinePlace}
 use Rattle.bq_line.specs.declared.attendant.LinePlace.TheVariants as places
 use Rattle.bq_seat.specs.declared.machine.SeatMachine.{SeatMachine}
-use Rattle.bq_event_loop.specs.ControlTold.{HasTold, IsAtStage}
+use Rattle.bq_line.specs.ControlTold.{HasTold, IsAtStage}
 use Rattle.bq_event_loop.specs.Meanings.{Clock, Control, Core, Door, Line, state}
 use Rattle.bq_event_loop.specs.Rows.{AreDone}
 use Rattle.bq_event_loop.specs.Serving.{IsServing, LoopWent}
 use Rattle.bq_host.specs.declared.hub.Hub.{Hub}
 use Rattle.bq_event_loop.specs.declared.row.Row.{Row}
 use Rattle.bq_event_loop.specs.SoFar.{Beginning, IsLoopSoFar, doors_so_far, line_out}
-use Rattle.bq_event_loop.specs.declared.control_turns.ControlTurns.{ControlTurns}
-use Rattle.bq_event_loop.specs.declared.control_turns.Stage.{Stage}
-use Rattle.bq_event_loop.specs.declared.control_turns.Stage.TheVariants as stages
-use Rattle.bq_event_loop.proofs.ControlLemmas.{IsToldSo, told_all}
+use Rattle.bq_line.specs.declared.control_steps.ControlSteps.{ControlSteps}
+use Rattle.bq_line.specs.declared.control_steps.Stage.{Stage}
+use Rattle.bq_line.specs.declared.control_steps.Stage.TheVariants as stages
+use Rattle.bq_line.proofs.ToldLemmas.{IsToldSo, told_all}
 use Rattle.bq_event_loop.proofs.RowLemmas.{some_one}
 use Rattle.bq_event_loop.proofs.SessionsLemmas.{StepsKeepSettings, run_keeps, tended_done, up_to}
 
@@ -106,7 +106,7 @@ module _ {I : Type 0} (i : Control I) where
         );
       }
 
-  control_begun : (first : Option (List ℕ)) (may : Bool) (c : ControlTurns I) (told : List Step)
+  control_begun : (first : Option (List ℕ)) (may : Bool) (c : ControlSteps I) (told : List Step)
       → HasTold i first may c told
       → IsControlBegun i first may c.input told
   control_begun first may c told h = begun_at c.stage c.input c.line (one_if c.owes_drain) h.count first may told h.at_stage
@@ -166,7 +166,7 @@ module _ {L D : Type 0} (l : Line L) (d : Door D L) where
 
 module _ {L D C I K : Type 0} {k : Core K} {c : Clock C} {l : Line L} {d : Door D L} {i : Control I} where
   -- Nothing was served yet.
-  pub serving_first : {begun : Beginning D C} {core : Hub C K} {row : Row L D} {control : ControlTurns I}
+  pub serving_first : {begun : Beginning D C} {core : Hub C K} {row : Row L D} {control : ControlSteps I}
       → c.given begun.clock [] core.timed.time.clock → IsNewMailState begun.settings (state k core)
       → HasTold i begun.left begun.may_fail control []
       → length row.seats.items ≡ begun.settings.seats → length row.doors.items ≡ begun.settings.seats
@@ -196,7 +196,7 @@ module _ {L D C I K : Type 0} {k : Core K} {c : Clock C} {l : Line L} {d : Door 
   }
 
   -- The service went on.
-  pub serving_on : {begun : Beginning D C} {old new : Hub C K} {row later : Row L D} {control next : ControlTurns I}
+  pub serving_on : {begun : Beginning D C} {old new : Hub C K} {row later : Row L D} {control next : ControlSteps I}
       → IsServing k c l d i begun old row control → LoopWent k c l d i old row control new later next
       → IsServing k c l d i begun new later next
   serving_on {begun} s on = record {
@@ -212,12 +212,12 @@ module _ {L D C I K : Type 0} {k : Core K} {c : Clock C} {l : Line L} {d : Door 
   }
 
   -- A run that began so began the same way by another name.
-  pub serving_since : {begun first : Beginning D C} {core : Hub C K} {row : Row L D} {control : ControlTurns I} → begun ≡ first
+  pub serving_since : {begun first : Beginning D C} {core : Hub C K} {row : Row L D} {control : ControlSteps I} → begun ≡ first
       → IsServing k c l d i begun core row control → IsServing k c l d i first core row control
   serving_since {begun} {first} {core} {row} {control} same s = subst (λ b. IsServing k c l d i b core row control) same s
 
 module _ {L D C I K : Type 0} {k : Core K} {c : Clock C} {l : Line L} {d : Door D L} {i : Control I} {begun : Beginning D C}
-    {core : Hub C K} {row : Row L D} {control : ControlTurns I} (s : IsServing k c l d i begun core row control) where
+    {core : Hub C K} {row : Row L D} {control : ControlSteps I} (s : IsServing k c l d i begun core row control) where
   -- One history of all steps, each with a reading of its own.
   ran : IsRun begun.settings s.readings s.served.history s.served.went.given (k.machine core.timed.core)
   ran = record {

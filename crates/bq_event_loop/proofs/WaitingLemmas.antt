@@ -10,7 +10,7 @@ use Rattle.bq_event_loop.specs.Meanings.{Core, Line}
 use Rattle.bq_event_loop.specs.Sleeping.{IsAtTurn, IsWaitFor, MayWait}
 use Rattle.bq_host.specs.declared.hub.Hub.{Hub}
 use Rattle.bq_event_loop.specs.Known.{AreApart, AreKnown, AreStill, ChangesOnly, IsKnown, IsListedIn, KeepsAll}
-use Rattle.bq_event_loop.specs.declared.control_turns.ControlTurns.{ControlTurns}
+use Rattle.bq_line.specs.declared.control_steps.ControlSteps.{ControlSteps}
 use Rattle.bq_event_loop.specs.declared.turns.ControlStands.{ControlStands}
 use Rattle.bq_event_loop.proofs.KnownLemmas.{known_as, known_changed}
 use Rattle.bq_host.specs.Marks.{times}
@@ -80,7 +80,7 @@ wait_woken k most core later same (inr may) =
     inr (subst (λ h. MayWait k most h) (sym same) (record { sorted = may.sorted; in_time = may.in_time }))
 
 module _ {L C K I : Type 0} {line : Line L} {k : Core K} {many : ℕ} {listed looks : ℕ → Bool} {seats : List (Attendant L)}
-    {mails : List (List Answer)} {due : Option ℕ} {standing : ControlStands} {core : Hub C K} {control : ControlTurns I}
+    {mails : List (List Answer)} {due : Option ℕ} {standing : ControlStands} {core : Hub C K} {control : ControlSteps I}
     (at : IsAtTurn line k many listed looks seats mails due standing core control) where
   -- A seat that the turns let act was changed.
   pub known_beside : {i : ℕ} {later : List (Attendant L)} → listed i ≡ true → ChangesOnly i seats later

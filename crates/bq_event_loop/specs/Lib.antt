@@ -1,5 +1,4 @@
 pub mod Accepting
-pub mod ControlTold
 pub mod ControlWatching
 pub mod EventLoopRuns
 pub mod Known

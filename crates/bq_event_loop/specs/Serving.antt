@@ -11,10 +11,10 @@ use Rattle.bq_line.specs.declared.attendant.Attendant.{Attendant}
 use Rattle.bq_host.specs.Hubs.{WentAt}
 use Rattle.bq_host.specs.MailStates.{IsInOrder, IsNewMailState, MailState, waiting}
 use Rattle.bq_host.specs.WakeLists.{Wakes}
-use Rattle.bq_event_loop.specs.ControlTold.{HasTold, TellsOn}
+use Rattle.bq_line.specs.ControlTold.{HasTold, TellsOn}
 use Rattle.bq_event_loop.specs.Known.{ChangesOnly}
 use Rattle.bq_event_loop.specs.Meanings.{Clock, Control, Core, Door, Line, state}
-use Rattle.bq_event_loop.specs.declared.control_turns.ControlTurns.{ControlTurns}
+use Rattle.bq_line.specs.declared.control_steps.ControlSteps.{ControlSteps}
 use Rattle.bq_host.specs.Went.{CoreWent}
 use Rattle.bq_event_loop.specs.Rows.{AreTended}
 use Rattle.bq_event_loop.specs.SoFar.{Beginning}
@@ -63,14 +63,14 @@ pub record ServesOn {C K L D : Type 0} (k : Core K) (c : Clock C) (l : Line L) (
 
 -- The service went on, and its steps of the control line are those that the control line submitted.
 pub record LoopWent {C K L D I : Type 0} (k : Core K) (c : Clock C) (l : Line L) (d : Door D L) (i : Control I)
-    (old : Hub C K) (row : Row L D) (control : ControlTurns I) (new : Hub C K) (later : Row L D) (next : ControlTurns I) : Type 0 where
+    (old : Hub C K) (row : Row L D) (control : ControlSteps I) (new : Hub C K) (later : Row L D) (next : ControlSteps I) : Type 0 where
   pub told : List Step
   pub tells : TellsOn i control told next
   pub serves : ServesOn k c l d old row told new later
 
 -- What the control line submitted at a hub, whose seats have the numbers before its own.
 pub record ControlWent {C K I : Type 0} (k : Core K) (c : Clock C) (i : Control I) (old : Hub C K)
-    (control : ControlTurns I) (new : Hub C K) (next : ControlTurns I) : Type 0 where
+    (control : ControlSteps I) (new : Hub C K) (next : ControlSteps I) : Type 0 where
   pub order : IsInOrder (state k new)
   pub told : List Step
   pub tells : TellsOn i control told next
@@ -99,7 +99,7 @@ pub record SeatActed {C K L D : Type 0} (k : Core K) (c : Clock C) (l : Line L) 
 
 -- What was served since the run began so, with a new core.
 pub record IsServing {L D C I K : Type 0} (k : Core K) (c : Clock C) (l : Line L) (d : Door D L) (i : Control I) (begun : Beginning D C)
-    (core : Hub C K) (row : Row L D) (control : ControlTurns I) : Type 0 where
+    (core : Hub C K) (row : Row L D) (control : ControlSteps I) : Type 0 where
   pub first : MailState
   pub told : List Step
   pub readings : List (Option ℕ)

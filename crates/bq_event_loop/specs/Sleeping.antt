@@ -6,9 +6,9 @@ use Rattle.bq_line.specs.declared.attendant.Attendant.{Attendant}
 use Rattle.bq_host.specs.DueTimes.{IsWithinDue}
 use Rattle.bq_event_loop.specs.Known.{AreIdle, AreKnown}
 use Rattle.bq_event_loop.specs.Meanings.{Core, Line, state}
-use Rattle.bq_event_loop.specs.declared.control_turns.ControlTurns.{ControlTurns}
-use Rattle.bq_event_loop.specs.declared.control_turns.Stage.{Stage}
-use Rattle.bq_event_loop.specs.declared.control_turns.Stage.TheVariants as stages
+use Rattle.bq_line.specs.declared.control_steps.ControlSteps.{ControlSteps}
+use Rattle.bq_line.specs.declared.control_steps.Stage.{Stage}
+use Rattle.bq_line.specs.declared.control_steps.Stage.TheVariants as stages
 use Rattle.bq_host.specs.declared.hub.Hub.{Hub}
 use Rattle.bq_event_loop.specs.declared.order.Stage.{Stage as Part}
 use Rattle.bq_event_loop.specs.declared.order.Stage.TheVariants as parts
@@ -69,7 +69,7 @@ HasWork may_come listed looks are_more_away due standing reads =
 -- A wait of `due` milliseconds ends in time. The control line stands so.
 pub record IsAtTurn {L C I K : Type 0} (l : Line L) (k : Core K) (many : ℕ)
     (listed looks : ℕ → Bool) (seats : List (Attendant L)) (mails : List (List Answer)) (due : Option ℕ) (standing : ControlStands)
-    (core : Hub C K) (control : ControlTurns I) : Type 0 where
+    (core : Hub C K) (control : ControlSteps I) : Type 0 where
   pub known : AreKnown l many listed looks [] seats mails
   pub mails_are : mails ≡ core.mails.items
   pub woken : core.woken.waiting ≡ []

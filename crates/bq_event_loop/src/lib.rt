@@ -15,7 +15,6 @@ pub use turns::{
 pub use watch::Watch;
 
 mod accepts;
-mod control_turns;
 mod control_watch;
 mod doors;
 mod event_loop;

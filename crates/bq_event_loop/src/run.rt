@@ -6,7 +6,7 @@ ghost use Rattle.bq_job.specs.laws.TheHeadline.{AreJobsServedIn};
 ghost use Rattle.bq_line.specs.ControlSeen.{new_control};
 ghost use Rattle.bq_line.specs.Tending.{AreSame, IsNewDoor, IsNewSeat, door_seen};
 ghost use Rattle.bq_event_loop.specs.EventLoopRuns.{IsEventLoopRun, IsEventLoopSoFar};
-ghost use Rattle.bq_event_loop.specs.ControlTold.{HasTold};
+ghost use Rattle.bq_line.specs.ControlTold.{HasTold};
 ghost use Rattle.bq_event_loop.specs.Known.{KnowsAll};
 ghost use Rattle.bq_event_loop.specs.KnownTurns.{AreKnownBy};
 ghost use Rattle.bq_host.specs.Hubs.{state_of};
@@ -17,10 +17,9 @@ ghost use Rattle.bq_event_loop.specs.Refused.{IsRefusedBy};
 ghost use Rattle.bq_event_loop.specs.Rows.{AreDone};
 ghost use Rattle.bq_event_loop.specs.Serving.{AreReady, IsServing};
 ghost use Rattle.bq_event_loop.specs.SoFar.{began_with, beginning};
-ghost use Rattle.bq_event_loop.specs.declared.control_turns.ControlTurns.{ControlTurns};
-ghost use Rattle.bq_event_loop.specs.declared.control_turns.Stage.TheVariants as stages;
+ghost use Rattle.bq_line.specs.declared.control_steps.ControlSteps.{ControlSteps};
+ghost use Rattle.bq_line.specs.declared.control_steps.Stage.TheVariants as stages;
 
-use crate::control_turns::ControlTurns;
 use crate::row::Row;
 use crate::serve::serve;
 use crate::sleeper::Sleeper;
@@ -33,6 +32,7 @@ use bq_line::attendant::Attendant;
 use bq_line::buffers::Buffers;
 use bq_line::clock::Clock;
 use bq_line::control_line::{ControlInput, ControlLine, ControlReader};
+use bq_line::control_steps::ControlSteps;
 use bq_line::line::{Line, ReadBuffer};
 use std::alloc::Global;
 use std::snapshot::Snapshot;
@@ -85,7 +85,7 @@ struct NewParts<L: Line + Drop, C: Clock + Drop, K: QueueCore + Drop> {
 // What was served. `has_ended` is false if the run was broken off.
 struct Served<L: Line + Drop, D: Door<Line = L>, C: Clock + Drop, I, K: QueueCore + Drop> {
     row: Row<L, D>,
-    control: ControlTurns<I>,
+    control: ControlSteps<I>,
     core: Hub<C, K>,
     has_ended: bool,
 }
@@ -390,7 +390,7 @@ fn serve_new<
         mut buffer,
     } = parts;
     let mut row = Row { seats, doors };
-    let mut control = ControlTurns::new(input);
+    let mut control = ControlSteps::new(input);
     let mut buffers = Buffers::new();
     let has_ended = serve(
         &began,
@@ -441,7 +441,7 @@ fn begin<
     ensures ready { AreReady K.QueueCore L.Line D.Door parts.now.core (record { seats = parts.now.seats; doors = doors.now }) }
     ensures known { AreKnownBy L.Line T.Turns _turns.now [] parts.now.seats.items parts.now.core.mails.items }
     ensures woken { parts.now.core.woken ≡ none_waits (length parts.now.core.mails.items) }
-    ensures serving { (control : ControlTurns I)
+    ensures serving { (control : ControlSteps I)
         → HasTold I.ControlInput (I.remaining input.now) (I.may_fail input.now) control []
         → IsServing K.QueueCore C.Clock L.Line D.Door I.ControlInput (began_with I.ControlInput result) parts.now.core
         (record { seats = parts.now.seats; doors = doors.now }) control }

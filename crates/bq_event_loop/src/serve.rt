@@ -11,19 +11,18 @@ ghost use Rattle.bq_event_loop.specs.SoFar.{began_with};
 ghost use Rattle.bq_event_loop.specs.Sleeping.{IsWaitFor, stands_of};
 ghost use Rattle.bq_event_loop.specs.Still.{IsStill};
 ghost use Rattle.bq_host.specs.WakeLists.{Wakes, none_waits};
-ghost use Rattle.bq_event_loop.specs.declared.control_turns.Stage.TheVariants as stages;
+ghost use Rattle.bq_line.specs.declared.control_steps.Stage.TheVariants as stages;
 ghost use Rattle.bq_line.specs.Tending.{is_polling, polls_by};
 ghost use Rattle.bq_line.specs.declared.attendant.Attendant.{Attendant};
 ghost use Rattle.bq_seat.specs.SeatParts.{would_read};
 ghost use Rattle.bq_seat.specs.declared.machine.Action.{Action};
 ghost use Rattle.bq_line.specs.declared.attendant.LinePlace.TheVariants as places;
 
-use crate::control_turns::ControlTurns;
 use crate::doors::Doors;
 use crate::row::Row;
 use crate::sleeper::Sleeper;
 use crate::still::{has_no_mail, is_still, stands_of};
-use crate::turns::{Began, ControlReads, Extent, News, SoFar, Stands, Turn, Turns};
+use crate::turns::{Began, ControlReads, ControlStands, Extent, News, SoFar, Stands, Turn, Turns};
 use crate::waiting::end_turn;
 use bq_core_api::QueueCore;
 use bq_host::hub_seat::attend;
@@ -34,6 +33,7 @@ use bq_line::attendant::{Attendant, LinePlace, Progress};
 use bq_line::buffers::Buffers;
 use bq_line::clock::Clock;
 use bq_line::control_line::ControlInput;
+use bq_line::control_steps::ControlSteps;
 use bq_line::line::{Line, ReadBuffer};
 use bq_seat::{Does, NextAction, PIECE_ROOM, SeatMachine};
 use std::alloc::Global;
@@ -61,7 +61,7 @@ pub fn serve<
     turns: &mut T,
     sleeper: &mut W,
     row: &mut Row<L, D>,
-    control: &mut ControlTurns<I>,
+    control: &mut ControlSteps<I>,
     core: &mut Hub<C, K>,
     buffers: &mut Buffers,
     buffer: &mut ReadBuffer,
@@ -78,7 +78,7 @@ pub fn serve<
         (began_with I.ControlInput began.now) core.new row.new control.new }
 {
     let mut doors = Doors::new();
-    let stands = control.stands();
+    let stands = ControlStands::of(control);
     let mut news = News {
         progress: Progress::NothingToDo,
         stands: Stands::Other,
@@ -117,7 +117,7 @@ pub fn serve<
 // The seats, the doors, the clock, the control line and the core at this turn, for the proofs.
 fn so_far<L: Line + Drop, D: Door<Line = L>, C, I, K>(
     row: &Row<L, D>,
-    control: &ControlTurns<I>,
+    control: &ControlSteps<I>,
     core: &Hub<C, K>,
 ) -> SoFar<L, D, C, I, K>
     ensures seats { result.seats.value ≡ row.now.seats }
@@ -151,7 +151,7 @@ fn take_turn<
 >(
     turn: Turn,
     row: &mut Row<L, D>,
-    control: &mut ControlTurns<I>,
+    control: &mut ControlSteps<I>,
     core: &mut Hub<C, K>,
     buffers: &mut Buffers,
     buffer: &mut ReadBuffer,
@@ -180,7 +180,7 @@ fn take_turn<
         }
         Turn::Control(reads) => {
             serve_control(control, core, reads);
-            news.control = control.stands();
+            news.control = ControlStands::of(control);
             news.due = Some(0);
             false
         }
@@ -207,7 +207,7 @@ fn pass_time<C: Clock + Drop, K: QueueCore + Drop>(core: &mut Hub<C, K>) -> Opti
 
 fn is_over<L: Line + Drop, D: Door<Line = L>, I: ControlInput>(
     row: &Row<L, D>,
-    control: &ControlTurns<I>,
+    control: &ControlSteps<I>,
 ) -> bool
     ensures done { result ≡ true → AreDone row.now.seats.items }
     ensures over { result ≡ true → control.now.stage ≡ stages.Over }
@@ -490,7 +490,7 @@ fn act<L: Line + Drop, D: Door<Line = L>, C: Clock + Drop, K: QueueCore + Drop>(
 // Reads the control line as far as the turn says, and submits its steps. It stops early if a step
 // is rejected.
 fn serve_control<C: Clock + Drop, I: ControlInput, K: QueueCore + Drop>(
-    control: &mut ControlTurns<I>,
+    control: &mut ControlSteps<I>,
     core: &mut Hub<C, K>,
     reads: ControlReads,
 )
@@ -512,14 +512,14 @@ fn serve_control<C: Clock + Drop, I: ControlInput, K: QueueCore + Drop>(
 }
 
 // Returns true if the control line is not read further now.
-fn stops<I: ControlInput>(control: &ControlTurns<I>, may_wait: bool) -> bool {
+fn stops<I: ControlInput>(control: &ControlSteps<I>, may_wait: bool) -> bool {
     control.is_over() || !(may_wait || control.has_unread())
 }
 
 // Submits the steps that the control line owes: at most a drain and its end. Returns false if one
 // was rejected.
 fn submit_owed<C: Clock + Drop, I: ControlInput, K: QueueCore + Drop>(
-    control: &mut ControlTurns<I>,
+    control: &mut ControlSteps<I>,
     core: &mut Hub<C, K>,
 ) -> bool
     requires order { IsInOrder (state K.QueueCore core.old) }
@@ -534,7 +534,7 @@ fn submit_owed<C: Clock + Drop, I: ControlInput, K: QueueCore + Drop>(
 
 // Submits the next step of the control line, if there is one. Returns false if it was rejected.
 fn submit_one<C: Clock + Drop, I: ControlInput, K: QueueCore + Drop>(
-    control: &mut ControlTurns<I>,
+    control: &mut ControlSteps<I>,
     core: &mut Hub<C, K>,
 ) -> bool
     requires order { IsInOrder (state K.QueueCore core.old) }

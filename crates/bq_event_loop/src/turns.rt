@@ -1,16 +1,16 @@
 //! The choice of the next action.
 ghost use Rattle.std.specs.Prelude.{ℕ, ◌≡◌, ◌<◌, [], Bool, true, false};
 ghost use Rattle.bq_event_loop.specs.Known.{AreApart, AreIdle, AreKnown, IsFreeSeat, IsListedIn, IsStillSeat, KeepsAll};
-ghost use Rattle.bq_event_loop.specs.Sleeping.{IsAtTurn};
+ghost use Rattle.bq_event_loop.specs.Sleeping.{IsAtTurn, stands_of};
 ghost use Rattle.bq_event_loop.specs.SoFar.{IsLoopAtTurn, began_with};
 
-use crate::control_turns::ControlTurns;
 use bq_core_api::{Config, QueueCore};
 use bq_host::{Hub, Mail, RunFault};
 use bq_line::Door;
 use bq_line::attendant::{Attendant, Progress};
 use bq_line::clock::Clock;
 use bq_line::control_line::ControlInput;
+use bq_line::control_steps::{ControlSteps, Stage};
 use bq_line::line::Line;
 use std::alloc::Global;
 use std::snapshot::Snapshot;
@@ -99,6 +99,25 @@ pub enum ControlStands {
     Over,
 }
 
+impl ControlStands {
+    /// Returns the state of a control line.
+    pub fn of<I>(control: &ControlSteps<I>) -> ControlStands
+        ensures { result ≡ stands_of control.now.owes_drain control.now.stage }
+    {
+        match control.stage {
+            Stage::Over => ControlStands::Over,
+            Stage::Ended => ControlStands::Owes,
+            Stage::Reads => {
+                if control.owes_drain {
+                    ControlStands::Owes
+                } else {
+                    ControlStands::Reads
+                }
+            }
+        }
+    }
+}
+
 /// What has happened since the last turn.
 #[derive(Clone, Copy)]
 pub struct News {
@@ -147,7 +166,7 @@ pub struct SoFar<L, D, C, I, K> {
     /// The core with the answers that no seat has taken, and the control line with the steps that
     /// it owes.
     pub whole_core: Snapshot<Hub<C, K>>,
-    pub whole_control: Snapshot<ControlTurns<I>>,
+    pub whole_control: Snapshot<ControlSteps<I>>,
 }
 
 /// The reason why an order of turns or a sleeper could not be prepared.

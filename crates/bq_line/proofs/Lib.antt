@@ -16,4 +16,5 @@ pub mod StreamLemmas
 pub mod SureLemmas
 pub mod TendingLemmas
 pub mod TogetherLemmas
+pub mod ToldLemmas
 pub mod WritingLemmas

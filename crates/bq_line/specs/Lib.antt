@@ -3,6 +3,7 @@ pub mod Attending
 pub mod Carried
 pub mod ControlRead
 pub mod ControlSeen
+pub mod ControlTold
 pub mod Doors
 pub mod GivenReadings
 pub mod InAll

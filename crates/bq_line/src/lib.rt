@@ -18,5 +18,6 @@ pub mod buffers;
 pub mod clock;
 pub mod control;
 pub mod control_line;
+pub mod control_steps;
 mod door;
 pub mod line;

@@ -228,7 +228,7 @@ fn serve_all<
         at_hand: None,
         rests: false,
     };
-    submit_control(rt, &mut ControlLine::new(control), &mut link);
+    drop(submit_control(rt, ControlLine::new(control), &mut link));
     drop(link);
     join_all(rt, threads, doors, max_job_size)
 }

@@ -32,7 +32,6 @@ pub fn control_work<R: Wait, I: ControlReader + Drop>(
     ensures none_taken { result.0.taken ≡ [] }
 {
     let mut end = end;
-    let mut control = ControlLine::new(control);
-    control_at(rt, intake, &mut end, &mut control);
+    let control = control_at(rt, intake, &mut end, ControlLine::new(control));
     (end, control)
 }

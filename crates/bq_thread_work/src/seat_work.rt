@@ -464,20 +464,19 @@ pub fn attend_at<R: Wait, L: Line + Drop, D: Door<Line = L>>(
     progress
 }
 
-/// Serves the control line at its end of the links.
+/// Serves a control line, of which nothing was read, at its end of the links. Returns the input.
 pub fn control_at<R: Wait, I: ControlInput>(
     rt: &R,
     intake: &Intake<NoTicks>,
     end: &mut SeatEnd,
-    control: &mut I,
-)
-    requires new { I.seen control.old ≡ new_control }
+    control: I,
+) -> I
+    requires new { I.seen control ≡ new_control }
     requires intake { end.old.intake ≡ intake.now.id }
-    ensures over { IsOver (I.seen control.new) }
-    ensures read { IsReadToEnd (I.remaining control.old) (I.remaining control.new)
-        (I.seen control.new).text (I.seen control.new).failed }
-    ensures fault { (I.seen control.new).failed ≡ true → I.may_fail control.old ≡ true }
-    ensures done { (submitted : List Step) × IsControlDone (I.seen control.new).text (I.seen control.new).failed submitted
+    ensures over { IsOver (I.seen result) }
+    ensures read { IsReadToEnd (I.remaining control) (I.remaining result) (I.seen result).text (I.seen result).failed }
+    ensures fault { (I.seen result).failed ≡ true → I.may_fail control ≡ true }
+    ensures done { (submitted : List Step) × IsControlDone (I.seen result).text (I.seen result).failed submitted
         × EndWent end.old submitted [] end.new }
 {
     // The core sends it no answers, and it does not poll for any.
@@ -487,5 +486,5 @@ pub fn control_at<R: Wait, I: ControlInput>(
         end,
         pace: Pace::new(),
     };
-    submit_control(rt, control, &mut link);
+    submit_control(rt, control, &mut link)
 }

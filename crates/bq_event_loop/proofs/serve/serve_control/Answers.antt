@@ -20,4 +20,4 @@ returns-then-stops g c = control_then c.loop.invariant c.submit_owed.ensures
 pub loop-preserved : goal.loop-preserved
 loop-preserved g c =
     control_then (control_then c.loop.invariant c.submit_owed.ensures)
-    (control_read c.submit_owed.ensures.order c.read.ensures)
+    (control_read c.submit_owed.ensures.order c.read.ensures.tells)

@@ -1,15 +1,14 @@
--- A control line that is read between the turns of the seats, and the steps that it has submitted
--- so far.
+-- What was read from a control line so far, and the steps that it has submitted.
 use Rattle.std.specs.Prelude.{ℕ, ◌≡◌, ◌+◌, Bool, true, false, List, [], ◌∷◌, ◌++◌, Option, Some, None, replicate}
 use Rattle.std.specs.Io.KnownBytes.{Consumes}
 use Rattle.bq_job.specs.declared.step.Step.{Step, TheVariants.{Drain, Gone}}
 use Rattle.bq_job.specs.promise.ControlDid.{drains, drains_from, one_if}
 use Rattle.bq_line.specs.ControlRead.{IsOver, IsReadToEnd}
 use Rattle.bq_line.specs.ControlSeen.{ControlSeen}
-use Rattle.bq_event_loop.specs.Meanings.{Control}
-use Rattle.bq_event_loop.specs.declared.control_turns.ControlTurns.{ControlTurns}
-use Rattle.bq_event_loop.specs.declared.control_turns.Stage.{Stage}
-use Rattle.bq_event_loop.specs.declared.control_turns.Stage.TheVariants as stages
+use Rattle.bq_line.specs.declared.control_line.ControlInput.{Ghosts as Control}
+use Rattle.bq_line.specs.declared.control_steps.ControlSteps.{ControlSteps}
+use Rattle.bq_line.specs.declared.control_steps.Stage.{Stage}
+use Rattle.bq_line.specs.declared.control_steps.Stage.TheVariants as stages
 
 -- the step that has to be submitted next
 abbrev pub owed_by : Bool → Stage → Option Step
@@ -44,13 +43,20 @@ IsAtStage stages.Over first left may_fail seen kept owed count told =
 
 -- A control line whose reader at first had these bytes left and may fail or not, and which has
 -- submitted these steps.
-pub record HasTold {I : Type 0} (i : Control I) (first : Option (List ℕ)) (may : Bool) (c : ControlTurns I) (told : List Step)
+pub record HasTold {I : Type 0} (i : Control I) (first : Option (List ℕ)) (may : Bool) (c : ControlSteps I) (told : List Step)
     : Type 0 where
   pub same : i.may_fail c.input ≡ may
   pub count : ℕ
   pub at_stage : IsAtStage c.stage first (i.remaining c.input) may (i.seen c.input) c.line (one_if c.owes_drain) count told
 
 -- Whatever was submitted before, these steps were submitted after it.
-pub record TellsOn {I : Type 0} (i : Control I) (old : ControlTurns I) (more : List Step) (new : ControlTurns I) : Type 0 where
+pub record TellsOn {I : Type 0} (i : Control I) (old : ControlSteps I) (more : List Step) (new : ControlSteps I) : Type 0 where
   pub on : (first : Option (List ℕ)) (may : Bool) (before : List Step) → HasTold i first may old before
       → HasTold i first may new (before ++ more)
+
+-- Whatever was submitted over a link before, these steps of the control line were submitted after it.
+pub record HasSubmitted {I K : Type 0} (i : Control I) (went : K → List Step → K → Type 0) (old : K) (steps : ControlSteps I)
+    (new : K) (later : ControlSteps I) : Type 0 where
+  pub told : List Step
+  pub tells : TellsOn i steps told later
+  pub over_link : (first : K) (before : List Step) → went first before old → went first (before ++ told) new

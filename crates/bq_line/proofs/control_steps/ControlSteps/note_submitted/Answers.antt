@@ -1,5 +1,5 @@
-use Rattle.bq_event_loop.proofs.ControlLemmas.{tells_drain_if}
-use Rattle.bq_event_loop.proofs.control_turns.ControlTurns.note_submitted.Goals as goal
+use Rattle.bq_line.proofs.ToldLemmas.{tells_drain_if}
+use Rattle.bq_line.proofs.control_steps.ControlSteps.note_submitted.Goals as goal
 
 pub returns-then-self : goal.returns-then-self
 returns-then-self g c =

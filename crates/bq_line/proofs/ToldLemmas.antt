@@ -1,4 +1,4 @@
--- A control line that is read between the turns of the seats.
+-- What a control line has told so far.
 use Rattle.std.proofs.Common.{◌≡◌, ℕ, ◌+◌, Bool, true, false, List, [], ◌∷◌, ◌++◌}
 use Rattle.std.proofs.Common.{Option, Some, None, IfSome, refl, sym, ap, ◌∙◌, subst, arith, append-nil, append_assoc, replicate}
 use Rattle.std.proofs.lemmas.List.{replicate-append-replicate}
@@ -11,26 +11,26 @@ use Rattle.bq_line.specs.ControlRead.{HasRead, IsOver, IsReadToEnd}
 use Rattle.bq_line.specs.ControlSeen.{after_heard}
 use Rattle.bq_line.specs.declared.control_line.Heard.TheVariants as hears
 use Rattle.bq_line.proofs.ControlLemmas.{ends_read, fails_read}
-use Rattle.bq_event_loop.specs.Meanings.{Control}
-use Rattle.bq_event_loop.specs.ControlTold.{HasTold, IsRead, IsReading, TellsOn, owed_by}
-use Rattle.bq_event_loop.specs.declared.control_turns.ControlTurns.{ControlTurns}
-use Rattle.bq_event_loop.specs.declared.control_turns.Stage.{Stage}
-use Rattle.bq_event_loop.specs.declared.control_turns.Stage.TheVariants as stages
+use Rattle.bq_line.specs.declared.control_line.ControlInput.{Ghosts as Control}
+use Rattle.bq_line.specs.ControlTold.{HasSubmitted, HasTold, IsRead, IsReading, TellsOn, owed_by}
+use Rattle.bq_line.specs.declared.control_steps.ControlSteps.{ControlSteps}
+use Rattle.bq_line.specs.declared.control_steps.Stage.{Stage}
+use Rattle.bq_line.specs.declared.control_steps.Stage.TheVariants as stages
 
-abbrev pub turns_of : {I : Type 0} → I → List ℕ → Bool → Stage → ControlTurns I
+abbrev pub turns_of : {I : Type 0} → I → List ℕ → Bool → Stage → ControlSteps I
 turns_of input line owes stage = record { input = input; line = line; owes_drain = owes; stage = stage }
 
 module _ {I : Type 0} {i : Control I} where
   -- Nothing more was submitted.
-  tells_same : (first : Option (List ℕ)) (may : Bool) (c : ControlTurns I) (before : List Step) → HasTold i first may c before
+  tells_same : (first : Option (List ℕ)) (may : Bool) (c : ControlSteps I) (before : List Step) → HasTold i first may c before
       → HasTold i first may c (before ++ [])
   tells_same first may c before h = subst (λ (xs : List Step). HasTold i first may c xs) (sym (append-nil before)) h
 
-  pub tells_none : {c : ControlTurns I} → TellsOn i c [] c
+  pub tells_none : {c : ControlSteps I} → TellsOn i c [] c
   tells_none {c} = record { on = λ first may before h. tells_same first may c before h }
 
   -- One thing after another.
-  pub tells_then : {a b c : ControlTurns I} {more later : List Step} → TellsOn i a more b → TellsOn i b later c
+  pub tells_then : {a b c : ControlSteps I} {more later : List Step} → TellsOn i a more b → TellsOn i b later c
       → TellsOn i a (more ++ later) c
   tells_then {a} {b} {c} {more} {later} h k = record {
     on = λ first may before t. subst (λ (xs : List Step). HasTold i first may c xs) (append_assoc before more later)
@@ -212,14 +212,14 @@ module _ {I : Type 0} (i : Control I) where
       (ap (λ s. s.text) is) (ap (λ s. s.failed) is) read counted)
 
 -- A control line that was read to its end and whose steps were all submitted.
-pub record IsToldSo {I : Type 0} (i : Control I) (first : Option (List ℕ)) (may : Bool) (c : ControlTurns I) (told : List Step)
+pub record IsToldSo {I : Type 0} (i : Control I) (first : Option (List ℕ)) (may : Bool) (c : ControlSteps I) (told : List Step)
     : Type 0 where
   pub over : IsOver (i.seen c.input)
   pub read : IsReadToEnd first (i.remaining c.input) (i.seen c.input).text (i.seen c.input).failed
   pub fault : (i.seen c.input).failed ≡ true → may ≡ true
   pub done : IsControlDone (i.seen c.input).text (i.seen c.input).failed told
 
-pub told_all : {I : Type 0} {i : Control I} {first : Option (List ℕ)} {may : Bool} {c : ControlTurns I} {told : List Step}
+pub told_all : {I : Type 0} {i : Control I} {first : Option (List ℕ)} {may : Bool} {c : ControlSteps I} {told : List Step}
     → c.stage ≡ stages.Over → HasTold i first may c told → IsToldSo i first may c told
 told_all {I} {i} {first} {may} {c} {told} over h =
     let at = rw over at h.at_stage in
@@ -230,3 +230,31 @@ told_all {I} {i} {first} {may} {c} {told} over h =
       fault = r.fault;
       done = at.1 ∙ ap (λ (n : ℕ). replicate n Drain ++ Gone ∷ []) (sym r.counted);
     }
+
+none_over : {K : Type 0} (went : K → List Step → K → Type 0) (link new : K) (before : List Step) → went link before new
+    → went link (before ++ []) new
+none_over went link new before w = subst (λ (xs : List Step). went link xs new) (sym (append-nil before)) w
+
+module _ {I K : Type 0} {i : Control I} {went : K → List Step → K → Type 0} where
+  -- There was no room for the step.
+  pub none_submitted : {old new : K} {steps : ControlSteps I}
+      → ((link : K) (before : List Step) → went link before old → went link before new) → HasSubmitted i went old steps new steps
+  none_submitted {new = new} w =
+      record { told = []; tells = tells_none; over_link = λ link before h. none_over went link new before (w link before h) }
+
+-- From a link on, the steps of a control line were submitted that was new then.
+pub record Submitted {I K : Type 0} (i : Control I) (first : Option (List ℕ)) (may : Bool) (went : K → List Step → K → Type 0)
+    (old new : K) (steps : ControlSteps I) : Type 0 where
+  pub told : List Step
+  pub tells : HasTold i first may steps told
+  pub over_link : (link : K) (before : List Step) → went link before old → went link (before ++ told) new
+
+module _ {I K : Type 0} {i : Control I} {first : Option (List ℕ)} {may : Bool} {went : K → List Step → K → Type 0} where
+  pub submitted_on : {old mid new : K} {steps later : ControlSteps I} → Submitted i first may went old mid steps
+      → HasSubmitted i went mid steps new later → Submitted i first may went old new later
+  submitted_on {new = new} s m = record {
+    told = s.told ++ m.told;
+    tells = m.tells.on first may s.told s.tells;
+    over_link = λ link before w. subst (λ (xs : List Step). went link xs new) (append_assoc before s.told m.told)
+        (m.over_link link (before ++ s.told) (s.over_link link before w));
+  }
