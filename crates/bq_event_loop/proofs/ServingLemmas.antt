@@ -11,7 +11,7 @@ use Rattle.bq_job.specs.promise.History.{steps_at}
 use Rattle.bq_job.specs.promise.Runs.{Entry, answers_to}
 use Rattle.bq_job.proofs.ClosedLemmas.{run_closes}
 use Rattle.bq_job.proofs.CutLemmas.{closes_append}
-use Rattle.bq_host.specs.Hubs.{WentAt}
+use Rattle.bq_host.specs.Hubs.{WentAt, state_of}
 use Rattle.bq_host.specs.MailStates.{IsInOrder, MailState, waiting}
 use Rattle.bq_host.specs.Went.{CoreWent, SeatWent}
 use Rattle.bq_host.specs.declared.hub.Hub.{Hub}
@@ -23,7 +23,7 @@ use Rattle.bq_line.specs.declared.attendant.Attendant.{Attendant}
 use Rattle.bq_line.proofs.CountedLemmas.{counted_on}
 use Rattle.bq_line.proofs.TendingLemmas.{tends_still}
 use Rattle.bq_line.specs.ControlTold.{TellsOn}
-use Rattle.bq_event_loop.specs.Meanings.{Clock, Control, Core, Door, Line, state}
+use Rattle.bq_event_loop.specs.Meanings.{Clock, Control, Core, Door, Line}
 use Rattle.bq_event_loop.specs.Known.{ChangesOnly}
 use Rattle.bq_event_loop.specs.Rows.{AllRested, AreTended, KeepsRow}
 use Rattle.bq_event_loop.specs.Serving.{AreReadyFor, AreServed, AreServedFrom, ControlWent, LoopWent, SeatActed, ServesOn}
@@ -126,7 +126,7 @@ module _ {C K L D : Type 0} {k : Core K} {c : Clock C} {l : Line L} {d : Door D 
   -- The core took the steps of this history, and each seat did what the history has for it.
   serves_by : {old new : Hub C K} {row later : Row L D} {told : List Step} (reads : List (Option ℕ)) (part : List Entry)
       (took : ℕ → List Answer) → GaveReadings c.given old.timed.time.clock reads new.timed.time.clock
-      → CoreWent (state k old) reads part took (state k new)
+      → CoreWent (state_of k old) reads part took (state_of k new)
       → length later.seats.items ≡ length row.seats.items → length later.doors.items ≡ length row.doors.items
       → ((t : ℕ) → t < length row.seats.items → (a : Attendant L) (x : D)
       → Tends l.seen (slice_index_or row.seats.items t a) (door_seen d (slice_index_or row.doors.items t x)) (steps_at t part) (took t)
@@ -139,7 +139,7 @@ module _ {C K L D : Type 0} {k : Core K} {c : Clock C} {l : Line L} {d : Door D 
     gave = gave;
     mailed = went.many;
     many = many;
-    served = λ size before first readings s. served_on l d size before told first (state k old) (state k new) readings reads
+    served = λ size before first readings s. served_on l d size before told first (state_of k old) (state_of k new) readings reads
         row.seats.items later.seats.items row.doors.items later.doors.items part took s went many doored tends told_is nobody;
     same_doors = same;
   }
@@ -147,7 +147,7 @@ module _ {C K L D : Type 0} {k : Core K} {c : Clock C} {l : Line L} {d : Door D 
   -- The seats rested.
   pub serves_rested : {core : Hub C K} {row later : Row L D}
       → AllRested l d row.seats.items row.doors.items later.seats.items later.doors.items → ServesOn k c l d core row [] core later
-  serves_rested {core} r = serves_by [] [] (λ t. []) (gave_none c.given core.timed.time.clock) (core_none (state k core)) r.many r.doored
+  serves_rested {core} r = serves_by [] [] (λ t. []) (gave_none c.given core.timed.time.clock) (core_none (state_of k core)) r.many r.doored
       r.each refl (λ t above. refl) r.same_doors
 
   -- Nothing was served.
@@ -175,7 +175,7 @@ module _ {C K L D : Type 0} {k : Core K} {c : Clock C} {l : Line L} {d : Door D 
   }
 
   -- No seat did anything.
-  pub acted_none : {seat : ℕ} {core : Hub C K} {row : Row L D} → IsInOrder (state k core) → AreTended l d row
+  pub acted_none : {seat : ℕ} {core : Hub C K} {row : Row L D} → IsInOrder (state_of k core) → AreTended l d row
       → SeatActed k c l d seat core row core row
   acted_none {seat} {core} {row} order tended = record {
     order = order;
@@ -186,7 +186,7 @@ module _ {C K L D : Type 0} {k : Core K} {c : Clock C} {l : Line L} {d : Door D 
   }
 
   -- A seat rested.
-  pub acted_rested : {seat : ℕ} {core : Hub C K} {row later : Row L D} → IsInOrder (state k core) → KeepsRow l d row later
+  pub acted_rested : {seat : ℕ} {core : Hub C K} {row later : Row L D} → IsInOrder (state_of k core) → KeepsRow l d row later
       → ChangesOnly seat row.seats.items later.seats.items → SeatActed k c l d seat core row core later
   acted_rested {seat} {core} {row} order keeps only = record {
     order = order;
@@ -222,7 +222,7 @@ module _ {C K L D : Type 0} {k : Core K} {c : Clock C} {l : Line L} {d : Door D 
 
   -- The control line submitted steps.
   serves_control : {old new : Hub C K} {row : Row L D} (seat : ℕ) (more : List Step) → seat ≡ length row.seats.items
-      → WentAt k.machine k.comparisons c.given seat old more [] new → ServesOn k c l d old row more new row
+      → WentAt k c seat old more [] new → ServesOn k c l d old row more new row
   serves_control {old} {new} {row} seat more is went =
       let w = went.0.2 in
       serves_by went.0.0 w.history w.took went.0.1 w.went refl refl
@@ -233,11 +233,11 @@ module _ {C K L D : Type 0} {k : Core K} {c : Clock C} {l : Line L} {d : Door D 
       (λ t above. w.others_still t (λ e. omega (arith, is, above, e))) (λ handed_in h. h)
 
   -- A tick was taken, or answers moved to another place.
-  pub serves_time : {old new : Hub C K} {row : Row L D} (i : ℕ) → WentAt k.machine k.comparisons c.given i old [] [] new
+  pub serves_time : {old new : Hub C K} {row : Row L D} (i : ℕ) → WentAt k c i old [] [] new
       → ServesOn k c l d old row [] new row
   serves_time {old} {new} {row} i went =
       let w = went.0.2 in
-      let none = none_acted i (state k old) (state k new) went.0.0 w in
+      let none = none_acted i (state_of k old) (state_of k new) went.0.0 w in
       serves_by went.0.0 w.history w.took went.0.1 w.went refl refl
       (λ t below a x. tends_none l (slice_index_or row.seats.items t a) (door_seen d (slice_index_or row.doors.items t x))
       (steps_at t w.history)
@@ -246,7 +246,7 @@ module _ {C K L D : Type 0} {k : Core K} {c : Clock C} {l : Line L} {d : Door D 
   -- A seat acted, with its door, which were looked up.
   pub serves_acted : {old new : Hub C K} {row later : Row L D} (i : ℕ) (a next : Attendant L) (x door : D) → i < length row.seats.items
       → length row.doors.items ≡ length row.seats.items → a ≡ slice_index_or row.seats.items i a → x ≡ slice_index_or row.doors.items i x
-      → GoesOn (WentAt k.machine k.comparisons c.given i) old new l.seen a (door_seen d x) next (door_seen d door)
+      → GoesOn (WentAt k c i) old new l.seen a (door_seen d x) next (door_seen d door)
       → ((first : D) → d.same first x → d.same first door)
       → later.seats.items ≡ slice_set row.seats.items i next → later.doors.items ≡ slice_set row.doors.items i door
       → ServesOn k c l d old row [] new later
@@ -269,10 +269,10 @@ module _ {C K L D : Type 0} {k : Core K} {c : Clock C} {l : Line L} {d : Door D 
       doors : List D
       doors = row.doors.items
 
-      went : WentAt k.machine k.comparisons c.given i old goes.0 goes.1 new
-      went = called k.machine k.comparisons c.given i old new goes.0 goes.1 goes.2
+      went : WentAt k c i old goes.0 goes.1 new
+      went = called k c i old new goes.0 goes.1 goes.2
 
-      w : SeatWent i (state k old) went.0.0 goes.0 goes.1 (state k new)
+      w : SeatWent i (state_of k old) went.0.0 goes.0 goes.1 (state_of k new)
       w = went.0.2
 
       own : (y : Attendant L) (z : D) → Tends l.seen (slice_index_or seats i y) (door_seen d (slice_index_or doors i z))
@@ -300,16 +300,16 @@ module _ {C K L D : Type 0} {k : Core K} {c : Clock C} {l : Line L} {d : Door D 
 
 module _ {C K I : Type 0} {k : Core K} {c : Clock C} {i : Control I} where
   -- The control line was read, or left alone, and submitted nothing.
-  pub control_read : {core : Hub C K} {control next : ControlSteps I} → IsInOrder (state k core) → TellsOn i control [] next
+  pub control_read : {core : Hub C K} {control next : ControlSteps I} → IsInOrder (state_of k core) → TellsOn i control [] next
       → ControlWent k c i core control core next
   control_read {core} order read = record {
     order = order;
     told = [];
     tells = read;
-    went = went_none k.machine k.comparisons c.given (length core.mails.items) core;
+    went = went_none k c (length core.mails.items) core;
   }
 
-  pub control_none : {core : Hub C K} {control : ControlSteps I} → IsInOrder (state k core) → ControlWent k c i core control core control
+  pub control_none : {core : Hub C K} {control : ControlSteps I} → IsInOrder (state_of k core) → ControlWent k c i core control core control
   control_none order = control_read order tells_none
 
   -- The control line submitted one thing after another.
@@ -319,8 +319,8 @@ module _ {C K I : Type 0} {k : Core K} {c : Clock C} {i : Control I} where
     order = b.order;
     told = a.told ++ b.told;
     tells = tells_then a.tells b.tells;
-    went = went_then k.machine k.comparisons c.given (length old.mails.items) (length core.mails.items) old core new a.told b.told [] []
-        a.went.0.2.went.many a.went b.went;
+    went = went_then k c (length old.mails.items) (length core.mails.items) old core new a.told b.told [] [] a.went.0.2.went.many
+        a.went b.went;
   }
 
 module _ {C K L D I : Type 0} {k : Core K} {c : Clock C} {l : Line L} {d : Door D L} {i : Control I} where

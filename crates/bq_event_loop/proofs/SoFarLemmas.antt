@@ -20,6 +20,7 @@ use Rattle.bq_job.specs.promise.LineSteps.{LineSeen}
 use Rattle.bq_job.specs.promise.Runs.{Entry, Run, answers_to}
 use Rattle.bq_job.specs.promise.SoFar.{AreDoorsOwedSoFar, IsControlSoFar, IsDoorOwedSoFar, IsLineOwedSoFar, IsOutOwed}
 use Rattle.bq_host.specs.Compared.{AreCompared}
+use Rattle.bq_host.specs.Hubs.{state_of}
 use Rattle.bq_host.specs.MailStates.{IsNewMailState, waiting}
 use Rattle.bq_host.proofs.HasComparedLemmas.{compared_all}
 use Rattle.bq_host.proofs.WentLemmas.{core_none, new_mails_are, none_waits}
@@ -35,7 +36,7 @@ use Rattle.bq_line.specs.declared.attendant.LinePlace.{LinePlace}
 use Rattle.bq_line.specs.declared.attendant.LinePlace.TheVariants as places
 use Rattle.bq_seat.specs.declared.machine.SeatMachine.{SeatMachine}
 use Rattle.bq_line.specs.ControlTold.{HasTold, IsAtStage}
-use Rattle.bq_event_loop.specs.Meanings.{Clock, Control, Core, Door, Line, state}
+use Rattle.bq_event_loop.specs.Meanings.{Clock, Control, Core, Door, Line}
 use Rattle.bq_event_loop.specs.Rows.{AreDone}
 use Rattle.bq_event_loop.specs.Serving.{IsServing, LoopWent}
 use Rattle.bq_host.specs.declared.hub.Hub.{Hub}
@@ -167,13 +168,13 @@ module _ {L D : Type 0} (l : Line L) (d : Door D L) where
 module _ {L D C I K : Type 0} {k : Core K} {c : Clock C} {l : Line L} {d : Door D L} {i : Control I} where
   -- Nothing was served yet.
   pub serving_first : {begun : Beginning D C} {core : Hub C K} {row : Row L D} {control : ControlSteps I}
-      → c.given begun.clock [] core.timed.time.clock → IsNewMailState begun.settings (state k core)
+      → c.given begun.clock [] core.timed.time.clock → IsNewMailState begun.settings (state_of k core)
       → HasTold i begun.left begun.may_fail control []
       → length row.seats.items ≡ begun.settings.seats → length row.doors.items ≡ begun.settings.seats
       → All (IsNewSeat begun.settings.max_job_size) row.seats.items → All (λ x. IsNewDoor (door_seen d x)) row.doors.items
       → AreSame d.same begun.doors row.doors.items → IsServing k c l d i begun core row control
   serving_first {begun} {core} {row} none new submits many doored new_seats new_doors same_doors = record {
-    first = state k core;
+    first = state_of k core;
     told = [];
     readings = [];
     is_new = new;
@@ -183,8 +184,8 @@ module _ {L D C I K : Type 0} {k : Core K} {c : Clock C} {l : Line L} {d : Door 
     served = record {
       history = [];
       took = λ t. [];
-      went = core_none (state k core);
-      mailed = new_mails_are begun.settings (state k core) new ∙ sym many;
+      went = core_none (state_of k core);
+      mailed = new_mails_are begun.settings (state_of k core) new ∙ sym many;
       doored = doored ∙ sym many;
       each = λ t below a x. tended_new l.seen begun.settings.max_job_size (slice_index_or row.seats.items t a)
           (door_seen d (slice_index_or row.doors.items t x)) (new_seats t a below) (new_doors t x (omega arith));
@@ -233,7 +234,7 @@ module _ {L D C I K : Type 0} {k : Core K} {c : Clock C} {l : Line L} {d : Door 
   within_bounds =
       subst (λ (m : Machine). AreCompared m s.served.history s.served.went.given (k.machine core.timed.core) 0
       (k.comparisons core.timed.core)) s.is_new.core
-      (compared_all s.first (state k core) s.served.history s.served.went.given s.is_new.unknown s.is_new.none_compared
+      (compared_all s.first (state_of k core) s.served.history s.served.went.given s.is_new.unknown s.is_new.none_compared
       s.served.went.compared)
 
   -- Its steps are those of the seats, and of the control line after them.
@@ -252,7 +253,7 @@ module _ {L D C I K : Type 0} {k : Core K} {c : Clock C} {l : Line L} {d : Door 
   record IsSeatSoFar (t : ℕ) (a : Attendant L) (door : DoorSeen) : Type 0 where
     within : t < begun.settings.seats
     tended : IsTended l.seen begun.settings.max_job_size a door (steps_at t s.served.history) (s.served.took t)
-    answers_are : answers_to t s.served.went.given ≡ s.served.took t ++ waiting t (state k core)
+    answers_are : answers_to t s.served.went.given ≡ s.served.took t ++ waiting t (state_of k core)
     few : closes (s.served.took t) ≤ ended_lines a door
 
   seat_served : (t : ℕ) → t < length row.seats.items → (a : Attendant L) (x : D)
@@ -275,16 +276,16 @@ module _ {L D C I K : Type 0} {k : Core K} {c : Clock C} {l : Line L} {d : Door 
   seat_so_far t a x g =
       let did = g.tended.attends in
       let owed = seat_owed_so_far begun.settings begun.settings.max_job_size t (d.lines_over x) did.before did.now did.got
-      (did.getting ++ waiting t (state k core)) s.served.history s.served.went.given (k.machine core.timed.core) g.within ran.runs
+      (did.getting ++ waiting t (state_of k core)) s.served.history s.served.went.given (k.machine core.timed.core) g.within ran.runs
       did.submitted_is
-      (g.answers_are ∙ got_first l.seen did.got did.getting (waiting t (state k core)) (s.served.took t) did.taken_is)
+      (g.answers_are ∙ got_first l.seen did.got did.getting (waiting t (state_of k core)) (s.served.took t) did.taken_is)
       (got_few l.seen begun.settings.max_job_size a (door_seen d x) (steps_at t s.served.history) (s.served.took t) g.tended g.few)
       did.of_lines in
       subst (λ (xs : List Answer). IsDoorOwedSoFar begun.settings.max_job_size
       (record { over = d.lines_over x; out = line_out l.seen a.place; is_out = d.is_out x }) (steps_at t s.served.history) xs)
       (sym g.answers_are)
       (out_so_far l.seen begun.settings.max_job_size a (door_seen d x) (steps_at t s.served.history) (s.served.took t)
-      (waiting t (state k core)) g.tended owed)
+      (waiting t (state_of k core)) g.tended owed)
 
   -- the doors from this seat on
   doors_begun : (n : ℕ) (seats : List (Attendant L)) (doors : List D)
@@ -332,7 +333,7 @@ module _ {L D C I K : Type 0} {k : Core K} {c : Clock C} {l : Line L} {d : Door 
     -- a door whose seat is done, and its answers
     record IsDoorDone (t : ℕ) (door : DoorSeen) : Type 0 where
       served : IsDoorServed begun.settings.max_job_size door (steps_at t s.served.history) (s.served.took t)
-      answers_are : answers_to t s.served.went.given ≡ s.served.took t ++ waiting t (state k core)
+      answers_are : answers_to t s.served.went.given ≡ s.served.took t ++ waiting t (state_of k core)
 
     door_done : (t : ℕ) → t < length row.doors.items → (x : D) → IsDoorDone t (door_seen d (slice_index_or row.doors.items t x))
     door_done t below x =
@@ -350,7 +351,7 @@ module _ {L D C I K : Type 0} {k : Core K} {c : Clock C} {l : Line L} {d : Door 
     doors_tied : (n : ℕ) (rest : List D)
         → ((j : ℕ) → j < length rest → (x : D) → IsDoorDone (n + j) (door_seen d (slice_index_or rest j x)))
         → AreTied begun.settings.max_job_size n (map d.lines_over rest) (λ t. steps_at t s.served.history) s.served.took
-        (λ t. waiting t (state k core)) s.served.history s.served.went.given
+        (λ t. waiting t (state_of k core)) s.served.history s.served.went.given
     doors_tied n [] h = tt
     doors_tied n (x ∷ rest) h =
         let more = doors_tied (suc n) rest (λ j below y.
@@ -384,7 +385,7 @@ module _ {L D C I K : Type 0} {k : Core K} {c : Clock C} {l : Line L} {d : Door 
             run = ran;
             many = many;
             of_doors = doors_owed begun.settings begun.settings.max_job_size 0 (map d.lines_over row.doors.items)
-                (λ n. steps_at n s.served.history) s.served.took (λ n. waiting n (state k core)) s.served.history s.served.went.given
+                (λ n. steps_at n s.served.history) s.served.took (λ n. waiting n (state_of k core)) s.served.history s.served.went.given
                 (k.machine core.timed.core) (omega (arith, many)) ran.runs
                 (doors_tied 0 row.doors.items (λ j below x.
                 subst (λ (n : ℕ). IsDoorDone n (door_seen d (slice_index_or row.doors.items j x)))

@@ -8,12 +8,12 @@ use Rattle.bq_job.specs.promise.Runs.{Entry}
 use Rattle.bq_line.specs.GivenReadings.{GaveReadings}
 use Rattle.bq_line.specs.Tending.{AreSame, IsTended, door_seen, ended_lines}
 use Rattle.bq_line.specs.declared.attendant.Attendant.{Attendant}
-use Rattle.bq_host.specs.Hubs.{WentAt}
+use Rattle.bq_host.specs.Hubs.{WentAt, state_of}
 use Rattle.bq_host.specs.MailStates.{IsInOrder, IsNewMailState, MailState, waiting}
 use Rattle.bq_host.specs.WakeLists.{Wakes}
 use Rattle.bq_line.specs.ControlTold.{HasTold, TellsOn}
 use Rattle.bq_event_loop.specs.Known.{ChangesOnly}
-use Rattle.bq_event_loop.specs.Meanings.{Clock, Control, Core, Door, Line, state}
+use Rattle.bq_event_loop.specs.Meanings.{Clock, Control, Core, Door, Line}
 use Rattle.bq_line.specs.declared.control_steps.ControlSteps.{ControlSteps}
 use Rattle.bq_host.specs.Went.{CoreWent}
 use Rattle.bq_event_loop.specs.Rows.{AreTended}
@@ -56,8 +56,8 @@ pub record ServesOn {C K L D : Type 0} (k : Core K) (c : Clock C) (l : Line L) (
   pub mailed : length new.mails.items ≡ length old.mails.items
   pub many : length later.seats.items ≡ length row.seats.items
   pub served : (max_job_size : ℕ) (before : List Step) (first : MailState) (readings : List (Option ℕ))
-      → (earlier : AreServed l d max_job_size before first readings (state k old) row.seats.items row.doors.items)
-      → AreServedFrom earlier.history l d max_job_size (before ++ control) first (readings ++ reads) (state k new)
+      → (earlier : AreServed l d max_job_size before first readings (state_of k old) row.seats.items row.doors.items)
+      → AreServedFrom earlier.history l d max_job_size (before ++ control) first (readings ++ reads) (state_of k new)
       later.seats.items later.doors.items
   pub same_doors : (doors : List D) → AreSame d.same doors row.doors.items → AreSame d.same doors later.doors.items
 
@@ -71,17 +71,17 @@ pub record LoopWent {C K L D I : Type 0} (k : Core K) (c : Clock C) (l : Line L)
 -- What the control line submitted at a hub, whose seats have the numbers before its own.
 pub record ControlWent {C K I : Type 0} (k : Core K) (c : Clock C) (i : Control I) (old : Hub C K)
     (control : ControlSteps I) (new : Hub C K) (next : ControlSteps I) : Type 0 where
-  pub order : IsInOrder (state k new)
+  pub order : IsInOrder (state_of k new)
   pub told : List Step
   pub tells : TellsOn i control told next
-  pub went : WentAt k.machine k.comparisons c.given (length old.mails.items) old told [] new
+  pub went : WentAt k c (length old.mails.items) old told [] new
 
 -- The core of a loop and its seats are ready for a turn. The core is in order. Each seat has done
 -- something for its door's connections, by the rules, and has its mail. The numbers of the seats
 -- and of the control line fit in 16 bits.
 abbrev pub AreReady : {C K L D : Type 0} → Core K → Line L → Door D L → Hub C K → Row L D → Type 0
 AreReady k l d core row =
-    IsInOrder (state k core) × AreTended l d row × (length core.mails.items ≡ length row.seats.items)
+    IsInOrder (state_of k core) × AreTended l d row × (length core.mails.items ≡ length row.seats.items)
     × (length row.seats.items ≤ 65535)
 
 -- The same, and this is one of the seats.
@@ -91,7 +91,7 @@ AreReadyFor k l d seat core row = AreReady k l d core row × (seat < length row.
 -- At most this seat acted. It left the core and the seats in order, and the service went on. Each seat that got mail is to be woken.
 pub record SeatActed {C K L D : Type 0} (k : Core K) (c : Clock C) (l : Line L) (d : Door D L) (seat : ℕ) (old : Hub C K) (row : Row L D)
     (new : Hub C K) (later : Row L D) : Type 0 where
-  pub order : IsInOrder (state k new)
+  pub order : IsInOrder (state_of k new)
   pub tended : AreTended l d later
   pub serves : ServesOn k c l d old row [] new later
   pub only : ChangesOnly seat row.seats.items later.seats.items
@@ -107,5 +107,5 @@ pub record IsServing {L D C I K : Type 0} (k : Core K) (c : Clock C) (l : Line L
   pub gave : c.given begun.clock readings core.timed.time.clock
   pub submits : HasTold i begun.left begun.may_fail control told
   pub many : length row.seats.items ≡ begun.settings.seats
-  pub served : AreServed l d begun.settings.max_job_size told first readings (state k core) row.seats.items row.doors.items
+  pub served : AreServed l d begun.settings.max_job_size told first readings (state_of k core) row.seats.items row.doors.items
   pub same_doors : AreSame d.same begun.doors row.doors.items

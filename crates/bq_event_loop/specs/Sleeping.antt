@@ -4,8 +4,9 @@ use Rattle.bq_job.specs.beside.NextDue.{next_due}
 use Rattle.bq_job.specs.declared.answer.Answer.{Answer}
 use Rattle.bq_line.specs.declared.attendant.Attendant.{Attendant}
 use Rattle.bq_host.specs.DueTimes.{IsWithinDue}
+use Rattle.bq_host.specs.Hubs.{state_of}
 use Rattle.bq_event_loop.specs.Known.{AreIdle, AreKnown}
-use Rattle.bq_event_loop.specs.Meanings.{Core, Line, state}
+use Rattle.bq_event_loop.specs.Meanings.{Core, Line}
 use Rattle.bq_line.specs.declared.control_steps.ControlSteps.{ControlSteps}
 use Rattle.bq_line.specs.declared.control_steps.Stage.{Stage}
 use Rattle.bq_line.specs.declared.control_steps.Stage.TheVariants as stages
@@ -52,7 +53,7 @@ is_awaited watch = false
 -- The core has sorted all answers into the mail of their seats, and a wait of at most this many
 -- milliseconds ends no later than what is due.
 pub record MayWait {C K : Type 0} (k : Core K) (most : Option ℕ) (core : Hub C K) : Type 0 where
-  pub sorted : (state k core).pending ≡ []
+  pub sorted : (state_of k core).pending ≡ []
   pub in_time : IsWithinDue most (next_due (k.machine core.timed.core)) core.timed.time.moment
 
 -- The same, or there is to be no wait at all.

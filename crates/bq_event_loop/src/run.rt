@@ -269,8 +269,8 @@ fn new_hub<C: Clock + Drop, K: QueueCore + Drop>(
     config: Config,
     clock: C,
 ) -> Result<Hub<C, K>, RunFault>
-    ensures made { IfOk result (λ hub. IsNewMailState config (state_of K.machine K.comparisons hub)) }
-    ensures order { IfOk result (λ hub. IsInOrder (state_of K.machine K.comparisons hub)) }
+    ensures made { IfOk result (λ hub. IsNewMailState config (state_of K.QueueCore hub)) }
+    ensures order { IfOk result (λ hub. IsInOrder (state_of K.QueueCore hub)) }
     ensures clock { IfOk result (λ hub. hub.timed.time.clock ≡ clock) }
     ensures woken { IfOk result (λ hub. hub.woken ≡ none_waits (length hub.mails.items)) }
     ensures bad_configuration { IsErrOf result RunFault.BadConfiguration ↔ IsTrue

@@ -3,8 +3,7 @@ ghost use Rattle.std.specs.Prelude.{◌≡◌, ◌⊎◌, ◌<◌, ◌≤◌, �
 ghost use Rattle.bq_host.specs.MailStates.{IsInOrder};
 ghost use Rattle.bq_event_loop.specs.Known.{ChangesOnly, ChangesOnlyIn, KeepsAll};
 ghost use Rattle.bq_event_loop.specs.KnownTurns.{AreKnownBy};
-ghost use Rattle.bq_event_loop.specs.Meanings.{state};
-ghost use Rattle.bq_host.specs.Hubs.{WentInOrder};
+ghost use Rattle.bq_host.specs.Hubs.{WentInOrder, state_of};
 ghost use Rattle.bq_event_loop.specs.Rows.{AreDone, AreTended, KeepsRow};
 ghost use Rattle.bq_event_loop.specs.Serving.{AreReady, AreReadyFor, ControlWent, IsServing, LoopWent, SeatActed};
 ghost use Rattle.bq_event_loop.specs.SoFar.{began_with};
@@ -160,7 +159,7 @@ fn take_turn<
     requires ready { AreReady K.QueueCore L.Line D.Door core.old row.old }
     ensures done { result ≡ true → AreDone row.new.seats.items }
     ensures over { result ≡ true → control.new.stage ≡ stages.Over }
-    ensures order { IsInOrder (state K.QueueCore core.new) }
+    ensures order { IsInOrder (state_of K.QueueCore core.new) }
     ensures tended { AreTended L.Line D.Door row.new }
     ensures served { LoopWent K.QueueCore C.Clock L.Line D.Door I.ControlInput core.old row.old control.old
         core.new row.new control.new }
@@ -197,8 +196,8 @@ fn take_turn<
 // Passes time. Returns how long the loop may wait, in milliseconds: not at all if an answer is left
 // to be sorted.
 fn pass_time<C: Clock + Drop, K: QueueCore + Drop>(core: &mut Hub<C, K>) -> Option<u64>
-    requires order { IsInOrder (state K.QueueCore core.old) }
-    ensures went { WentInOrder K.machine K.comparisons C.given 0 core.old [] [] core.new }
+    requires order { IsInOrder (state_of K.QueueCore core.old) }
+    ensures went { WentInOrder K.QueueCore C.Clock 0 core.old [] [] core.new }
     ensures due { IsWaitFor K.QueueCore result core.new }
 {
     let due = core.pass_time();
@@ -494,7 +493,7 @@ fn serve_control<C: Clock + Drop, I: ControlInput, K: QueueCore + Drop>(
     core: &mut Hub<C, K>,
     reads: ControlReads,
 )
-    requires order { IsInOrder (state K.QueueCore core.old) }
+    requires order { IsInOrder (state_of K.QueueCore core.old) }
     requires few { length core.old.mails.items ≤ 65535 }
     ensures { ControlWent K.QueueCore C.Clock I.ControlInput core.old control.old core.new control.new }
 {
@@ -522,7 +521,7 @@ fn submit_owed<C: Clock + Drop, I: ControlInput, K: QueueCore + Drop>(
     control: &mut ControlSteps<I>,
     core: &mut Hub<C, K>,
 ) -> bool
-    requires order { IsInOrder (state K.QueueCore core.old) }
+    requires order { IsInOrder (state_of K.QueueCore core.old) }
     requires few { length core.old.mails.items ≤ 65535 }
     ensures { ControlWent K.QueueCore C.Clock I.ControlInput core.old control.old core.new control.new }
 {
@@ -537,7 +536,7 @@ fn submit_one<C: Clock + Drop, I: ControlInput, K: QueueCore + Drop>(
     control: &mut ControlSteps<I>,
     core: &mut Hub<C, K>,
 ) -> bool
-    requires order { IsInOrder (state K.QueueCore core.old) }
+    requires order { IsInOrder (state_of K.QueueCore core.old) }
     requires few { length core.old.mails.items ≤ 65535 }
     ensures { ControlWent K.QueueCore C.Clock I.ControlInput core.old control.old core.new control.new }
 {

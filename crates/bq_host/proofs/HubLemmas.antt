@@ -8,7 +8,6 @@ use Rattle.bq_job.specs.declared.settings.Settings.{Settings}
 use Rattle.bq_job.specs.declared.step.Step.{Step}
 use Rattle.bq_job.specs.declared.step.Step.TheVariants.{Tick}
 use Rattle.bq_job.specs.machine.Dispatch.{GivenAnswer}
-use Rattle.bq_job.specs.machine.Machine.{Machine}
 use Rattle.bq_job.specs.promise.History.{is_tick}
 use Rattle.bq_job.specs.promise.Runs.{answers_to}
 use Rattle.bq_core_api.specs.Outbox.{Outbox}
@@ -18,6 +17,7 @@ use Rattle.bq_line.specs.Links.{Calls, TakesInPlace}
 use Rattle.bq_host.specs.Clocks.{Gives}
 use Rattle.bq_host.specs.Hubs.{KeepsFresh, OnlyMoves, WentAt, WentInOrder, state_of, with_pending}
 use Rattle.bq_host.specs.MailStates.{IsInOrder, IsSorted}
+use Rattle.bq_host.specs.Meanings.{Clock, Core}
 use Rattle.bq_host.specs.Timed.{IsReady, LooksAndSteps, PassesOver}
 use Rattle.bq_host.specs.WakeLists.{Wakes}
 use Rattle.bq_host.specs.declared.{hub.Hub.Hub, timed_core.HeardClock.HeardClock, timed_core.TimedCore.TimedCore}
@@ -34,12 +34,11 @@ fresh_on {C} {K} given first next last k m f = elim (k (sym m.fresh ∙ f)) [
   | inr r ↦ inr (r.0, r.1, subst (λ (t : HeardClock C). GaveReadings given first.timed.time.clock (r.0 ∷ r.1) t.clock) (sym m.time) r.2)
 ]
 
-module _ {C K : Type 0} (machine : K → Machine) (compared : K → ℕ) where
+module _ {C K : Type 0} (k : Core K) where
   -- A hub is in order if its core is ready and its marks about answers are right.
-  pub order_ready : (first last : Hub C K) → IsReady machine last.timed
-      → (machine last.timed.core).settings ≡ (machine first.timed.core).settings → last.mails ≡ first.mails
-      → (last.is_sorted ≡ true → (state_of machine compared last).pending ≡ []) → IsInOrder (state_of machine compared first)
-      → IsInOrder (state_of machine compared last)
+  pub order_ready : (first last : Hub C K) → IsReady k.machine last.timed
+      → (k.machine last.timed.core).settings ≡ (k.machine first.timed.core).settings → last.mails ≡ first.mails
+      → (last.is_sorted ≡ true → (state_of k last).pending ≡ []) → IsInOrder (state_of k first) → IsInOrder (state_of k last)
   order_ready first last ready settings mails none o = record {
     many = ap (λ ms. length ms.items) mails ∙ o.many ∙ ap (λ (s : Settings). s.seats) (sym settings);
     room = ready.room;
@@ -47,124 +46,116 @@ module _ {C K : Type 0} (machine : K → Machine) (compared : K → ℕ) where
     due_is = ready.due;
   }
 
-  pub order_woken : (next last : Hub C K) → last ≡ record next { woken = last.woken } → IsInOrder (state_of machine compared next)
-      → IsInOrder (state_of machine compared last)
+  pub order_woken : (next last : Hub C K) → last ≡ record next { woken = last.woken } → IsInOrder (state_of k next)
+      → IsInOrder (state_of k last)
   order_woken next last same o =
-      subst (λ (h : Hub C K). IsInOrder (state_of machine compared h)) (sym same)
+      subst (λ (h : Hub C K). IsInOrder (state_of k h)) (sym same)
       (record { many = o.many; room = o.room; none_pending = o.none_pending; due_is = o.due_is })
 
-  module _ (given : Gives C) where
-    pub went_none : (seat : ℕ) (hub : Hub C K) → WentAt machine compared given seat hub [] [] hub
+  module _ (c : Clock C) where
+    pub went_none : (seat : ℕ) (hub : Hub C K) → WentAt k c seat hub [] [] hub
     went_none seat hub = (
-      ([], gave_none given hub.timed.time.clock, seat_none (state_of machine compared hub) seat),
+      ([], gave_none c.given hub.timed.time.clock, seat_none (state_of k hub) seat),
       wakes_none hub.mails.items hub.woken,
     )
 
     pub went_then : (seat other : ℕ) (first next last : Hub C K) (submitted more : List Step) (taken later : List Answer)
-        → other ≡ seat → WentAt machine compared given seat first submitted taken next
-        → WentAt machine compared given other next more later last
-        → WentAt machine compared given seat first (submitted ++ more) (taken ++ later) last
+        → other ≡ seat → WentAt k c seat first submitted taken next → WentAt k c other next more later last
+        → WentAt k c seat first (submitted ++ more) (taken ++ later) last
     went_then seat other first next last submitted more taken later same a b =
         let b' = rw same at b.0 in (
           (
             a.0.0 ++ b'.0,
-            gave_then given first.timed.time.clock next.timed.time.clock last.timed.time.clock a.0.0 b'.0 a.0.1 b'.1,
-            seat_on (state_of machine compared first) (state_of machine compared next) (state_of machine compared last) seat a.0.0 b'.0
-                submitted more taken later a.0.2 b'.2,
+            gave_then c.given first.timed.time.clock next.timed.time.clock last.timed.time.clock a.0.0 b'.0 a.0.1 b'.1,
+            seat_on (state_of k first) (state_of k next) (state_of k last) seat a.0.0 b'.0 submitted more taken later a.0.2 b'.2,
           ),
           wakes_then first.mails.items next.mails.items last.mails.items first.woken next.woken last.woken a.1 b.1,
         )
 
-    pub went_sorted : (seat : ℕ) (first last : Hub C K) → IsSorted (state_of machine compared first) (state_of machine compared last)
+    pub went_sorted : (seat : ℕ) (first last : Hub C K) → IsSorted (state_of k first) (state_of k last)
         → last.timed.time.clock ≡ first.timed.time.clock → Wakes first.mails.items last.mails.items first.woken last.woken
-        → WentAt machine compared given seat first [] [] last
+        → WentAt k c seat first [] [] last
     went_sorted seat first last s same wakes = (
       (
         [],
-        subst (λ c. GaveReadings given first.timed.time.clock [] c) (sym same) (gave_none given first.timed.time.clock),
-        seat_sorted (state_of machine compared first) (state_of machine compared last) seat s,
+        subst (GaveReadings c.given first.timed.time.clock []) (sym same) (gave_none c.given first.timed.time.clock),
+        seat_sorted (state_of k first) (state_of k last) seat s,
       ),
       wakes,
     )
 
     -- All answers at the hub are still there, in some place.
     pub went_moved : (seat : ℕ) (first last : Hub C K) (held : Option GivenAnswer) (answers : List GivenAnswer) (sorted : Bool)
-        → last ≡ with_pending held answers sorted first
-        → (state_of machine compared last).pending ≡ (state_of machine compared first).pending
-        → WentAt machine compared given seat first [] [] last
+        → last ≡ with_pending held answers sorted first → (state_of k last).pending ≡ (state_of k first).pending
+        → WentAt k c seat first [] [] last
     went_moved seat first last held answers sorted moved pending =
-        subst (λ (h : Hub C K). WentAt machine compared given seat first [] [] h) (sym moved)
+        subst (λ (h : Hub C K). WentAt k c seat first [] [] h) (sym moved)
         (went_sorted seat first (with_pending held answers sorted first) (record {
           rest = refl;
           many = refl;
           waiting_is = λ t below.
               ap (λ (xs : List GivenAnswer). slice_index_or first.mails.items t [] ++ answers_to t xs)
-              (sym (ap (λ (h : Hub C K). (state_of machine compared h).pending) moved) ∙ pending);
+              (sym (ap (λ (h : Hub C K). (state_of k h).pending) moved) ∙ pending);
         }) refl (wakes_none first.mails.items first.woken))
 
     -- A seat without mail took the oldest answer.
     pub went_taken : (seat : ℕ) (answer : Answer) (first last : Hub C K) (held : Option GivenAnswer) (answers : List GivenAnswer)
         (sorted : Bool) → last ≡ with_pending held answers sorted first → slice_index_or first.mails.items seat [] ≡ []
-        → (state_of machine compared first).pending ≡ (seat, answer) ∷ (state_of machine compared last).pending
-        → WentAt machine compared given seat first [] (answer ∷ []) last
+        → (state_of k first).pending ≡ (seat, answer) ∷ (state_of k last).pending → WentAt k c seat first [] (answer ∷ []) last
     went_taken seat answer first last held answers sorted moved empty pending =
-        subst (λ (h : Hub C K). WentAt machine compared given seat first [] (answer ∷ []) h) (sym moved) (
+        subst (λ (h : Hub C K). WentAt k c seat first [] (answer ∷ []) h) (sym moved) (
           (
             [],
-            gave_none given first.timed.time.clock,
-            seat_takes_pending (state_of machine compared first) seat answer (option_to_list held ++ answers) sorted empty
-                (pending ∙ ap (λ (h : Hub C K). (seat, answer) ∷ (state_of machine compared h).pending) moved),
+            gave_none c.given first.timed.time.clock,
+            seat_takes_pending (state_of k first) seat answer (option_to_list held ++ answers) sorted empty
+                (pending ∙ ap (λ (h : Hub C K). (seat, answer) ∷ (state_of k h).pending) moved),
           ),
           wakes_none first.mails.items first.woken,
         )
 
     -- The core took a step, or a tick, while all answers so far were in the mail.
     pub went_stepped : (seat at : ℕ) (what : Step) (old : Hub C K) (t : TimedCore C K) (marked : Bool)
-        → TimedRan machine compared given old.timed (entry_of at seat what ∷ []) t.outs.given t
-        → (state_of machine compared old).pending ≡ []
-        → WentAt machine compared given seat old (if is_tick what then [] else what ∷ []) [] (record old { timed = t; is_sorted = marked })
+        → TimedRan k c old.timed (entry_of at seat what ∷ []) t.outs.given t → (state_of k old).pending ≡ []
+        → WentAt k c seat old (if is_tick what then [] else what ∷ []) [] (record old { timed = t; is_sorted = marked })
     went_stepped seat at what old t marked r empty = (
       (
         r.0,
         r.1,
-        seat_stepped (state_of machine compared old) (state_of machine compared (record old { timed = t; is_sorted = marked })) seat at
-            what r.0 t.outs.given r.2 refl empty
+        seat_stepped (state_of k old) (state_of k (record old { timed = t; is_sorted = marked })) seat at what r.0
+            t.outs.given r.2 refl empty
             (ap (λ (xs : List GivenAnswer). xs ++ t.outs.given) (none_held (option_to_list old.held) old.timed.outs.given empty)),
       ),
       wakes_none old.mails.items old.woken,
     )
 
     -- Time passed, and no step was taken.
-    went_over : (seat : ℕ) (old : Hub C K) (t : TimedCore C K) (marked : Bool) → PassesOver given machine compared old.timed t
-        → WentAt machine compared given seat old [] [] (record old { timed = t; is_sorted = marked })
+    went_over : (seat : ℕ) (old : Hub C K) (t : TimedCore C K) (marked : Bool) → PassesOver k c old.timed t
+        → WentAt k c seat old [] [] (record old { timed = t; is_sorted = marked })
     went_over seat old t marked over =
-        let r = timed_over machine compared given old.timed t over in (
+        let r = timed_over k c old.timed t over in (
           (
             r.0,
             r.1,
-            seat_still (state_of machine compared old) (state_of machine compared (record old { timed = t; is_sorted = marked })) seat r.0
-                r.2 refl (λ n below.
+            seat_still (state_of k old) (state_of k (record old { timed = t; is_sorted = marked })) seat r.0 r.2 refl (λ n below.
                 ap (λ (o : Outbox). slice_index_or old.mails.items n [] ++ answers_to n (option_to_list old.held ++ o.given))
-                (outs_over machine compared given old.timed t over)),
+                (outs_over k c old.timed t over)),
           ),
           wakes_none old.mails.items old.woken,
         )
 
     -- Time passed, and the core took a tick if something was due and it may.
-    pub went_passed : (old : Hub C K) (t : TimedCore C K) (may due : Bool) → IsReady machine t
-        → (machine t.core).settings ≡ (machine old.timed.core).settings
-        → ((may && due) ≡ false → PassesOver given machine compared old.timed t)
-        → ((may && due) ≡ true → LooksAndSteps given machine compared old.timed 0 Tick t)
-        → (may ≡ true → (state_of machine compared old).pending ≡ []) → IsInOrder (state_of machine compared old)
-        → WentInOrder machine compared given 0 old [] [] (record old { timed = t; is_sorted = may && not due })
+    pub went_passed : (old : Hub C K) (t : TimedCore C K) (may due : Bool) → IsReady k.machine t
+        → (k.machine t.core).settings ≡ (k.machine old.timed.core).settings
+        → ((may && due) ≡ false → PassesOver k c old.timed t) → ((may && due) ≡ true → LooksAndSteps k c old.timed 0 Tick t)
+        → (may ≡ true → (state_of k old).pending ≡ []) → IsInOrder (state_of k old)
+        → WentInOrder k c 0 old [] [] (record old { timed = t; is_sorted = may && not due })
     went_passed old t true true ready settings over ticked empty o = (
       order_ready old (record old { timed = t; is_sorted = false }) ready settings refl (λ sorted. absurd (true≢false (sym sorted))) o,
-      went_stepped 0 t.time.moment Tick old t false (timed_late machine compared given old.timed t 0 Tick (ticked refl)) (empty refl),
+      went_stepped 0 t.time.moment Tick old t false (timed_late k c old.timed t 0 Tick (ticked refl)) (empty refl),
     )
     went_passed old t true false ready settings over ticked empty o = (
       order_ready old (record old { timed = t; is_sorted = true }) ready settings refl (λ sorted.
-          ap (λ (x : Outbox). option_to_list old.held ++ x.given) (outs_over machine compared given old.timed t (over refl))
-          ∙ empty refl) o,
+          ap (λ (x : Outbox). option_to_list old.held ++ x.given) (outs_over k c old.timed t (over refl)) ∙ empty refl) o,
       went_over 0 old t true (over refl),
     )
     went_passed old t false due ready settings over ticked empty o = (
@@ -174,9 +165,8 @@ module _ {C K : Type 0} (machine : K → Machine) (compared : K → ℕ) where
 
     -- A seat took an answer after its hub stayed the same for all seats.
     pub takes_on : (seat : ℕ) (first next last : Hub C K) (place after : Action) (took : Bool)
-        → WentAt machine compared given seat first [] [] next
-        → TakesInPlace (WentAt machine compared given seat) next place took after last
-        → TakesInPlace (WentAt machine compared given seat) first place took after last
+        → WentAt k c seat first [] [] next → TakesInPlace (WentAt k c seat) next place took after last
+        → TakesInPlace (WentAt k c seat) first place took after last
     takes_on seat first next last place after true still takes =
         (takes.0, takes.1, went_then seat seat first next last [] [] [] (takes.0 ∷ []) refl still takes.2)
     takes_on seat first next last place after false still takes =
@@ -184,7 +174,6 @@ module _ {C K : Type 0} (machine : K → Machine) (compared : K → ℕ) where
 
     -- What a seat did, whether its link to the hub was used or not.
     pub called : (seat : ℕ) (first last : Hub C K) (submitted : List Step) (taken : List Answer)
-        → Calls (WentAt machine compared given seat) first submitted taken last
-        → WentAt machine compared given seat first submitted taken last
+        → Calls (WentAt k c seat) first submitted taken last → WentAt k c seat first submitted taken last
     called seat first last submitted taken (inl went) = went
     called seat first last submitted taken (inr none) = rw (none.0, none.1, none.2) (went_none seat first)

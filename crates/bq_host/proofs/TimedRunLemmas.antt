@@ -3,13 +3,11 @@ use Rattle.std.proofs.Common.{◌≡◌, ℕ, List, [], ◌∷◌, ◌++◌, Opt
 use Rattle.std.proofs.lemmas.List.{map-append}
 use Rattle.bq_job.specs.declared.step.Step.{Step}
 use Rattle.bq_job.specs.machine.Dispatch.{GivenAnswer}
-use Rattle.bq_job.specs.machine.Machine.{Machine}
 use Rattle.bq_job.specs.promise.History.{ArePickedFrom, IsTimedFrom, last_heard, moment_heard, moments_heard}
 use Rattle.bq_job.specs.promise.Runs.{Entry, Run}
 use Rattle.bq_job.proofs.RunLemmas.{run_append, run_from, run_none}
 use Rattle.bq_line.specs.GivenReadings.{GaveReadings}
-use Rattle.bq_core_api.specs.Outbox.{Outbox}
-use Rattle.bq_host.specs.Clocks.{Gives}
+use Rattle.bq_host.specs.Meanings.{Clock, Core}
 use Rattle.bq_host.specs.Timed.{KnowsDue, LooksAndSteps, OnlyHears, PassesOver, TakesStep}
 use Rattle.bq_host.specs.TimedRuns.{HasRun, TimedState, timed_state}
 use Rattle.bq_host.specs.declared.timed_core.HeardClock.{HeardClock}
@@ -76,89 +74,84 @@ ran_then first next last readings reads history more given later a b = record {
   compared = compared_on first next last history more given later a.compared b.compared;
 }
 
-module _ {C K : Type 0} (machine : K → Machine) (compared : K → ℕ) (given : Gives C) where
+module _ {C K : Type 0} (k : Core K) (c : Clock C) where
   -- The same with the clock, which gave the readings.
   abbrev pub TimedRan : TimedCore C K → List Entry → List GivenAnswer → TimedCore C K → Type 0
-  TimedRan old history answers new = (readings : List (Option ℕ)) × GaveReadings given old.time.clock readings new.time.clock
-      × HasRun (timed_state machine compared old) readings history answers (timed_state machine compared new)
+  TimedRan old history answers new = (readings : List (Option ℕ)) × GaveReadings c.given old.time.clock readings new.time.clock
+      × HasRun (timed_state k old) readings history answers (timed_state k new)
 
   timed_then : (old mid new : TimedCore C K) (history more : List Entry) (answers later : List GivenAnswer)
       → TimedRan old history answers mid → TimedRan mid more later new → TimedRan old (history ++ more) (answers ++ later) new
   timed_then old mid new history more answers later a b = (
     a.0 ++ b.0,
-    gave_then given old.time.clock mid.time.clock new.time.clock a.0 b.0 a.1 b.1,
-    ran_then (timed_state machine compared old) (timed_state machine compared mid) (timed_state machine compared new) a.0 b.0 history more
-        answers later a.2 b.2,
+    gave_then c.given old.time.clock mid.time.clock new.time.clock a.0 b.0 a.1 b.1,
+    ran_then (timed_state k old) (timed_state k mid) (timed_state k new) a.0 b.0 history more answers later a.2 b.2,
   )
 
   -- The core took a step.
-  pub timed_step : (old new : TimedCore C K) (seat : ℕ) (what : Step) → TakesStep given machine compared old seat what new
+  pub timed_step : (old new : TimedCore C K) (seat : ℕ) (what : Step) → TakesStep k c old seat what new
       → TimedRan old (entry_of new.time.moment seat what ∷ []) new.outs.given new
   timed_step old new seat what s = (
     s.reading ∷ [],
     s.time.gave,
     record {
-      runs = subst (λ answers. Run (machine old.core) (entry_of new.time.moment seat what ∷ []) answers (machine new.core))
+      runs = subst (λ answers. Run (k.machine old.core) (entry_of new.time.moment seat what ∷ []) answers (k.machine new.core))
           (append-nil new.outs.given)
-          (run_from (machine old.core) (machine new.core) (machine new.core) (entry_of new.time.moment seat what) [] s.outcome
-          new.outs.given [] s.step.step (run_none (machine new.core)));
+          (run_from (k.machine old.core) (k.machine new.core) (k.machine new.core) (entry_of new.time.moment seat what) [] s.outcome
+          new.outs.given [] s.step.step (run_none (k.machine new.core)));
       timed = record { picked = inl (s.time.heard, tt); last_is = s.time.heard };
-      compared = compared_step (timed_state machine compared old) (timed_state machine compared new) new.time.moment seat what s.outcome
-          new.outs.given s.step s.unknown;
+      compared = compared_step (timed_state k old) (timed_state k new) new.time.moment seat what s.outcome new.outs.given s.step s.unknown;
     },
   )
 
   -- The core was asked for the next due moment, if it was not known.
-  timed_looked : (old looked : TimedCore C K) → KnowsDue machine compared old looked → TimedRan old [] [] looked
+  timed_looked : (old looked : TimedCore C K) → KnowsDue k old looked → TimedRan old [] [] looked
   timed_looked old looked l = (
     [],
-    subst (λ c. GaveReadings given old.time.clock [] c) (sym (ap (λ (h : HeardClock C). h.clock) l.time))
-        (gave_none given old.time.clock),
+    subst (GaveReadings c.given old.time.clock []) (sym (ap (λ (h : HeardClock C). h.clock) l.time)) (gave_none c.given old.time.clock),
     record {
-      runs = subst (λ m. Run (machine old.core) [] [] m) (sym l.same) (run_none (machine old.core));
+      runs = subst (λ m. Run (k.machine old.core) [] [] m) (sym l.same) (run_none (k.machine old.core));
       timed = record { picked = tt; last_is = ap (λ (h : HeardClock C). h.moment) l.time };
-      compared = compared_looked (timed_state machine compared old) (timed_state machine compared looked) l.known l.same l.once;
+      compared = compared_looked (timed_state k old) (timed_state k looked) l.known l.same l.once;
     },
   )
 
   -- The clock was read.
-  pub timed_heard : (old new : TimedCore C K) → OnlyHears given old new → TimedRan old [] [] new
+  pub timed_heard : (old new : TimedCore C K) → OnlyHears c.given old new → TimedRan old [] [] new
   timed_heard old new (reading, h, same) = (
     reading ∷ [],
     h.gave,
-    subst (λ (t : TimedCore C K). HasRun (timed_state machine compared old) (reading ∷ []) [] [] (timed_state machine compared t))
-        (sym same)
+    subst (λ (t : TimedCore C K). HasRun (timed_state k old) (reading ∷ []) [] [] (timed_state k t)) (sym same)
         (record {
-          runs = run_none (machine old.core);
+          runs = run_none (k.machine old.core);
           timed = record { picked = tt; last_is = h.heard };
-          compared = compared_still (timed_state machine compared old)
-              (timed_state machine compared (record old { time = new.time })) refl refl refl;
+          compared = compared_still (timed_state k old) (timed_state k (record old { time = new.time })) refl refl refl;
         }),
   )
 
   -- Time passed, and no step was taken.
-  pub timed_over : (old new : TimedCore C K) → PassesOver given machine compared old new → TimedRan old [] [] new
+  pub timed_over : (old new : TimedCore C K) → PassesOver k c old new → TimedRan old [] [] new
   timed_over old new (looked, l, rest) = elim rest [
     | inl e ↦ subst (TimedRan old [] []) (sym e) (timed_looked old looked l)
     | inr h ↦ timed_then old looked new [] [] [] [] (timed_looked old looked l) (timed_heard looked new h)
   ]
 
   -- Time passed, and the core took a step.
-  pub timed_late : (old new : TimedCore C K) (seat : ℕ) (what : Step) → LooksAndSteps given machine compared old seat what new
+  pub timed_late : (old new : TimedCore C K) (seat : ℕ) (what : Step) → LooksAndSteps k c old seat what new
       → TimedRan old (entry_of new.time.moment seat what ∷ []) new.outs.given new
   timed_late old new seat what (looked, l, s) =
       timed_then old looked new [] (entry_of new.time.moment seat what ∷ []) [] new.outs.given (timed_looked old looked l)
       (timed_step looked new seat what s)
 
   -- If no step was taken, no answer was given, and the core represents the same model.
-  pub outs_over : (old new : TimedCore C K) → PassesOver given machine compared old new → new.outs ≡ old.outs
+  pub outs_over : (old new : TimedCore C K) → PassesOver k c old new → new.outs ≡ old.outs
   outs_over old new (looked, l, rest) = elim rest [
     | inl e ↦ ap (λ (x : TimedCore C K). x.outs) e ∙ l.outs
     | inr h ↦ ap (λ (x : TimedCore C K). x.outs) h.2 ∙ l.outs
   ]
 
-  pub machine_over : (old new : TimedCore C K) → PassesOver given machine compared old new → machine new.core ≡ machine old.core
+  pub machine_over : (old new : TimedCore C K) → PassesOver k c old new → k.machine new.core ≡ k.machine old.core
   machine_over old new (looked, l, rest) = elim rest [
-    | inl e ↦ ap (λ (x : TimedCore C K). machine x.core) e ∙ l.same
-    | inr h ↦ ap (λ (x : TimedCore C K). machine x.core) h.2 ∙ l.same
+    | inl e ↦ ap (λ (x : TimedCore C K). k.machine x.core) e ∙ l.same
+    | inr h ↦ ap (λ (x : TimedCore C K). k.machine x.core) h.2 ∙ l.same
   ]

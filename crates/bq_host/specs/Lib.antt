@@ -7,6 +7,7 @@ pub mod Journals
 pub mod LastParts
 pub mod MailStates
 pub mod Marks
+pub mod Meanings
 pub mod Timed
 pub mod TimedRuns
 pub mod Told

@@ -7,6 +7,7 @@ use Rattle.bq_job.specs.declared.settings.Settings.{Settings}
 use Rattle.bq_job.specs.machine.Dispatch.{GivenAnswer}
 use Rattle.bq_job.specs.machine.Machine.{Machine, new_machine}
 use Rattle.bq_job.specs.promise.Runs.{answers_to}
+use Rattle.bq_host.specs.Meanings.{Core}
 use Rattle.bq_host.specs.TimedRuns.{TimedState}
 use Rattle.bq_host.specs.declared.timed_core.TimedCore.{TimedCore}
 
@@ -27,10 +28,9 @@ pub record MailState : Type 0 where
   pub compared : ℕ
 
 -- of a core with its clock, an answer that is held back, and the mail of each seat
-abbrev pub mail_state : {C K : Type 0} → (K → Machine) → (K → ℕ) → TimedCore C K → Option GivenAnswer → List (List Answer) → Bool
-    → MailState
-mail_state machine compared timed held mails sorted = record {
-  core = machine timed.core;
+abbrev pub mail_state : {C K : Type 0} → Core K → TimedCore C K → Option GivenAnswer → List (List Answer) → Bool → MailState
+mail_state k timed held mails sorted = record {
+  core = k.machine timed.core;
   mails = mails;
   pending = option_to_list held ++ timed.outs.given;
   sorted = sorted;
@@ -38,7 +38,7 @@ mail_state machine compared timed held mails sorted = record {
   most = timed.outs.most;
   known = timed.is_due_known;
   due = timed.due;
-  compared = compared timed.core;
+  compared = k.comparisons timed.core;
 }
 
 -- the core with its clock, without answers

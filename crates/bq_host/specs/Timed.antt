@@ -10,6 +10,7 @@ use Rattle.bq_line.specs.GivenReadings.{GaveReadings}
 use Rattle.bq_core_api.specs.Cost.{IsLookWithin, IsStepWithin}
 use Rattle.bq_host.specs.Clocks.{Gives}
 use Rattle.bq_host.specs.Compared.{LooksOnce}
+use Rattle.bq_host.specs.Meanings.{Clock, Core}
 use Rattle.bq_host.specs.declared.timed_core.HeardClock.{HeardClock}
 use Rattle.bq_host.specs.declared.timed_core.TimedCore.{TimedCore}
 
@@ -30,10 +31,9 @@ HearsIf given true old new = (reading : Option ℕ) × HasHeard given old readin
 HearsIf given false old new = new ≡ old
 
 -- A new core with its clock: it has this model, nothing was compared, and no reading was taken.
-pub record IsNewTimed {C K : Type 0} (machine : K → Machine) (compared : K → ℕ) (settings : Settings) (clock : C)
-    (t : TimedCore C K) : Type 0 where
-  pub core : machine t.core ≡ new_machine settings
-  pub none_compared : compared t.core ≡ 0
+pub record IsNewTimed {C K : Type 0} (k : Core K) (settings : Settings) (clock : C) (t : TimedCore C K) : Type 0 where
+  pub core : k.machine t.core ≡ new_machine settings
+  pub none_compared : k.comparisons t.core ≡ 0
   pub none_given : t.outs.given ≡ []
   pub room : t.outs.most ≡ settings.seats + 1
   pub clock_is : t.time.clock ≡ clock
@@ -47,24 +47,24 @@ pub record IsReady {C K : Type 0} (machine : K → Machine) (t : TimedCore C K) 
   pub due : t.is_due_known ≡ true → t.due ≡ next_due (machine t.core)
 
 -- The core took a step at the moment of one reading of its clock.
-pub record TakesStep {C K : Type 0} (given : Gives C) (machine : K → Machine) (compared : K → ℕ) (old : TimedCore C K) (seat : ℕ)
-    (what : Step) (new : TimedCore C K) : Type 0 where
+pub record TakesStep {C K : Type 0} (k : Core K) (c : Clock C) (old : TimedCore C K) (seat : ℕ) (what : Step) (new : TimedCore C K)
+    : Type 0 where
   pub reading : Option ℕ
   pub outcome : Outcome
-  pub time : HasHeard given old.time reading new.time
-  pub step : IsStepWithin (machine old.core) new.time.moment seat what outcome new.outs.given (machine new.core) (compared old.core)
-      (compared new.core)
+  pub time : HasHeard c.given old.time reading new.time
+  pub step : IsStepWithin (k.machine old.core) new.time.moment seat what outcome new.outs.given (k.machine new.core)
+      (k.comparisons old.core) (k.comparisons new.core)
   pub unknown : new.is_due_known ≡ false
   pub most : new.outs.most ≡ old.outs.most
-  pub settings : (machine new.core).settings ≡ (machine old.core).settings
+  pub settings : (k.machine new.core).settings ≡ (k.machine old.core).settings
 
 -- The next due moment is known; the core was asked for it if it was not known before.
-pub record KnowsDue {C K : Type 0} (machine : K → Machine) (compared : K → ℕ) (old new : TimedCore C K) : Type 0 where
+pub record KnowsDue {C K : Type 0} (k : Core K) (old new : TimedCore C K) : Type 0 where
   pub known : new.is_due_known ≡ true
-  pub due : new.due ≡ next_due (machine old.core)
-  pub same : machine new.core ≡ machine old.core
-  pub once : (count : ℕ) → LooksOnce old.is_due_known (machine old.core) count (compared old.core)
-      → IsLookWithin (machine old.core) count (compared new.core)
+  pub due : new.due ≡ next_due (k.machine old.core)
+  pub same : k.machine new.core ≡ k.machine old.core
+  pub once : (count : ℕ) → LooksOnce old.is_due_known (k.machine old.core) count (k.comparisons old.core)
+      → IsLookWithin (k.machine old.core) count (k.comparisons new.core)
   pub outs : new.outs ≡ old.outs
   pub time : new.time ≡ old.time
 
@@ -73,16 +73,13 @@ abbrev pub OnlyHears : {C K : Type 0} → Gives C → TimedCore C K → TimedCor
 OnlyHears given old new = (reading : Option ℕ) × HasHeard given old.time reading new.time × (new ≡ record old { time = new.time })
 
 -- No step was taken. If anything will ever be due, the clock was read once.
-abbrev pub PassesOver : {C K : Type 0} → Gives C → (K → Machine) → (K → ℕ) → TimedCore C K → TimedCore C K → Type 0
-PassesOver {C} {K} given machine compared old new =
-    (looked : TimedCore C K) × KnowsDue machine compared old looked × ((new ≡ looked) ⊎ OnlyHears given looked new)
+abbrev pub PassesOver : {C K : Type 0} → Core K → Clock C → TimedCore C K → TimedCore C K → Type 0
+PassesOver {C} {K} k c old new = (looked : TimedCore C K) × KnowsDue k old looked × ((new ≡ looked) ⊎ OnlyHears c.given looked new)
 
 -- The clock was read once, since something will be due.
-abbrev pub HearsDue : {C K : Type 0} → Gives C → (K → Machine) → (K → ℕ) → TimedCore C K → TimedCore C K → Type 0
-HearsDue {C} {K} given machine compared old new =
-    (looked : TimedCore C K) × KnowsDue machine compared old looked × OnlyHears given looked new
+abbrev pub HearsDue : {C K : Type 0} → Core K → Clock C → TimedCore C K → TimedCore C K → Type 0
+HearsDue {C} {K} k c old new = (looked : TimedCore C K) × KnowsDue k old looked × OnlyHears c.given looked new
 
 -- The core was asked for the next due moment and then took this step at the moment of one reading.
-abbrev pub LooksAndSteps : {C K : Type 0} → Gives C → (K → Machine) → (K → ℕ) → TimedCore C K → ℕ → Step → TimedCore C K → Type 0
-LooksAndSteps {C} {K} given machine compared old seat what new =
-    (looked : TimedCore C K) × KnowsDue machine compared old looked × TakesStep given machine compared looked seat what new
+abbrev pub LooksAndSteps : {C K : Type 0} → Core K → Clock C → TimedCore C K → ℕ → Step → TimedCore C K → Type 0
+LooksAndSteps {C} {K} k c old seat what new = (looked : TimedCore C K) × KnowsDue k old looked × TakesStep k c looked seat what new

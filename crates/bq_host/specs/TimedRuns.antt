@@ -6,6 +6,7 @@ use Rattle.bq_job.specs.machine.Machine.{Machine, new_machine}
 use Rattle.bq_job.specs.promise.History.{IsTimedFrom}
 use Rattle.bq_job.specs.promise.Runs.{Entry, Run}
 use Rattle.bq_host.specs.Compared.{AreWithin, LooksOnce}
+use Rattle.bq_host.specs.Meanings.{Core}
 use Rattle.bq_host.specs.declared.timed_core.TimedCore.{TimedCore}
 
 pub record TimedState : Type 0 where
@@ -16,13 +17,13 @@ pub record TimedState : Type 0 where
   pub known : Bool
   pub compared : ℕ
 
--- from the model that a core represents and its comparisons
-abbrev pub timed_state : {C K : Type 0} → (K → Machine) → (K → ℕ) → TimedCore C K → TimedState
-timed_state machine compared t = record {
-  core = machine t.core;
+-- the state of a core with its clock
+abbrev pub timed_state : {C K : Type 0} → Core K → TimedCore C K → TimedState
+timed_state k t = record {
+  core = k.machine t.core;
   heard = t.time.moment;
   known = t.is_due_known;
-  compared = compared t.core;
+  compared = k.comparisons t.core;
 }
 
 -- a new core whose clock was not read, and which has made this many comparisons

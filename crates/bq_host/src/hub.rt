@@ -58,8 +58,8 @@ impl<C: Clock + Drop, K: QueueCore + Drop> Hub<C, K> {
     /// The error is `BadConfiguration` if the configuration is out of its ranges, and otherwise
     /// `NoMemory`.
     pub fn new(alloc: Global, config: Config, clock: C) -> Result<Hub<C, K>, RunFault>
-        ensures made { IfOk result (λ hub. IsNewMailState config (state_of K.machine K.comparisons hub)) }
-        ensures order { IfOk result (λ hub. IsInOrder (state_of K.machine K.comparisons hub)) }
+        ensures made { IfOk result (λ hub. IsNewMailState config (state_of K.QueueCore hub)) }
+        ensures order { IfOk result (λ hub. IsInOrder (state_of K.QueueCore hub)) }
         ensures clock { IfOk result (λ hub. hub.timed.time.clock ≡ clock) }
         ensures woken { IfOk result (λ hub. hub.woken ≡ none_waits 0) }
         ensures not_fresh { IfOk result (λ hub. hub.is_fresh ≡ false) }
@@ -99,11 +99,11 @@ impl<C: Clock + Drop, K: QueueCore + Drop> Hub<C, K> {
     /// false if it did not, because an answer of an earlier step waits for room in the mail of its
     /// seat. What the operator has to see of the step is logged when time passes next.
     pub fn submit(&mut self, seat: Seat, step: &Step) -> bool
-        requires order { IsInOrder (state_of K.machine K.comparisons self.old) }
-        ensures order { IsInOrder (state_of K.machine K.comparisons self.new) }
-        ensures taken { result ≡ true → WentAt K.machine K.comparisons C.given seat self.old (as_submitted step.now) [] self.new }
-        ensures left { result ≡ false → WentAt K.machine K.comparisons C.given seat self.old [] [] self.new }
-        ensures held_up { result ≡ false → IsHeldUp (state_of K.machine K.comparisons self.new) }
+        requires order { IsInOrder (state_of K.QueueCore self.old) }
+        ensures order { IsInOrder (state_of K.QueueCore self.new) }
+        ensures taken { result ≡ true → WentAt K.QueueCore C.Clock seat self.old (as_submitted step.now) [] self.new }
+        ensures left { result ≡ false → WentAt K.QueueCore C.Clock seat self.old [] [] self.new }
+        ensures held_up { result ≡ false → IsHeldUp (state_of K.QueueCore self.new) }
         ensures only { result ≡ false → OnlyMoves self.old self.new }
         ensures fresh { KeepsFresh C.given self.old self.new }
         ensures read { result ≡ true → HearsIf C.given true self.old.timed.time self.new.timed.time }
@@ -122,9 +122,9 @@ impl<C: Clock + Drop, K: QueueCore + Drop> Hub<C, K> {
     // Lets the core take a step at the moment that the clock reads now, and notes what has to be
     // logged about it.
     fn take_step(&mut self, seat: Seat, what: &Step)
-        requires order { IsInOrder (state_of K.machine K.comparisons self.old) }
-        requires empty { (state_of K.machine K.comparisons self.old).pending ≡ [] }
-        ensures went { WentInOrder K.machine K.comparisons C.given seat self.old (as_submitted what.now) [] self.new }
+        requires order { IsInOrder (state_of K.QueueCore self.old) }
+        requires empty { (state_of K.QueueCore self.old).pending ≡ [] }
+        ensures went { WentInOrder K.QueueCore C.Clock seat self.old (as_submitted what.now) [] self.new }
         ensures read { HearsIf C.given true self.old.timed.time self.new.timed.time }
         ensures told { HasLogged (concern_of what.now) self.new.timed.outs self.new.timed.time.moment
             self.old.timed.notices self.new.timed.notices }
@@ -141,11 +141,10 @@ impl<C: Clock + Drop, K: QueueCore + Drop> Hub<C, K> {
     /// that writes it. Returns false and leaves `place` as it was if there is none, or if an older
     /// answer that waits for room in the mail of its seat is in the way.
     pub fn take_to(&mut self, seat: Seat, place: &mut NextAction) -> bool
-        requires ready { IsInOrderFor K.machine K.comparisons seat self.old }
-        ensures order { IsInOrder (state_of K.machine K.comparisons self.new) }
-        ensures went { TakesInPlace (WentAt K.machine K.comparisons C.given seat) self.old place.old result place.new self.new }
-        ensures none { result ≡ false → (waiting seat (state_of K.machine K.comparisons self.old) ≡ [])
-            ⊎ IsHeldUp (state_of K.machine K.comparisons self.new) }
+        requires ready { IsInOrderFor K.QueueCore seat self.old }
+        ensures order { IsInOrder (state_of K.QueueCore self.new) }
+        ensures went { TakesInPlace (WentAt K.QueueCore C.Clock seat) self.old place.old result place.new self.new }
+        ensures none { result ≡ false → (waiting seat (state_of K.QueueCore self.old) ≡ []) ⊎ IsHeldUp (state_of K.QueueCore self.new) }
         ensures only { OnlyMoves self.old self.new }
     {
         if self.held.is_none() && self.has_no_mail(seat) {
@@ -165,11 +164,10 @@ impl<C: Clock + Drop, K: QueueCore + Drop> Hub<C, K> {
     // answers.
     #[inline(never)]
     fn take_kept(&mut self, seat: Seat, place: &mut NextAction) -> bool
-        requires ready { IsInOrderFor K.machine K.comparisons seat self.old }
-        ensures order { IsInOrder (state_of K.machine K.comparisons self.new) }
-        ensures went { TakesInPlace (WentAt K.machine K.comparisons C.given seat) self.old place.old result place.new self.new }
-        ensures none { result ≡ false → (waiting seat (state_of K.machine K.comparisons self.old) ≡ [])
-            ⊎ IsHeldUp (state_of K.machine K.comparisons self.new) }
+        requires ready { IsInOrderFor K.QueueCore seat self.old }
+        ensures order { IsInOrder (state_of K.QueueCore self.new) }
+        ensures went { TakesInPlace (WentAt K.QueueCore C.Clock seat) self.old place.old result place.new self.new }
+        ensures none { result ≡ false → (waiting seat (state_of K.QueueCore self.old) ≡ []) ⊎ IsHeldUp (state_of K.QueueCore self.new) }
         ensures only { OnlyMoves self.old self.new }
     {
         let _all = self.sort(seat);
@@ -185,13 +183,12 @@ impl<C: Clock + Drop, K: QueueCore + Drop> Hub<C, K> {
     // The same if no earlier answer waits: mostly the core's only answer is for this seat. It goes
     // from where the core put it right to its place.
     fn take_new(&mut self, seat: Seat, place: &mut NextAction) -> bool
-        requires ready { IsInOrderFor K.machine K.comparisons seat self.old }
+        requires ready { IsInOrderFor K.QueueCore seat self.old }
         requires empty { slice_index_or self.old.mails.items seat [] ≡ [] }
         requires none_held { self.old.held ≡ None }
-        ensures order { IsInOrder (state_of K.machine K.comparisons self.new) }
-        ensures went { TakesInPlace (WentAt K.machine K.comparisons C.given seat) self.old place.old result place.new self.new }
-        ensures none { result ≡ false → (waiting seat (state_of K.machine K.comparisons self.old) ≡ [])
-            ⊎ IsHeldUp (state_of K.machine K.comparisons self.new) }
+        ensures order { IsInOrder (state_of K.QueueCore self.new) }
+        ensures went { TakesInPlace (WentAt K.QueueCore C.Clock seat) self.old place.old result place.new self.new }
+        ensures none { result ≡ false → (waiting seat (state_of K.QueueCore self.old) ≡ []) ⊎ IsHeldUp (state_of K.QueueCore self.new) }
         ensures only { OnlyMoves self.old self.new }
     {
         let Some((first, answer)) = self.next_new() else {
@@ -209,7 +206,7 @@ impl<C: Clock + Drop, K: QueueCore + Drop> Hub<C, K> {
     // Notes whether an answer is pending. Mostly none is: then nothing has to be sorted when the
     // turn of the seat ends.
     fn note_none_pending(&mut self)
-        ensures none { self.new.is_sorted ≡ true → (state_of K.machine K.comparisons self.new).pending ≡ [] }
+        ensures none { self.new.is_sorted ≡ true → (state_of K.QueueCore self.new).pending ≡ [] }
         ensures rest { self.new ≡ record self.old { is_sorted = self.new.is_sorted } }
     {
         self.is_sorted = self.has_none_pending();
@@ -218,9 +215,8 @@ impl<C: Clock + Drop, K: QueueCore + Drop> Hub<C, K> {
     // Takes the oldest answer that no seat has taken, if all of them are where the core put them.
     fn next_new(&mut self) -> Option<(Seat, Answer)>
         requires none_held { self.old.held ≡ None }
-        ensures pending { (state_of K.machine K.comparisons self.old).pending
-            ≡ option_to_list result ++ (state_of K.machine K.comparisons self.new).pending }
-        ensures none { IsNone result → (state_of K.machine K.comparisons self.new).pending ≡ [] }
+        ensures pending { (state_of K.QueueCore self.old).pending ≡ option_to_list result ++ (state_of K.QueueCore self.new).pending }
+        ensures none { IsNone result → (state_of K.QueueCore self.new).pending ≡ [] }
         ensures rest { self.new ≡ with_pending None self.new.timed.outs.given self.old.is_sorted self.old }
     {
         self.timed.outs.take_first()
@@ -236,9 +232,9 @@ impl<C: Clock + Drop, K: QueueCore + Drop> Hub<C, K> {
     }
 
     fn take_mail(&mut self, seat: Seat) -> Option<Answer>
-        requires ready { IsInOrderFor K.machine K.comparisons seat self.old }
+        requires ready { IsInOrderFor K.QueueCore seat self.old }
         ensures many { length self.new.mails.items ≡ length self.old.mails.items }
-        ensures went { WentInOrder K.machine K.comparisons C.given seat self.old [] (option_to_list result) self.new }
+        ensures went { WentInOrder K.QueueCore C.Clock seat self.old [] (option_to_list result) self.new }
         ensures none { IsNone result → slice_index_or self.new.mails.items seat [] ≡ [] }
         ensures still { IsNone result → self.new.mails.items ≡ self.old.mails.items }
         ensures rest { self.new ≡ record self.old { mails = self.new.mails } }
@@ -251,13 +247,13 @@ impl<C: Clock + Drop, K: QueueCore + Drop> Hub<C, K> {
     /// Returns false if one is left because the mail of its seat is full.
     #[inline(always)]
     pub fn sort(&mut self, seat: Seat) -> bool
-        requires order { IsInOrder (state_of K.machine K.comparisons self.old) }
+        requires order { IsInOrder (state_of K.QueueCore self.old) }
         ensures many { length self.new.mails.items ≡ length self.old.mails.items }
-        ensures none { result ≡ true → (state_of K.machine K.comparisons self.new).pending ≡ [] }
-        ensures held_up { result ≡ false → IsHeldUp (state_of K.machine K.comparisons self.new) }
-        ensures sorted { IsSorted (state_of K.machine K.comparisons self.old) (state_of K.machine K.comparisons self.new) }
+        ensures none { result ≡ true → (state_of K.QueueCore self.new).pending ≡ [] }
+        ensures held_up { result ≡ false → IsHeldUp (state_of K.QueueCore self.new) }
+        ensures sorted { IsSorted (state_of K.QueueCore self.old) (state_of K.QueueCore self.new) }
         ensures only { OnlyMoves self.old self.new }
-        ensures went { WentInOrder K.machine K.comparisons C.given seat self.old [] [] self.new }
+        ensures went { WentInOrder K.QueueCore C.Clock seat self.old [] [] self.new }
     {
         if self.is_sorted {
             return true;
@@ -267,14 +263,14 @@ impl<C: Clock + Drop, K: QueueCore + Drop> Hub<C, K> {
 
     #[inline(never)]
     fn sort_out(&mut self) -> bool
-        requires order { IsInOrder (state_of K.machine K.comparisons self.old) }
-        ensures order { IsInOrder (state_of K.machine K.comparisons self.new) }
-        ensures sorted { IsSorted (state_of K.machine K.comparisons self.old) (state_of K.machine K.comparisons self.new) }
+        requires order { IsInOrder (state_of K.QueueCore self.old) }
+        ensures order { IsInOrder (state_of K.QueueCore self.new) }
+        ensures sorted { IsSorted (state_of K.QueueCore self.old) (state_of K.QueueCore self.new) }
         ensures clock { self.new.timed.time.clock ≡ self.old.timed.time.clock }
         ensures only { OnlyMoves self.old self.new }
         ensures wakes { Wakes self.old.mails.items self.new.mails.items self.old.woken self.new.woken }
-        ensures none { result ≡ true → (state_of K.machine K.comparisons self.new).pending ≡ [] }
-        ensures held_up { result ≡ false → IsHeldUp (state_of K.machine K.comparisons self.new) }
+        ensures none { result ≡ true → (state_of K.QueueCore self.new).pending ≡ [] }
+        ensures held_up { result ≡ false → IsHeldUp (state_of K.QueueCore self.new) }
     {
         let sorts = self.deliver();
         self.is_sorted = sorts;
@@ -283,12 +279,12 @@ impl<C: Clock + Drop, K: QueueCore + Drop> Hub<C, K> {
 
     // Puts pending answers into the mail. Returns true if none is left.
     fn deliver(&mut self) -> bool
-        ensures sorted { IsSorted (state_of K.machine K.comparisons self.old) (state_of K.machine K.comparisons self.new) }
+        ensures sorted { IsSorted (state_of K.QueueCore self.old) (state_of K.QueueCore self.new) }
         ensures clock { self.new.timed.time.clock ≡ self.old.timed.time.clock }
         ensures only { OnlyMoves self.old self.new }
         ensures wakes { Wakes self.old.mails.items self.new.mails.items self.old.woken self.new.woken }
-        ensures none { result ≡ true → (state_of K.machine K.comparisons self.new).pending ≡ [] }
-        ensures held_up { result ≡ false → IsHeldUp (state_of K.machine K.comparisons self.new) }
+        ensures none { result ≡ true → (state_of K.QueueCore self.new).pending ≡ [] }
+        ensures held_up { result ≡ false → IsHeldUp (state_of K.QueueCore self.new) }
     {
         if self.has_none_pending() {
             return true;
@@ -304,16 +300,15 @@ impl<C: Clock + Drop, K: QueueCore + Drop> Hub<C, K> {
 
     // Returns true if no answer is pending. Mostly none is, since the seat took the only one.
     fn has_none_pending(&self) -> bool
-        ensures { result ≡ true → (state_of K.machine K.comparisons self.now).pending ≡ [] }
+        ensures { result ≡ true → (state_of K.QueueCore self.now).pending ≡ [] }
     {
         self.held.is_none() && self.timed.outs.is_empty()
     }
 
     // Takes the oldest answer that is not in the mail.
     fn next_pending(&mut self) -> Option<(Seat, Answer)>
-        ensures pending { (state_of K.machine K.comparisons self.old).pending
-            ≡ option_to_list result ++ (state_of K.machine K.comparisons self.new).pending }
-        ensures none { IsNone result → (state_of K.machine K.comparisons self.new).pending ≡ [] }
+        ensures pending { (state_of K.QueueCore self.old).pending ≡ option_to_list result ++ (state_of K.QueueCore self.new).pending }
+        ensures none { IsNone result → (state_of K.QueueCore self.new).pending ≡ [] }
         ensures rest { self.new ≡ with_pending None self.new.timed.outs.given self.old.is_sorted self.old }
     {
         if self.held.is_some() {
@@ -339,8 +334,8 @@ impl<C: Clock + Drop, K: QueueCore + Drop> Hub<C, K> {
     /// If a step read the clock since the last call, its reading is taken for the moment now. So a
     /// run must not wait between the step and this call.
     pub fn pass_time(&mut self) -> Option<u64>
-        requires order { IsInOrder (state_of K.machine K.comparisons self.old) }
-        ensures went { WentInOrder K.machine K.comparisons C.given 0 self.old [] [] self.new }
+        requires order { IsInOrder (state_of K.QueueCore self.old) }
+        ensures went { WentInOrder K.QueueCore C.Clock 0 self.old [] [] self.new }
         ensures read { HearsIf C.given (is_read_for self.old.is_fresh self.old.timed.time.moment (next_due (K.machine self.old.timed.core)))
             self.old.timed.time self.new.timed.time }
         ensures due { result ≡ (if is_before self.new.timed.time.moment (next_due (K.machine self.old.timed.core))
@@ -371,7 +366,7 @@ impl<C: Clock + Drop, K: QueueCore + Drop> Hub<C, K> {
     // Takes a tick if something is due by now. Returns true if something is due, even if no tick
     // can be taken yet because an answer waits for room in a mail.
     fn tick_if_due(&mut self) -> bool
-        requires order { IsInOrder (state_of K.machine K.comparisons self.old) }
+        requires order { IsInOrder (state_of K.QueueCore self.old) }
         ensures due { result
             ≡ not (is_before self.new.timed.time.moment (next_due (K.machine self.old.timed.core))) }
         ensures read { HearsIf C.given (is_read_for self.old.is_fresh self.old.timed.time.moment (next_due (K.machine self.old.timed.core)))
@@ -379,7 +374,7 @@ impl<C: Clock + Drop, K: QueueCore + Drop> Hub<C, K> {
         ensures known { self.new.timed.due ≡ next_due (K.machine self.old.timed.core) }
         ensures same { result ≡ false → K.machine self.new.timed.core ≡ K.machine self.old.timed.core }
         ensures notices { self.new.timed.notices ≡ self.old.timed.notices }
-        ensures went { WentInOrder K.machine K.comparisons C.given 0 self.old [] [] self.new }
+        ensures went { WentInOrder K.QueueCore C.Clock 0 self.old [] [] self.new }
     {
         let may_tick = self.sort(0);
         let is_due = self.timed.tick_if_due(0, self.is_fresh, may_tick);

@@ -27,20 +27,19 @@ pub struct HubSeat<'a, C, K> {
 }
 
 impl<'a, C: Clock + Drop, K: QueueCore + Drop> Link for HubSeat<'a, C, K> {
-    ghost is_ready = { λ l. IsInOrderFor K.machine K.comparisons l.seat l.hub.now };
+    ghost is_ready = { λ l. IsInOrderFor K.QueueCore l.seat l.hub.now };
 
     // After the link is dropped, the hub is known by its ghost name.
     ghost went = { λ first submitted taken last. (last.hub.ghost_name ≡ first.hub.ghost_name) × (last.seat ≡ first.seat) ×
-        WentAt K.machine K.comparisons C.given first.seat first.hub.now submitted taken last.hub.now ×
+        WentAt K.QueueCore C.Clock first.seat first.hub.now submitted taken last.hub.now ×
         KeepsFresh C.given first.hub.now last.hub.now };
 
     // An answer waits for room in the mail of its seat.
-    ghost refused = { λ first step last. (last.hub.ghost_name ≡ first.hub.ghost_name) ×
-        IsHeldUp (state_of K.machine K.comparisons last.hub.now) };
+    ghost refused = { λ first step last. (last.hub.ghost_name ≡ first.hub.ghost_name) × IsHeldUp (state_of K.QueueCore last.hub.now) };
 
     // No answer waits for this seat, or one waits for room in the mail of its seat.
     ghost had_none = { λ first last. (last.hub.ghost_name ≡ first.hub.ghost_name) ×
-        ((waiting first.seat (state_of K.machine K.comparisons first.hub.now) ≡ []) ⊎ IsHeldUp (state_of K.machine K.comparisons last.hub.now)) };
+        ((waiting first.seat (state_of K.QueueCore first.hub.now) ≡ []) ⊎ IsHeldUp (state_of K.QueueCore last.hub.now)) };
 
     fn submit(&mut self, step: &mut Step) -> bool {
         self.hub.submit(self.seat, step)
@@ -67,19 +66,18 @@ pub fn attend<L: Line + Drop, D: Door<Line = L>, C: Clock + Drop, K: QueueCore +
 ) -> Progress
     requires placed { IsPlaced attendant.old.place
         (door_seen D.Door door.old) }
-    requires ready { IsInOrderFor K.machine K.comparisons seat hub.old }
-    ensures order { IsInOrder (state_of K.machine K.comparisons hub.new) }
+    requires ready { IsInOrderFor K.QueueCore seat hub.old }
+    ensures order { IsInOrder (state_of K.QueueCore hub.new) }
     // The result is one that this place can have. Unless something moved, the seat submitted
     // nothing and took nothing.
     ensures progress { MayEndAt result attendant.old.place }
-    ensures still { (result ≡ Progress.Moved → ⊥) → Calls (WentAt K.machine K.comparisons C.given seat) hub.old [] [] hub.new }
+    ensures still { (result ≡ Progress.Moved → ⊥) → Calls (WentAt K.QueueCore C.Clock seat) hub.old [] [] hub.new }
     // It reports a step that was not accepted only if an answer waits for room in the mail of its seat,
     // and that no answer has come only if there was none, or one waits for room.
-    ensures refused { result ≡ Progress.NotAccepted → IsHeldUp (state_of K.machine K.comparisons hub.new) }
-    ensures none { result ≡ Progress.NoMail → (waiting seat (state_of K.machine K.comparisons hub.old) ≡ [])
-        ⊎ IsHeldUp (state_of K.machine K.comparisons hub.new) }
+    ensures refused { result ≡ Progress.NotAccepted → IsHeldUp (state_of K.QueueCore hub.new) }
+    ensures none { result ≡ Progress.NoMail → (waiting seat (state_of K.QueueCore hub.old) ≡ []) ⊎ IsHeldUp (state_of K.QueueCore hub.new) }
     ensures went { let at = door_seen D.Door in
-        GoesOn (WentAt K.machine K.comparisons C.given seat) hub.old hub.new L.seen attendant.old (at door.old) attendant.new (at door.new) }
+        GoesOn (WentAt K.QueueCore C.Clock seat) hub.old hub.new L.seen attendant.old (at door.old) attendant.new (at door.new) }
     ensures fresh { KeepsFresh C.given hub.old hub.new }
     ensures same { (first : D) → D.same first door.old → D.same first door.new }
 {
@@ -99,15 +97,14 @@ pub fn act<L: Line, C: Clock + Drop, K: QueueCore + Drop>(
     seat: Seat,
     buffers: &mut Buffers,
 ) -> Progress
-    requires ready { IsInOrderFor K.machine K.comparisons seat hub.old }
-    ensures order { IsInOrder (state_of K.machine K.comparisons hub.new) }
-    ensures carried { (submitted : List Step) × (taken : List Answer) × WentAt K.machine K.comparisons C.given seat hub.old submitted taken hub.new ×
+    requires ready { IsInOrderFor K.QueueCore seat hub.old }
+    ensures order { IsInOrder (state_of K.QueueCore hub.new) }
+    ensures carried { (submitted : List Step) × (taken : List Answer) × WentAt K.QueueCore C.Clock seat hub.old submitted taken hub.new ×
         CarriedPart result machine.old (L.seen line.old) action.old sent.old machine.new (L.seen line.new) action.new sent.new submitted taken }
     // It reports a step that was not accepted only if an answer waits for room in the mail of its seat,
     // and that no answer has come only if there was none, or one waits for room.
-    ensures refused { result ≡ Progress.NotAccepted → IsHeldUp (state_of K.machine K.comparisons hub.new) }
-    ensures none { result ≡ Progress.NoMail → (waiting seat (state_of K.machine K.comparisons hub.old) ≡ [])
-        ⊎ IsHeldUp (state_of K.machine K.comparisons hub.new) }
+    ensures refused { result ≡ Progress.NotAccepted → IsHeldUp (state_of K.QueueCore hub.new) }
+    ensures none { result ≡ Progress.NoMail → (waiting seat (state_of K.QueueCore hub.old) ≡ []) ⊎ IsHeldUp (state_of K.QueueCore hub.new) }
     ensures fresh { KeepsFresh C.given hub.old hub.new }
     ensures stays { StaysOver L.lies_over line.old line.new }
 {

@@ -89,7 +89,7 @@ impl<C: Clock + Drop, K: QueueCore + Drop> TimedCore<C, K> {
     /// The error is `BadConfiguration` if the configuration is out of its ranges, and otherwise
     /// `NoMemory`.
     pub fn new(alloc: Global, config: Config, clock: C) -> Result<TimedCore<C, K>, RunFault>
-        ensures made { IfOk result (IsNewTimed K.machine K.comparisons config clock) }
+        ensures made { IfOk result (IsNewTimed K.QueueCore config clock) }
         ensures none_told { IfOk result (λ timed. timed.notices ≡ none_told) }
         ensures bad_configuration { IsErrOf result RunFault.BadConfiguration ↔ IsTrue
             (not (are_in_range config)) }
@@ -124,7 +124,7 @@ impl<C: Clock + Drop, K: QueueCore + Drop> TimedCore<C, K> {
     pub fn take_step(&mut self, seat: Seat, what: &Step)
         requires ready { IsReady K.machine self.old }
         ensures ready { IsReady K.machine self.new }
-        ensures taken { TakesStep C.given K.machine K.comparisons self.old seat what.now self.new }
+        ensures taken { TakesStep K.QueueCore C.Clock self.old seat what.now self.new }
         // What was logged before decides what is logged now, and so do the answers of this step and
         // whether an allocation of it failed.
         ensures told { HasLogged (concern_of what.now) self.new.outs self.new.time.moment
@@ -139,7 +139,7 @@ impl<C: Clock + Drop, K: QueueCore + Drop> TimedCore<C, K> {
     pub fn take_step_quietly(&mut self, seat: Seat, what: &Step) -> Option<Notice>
         requires ready { IsReady K.machine self.old }
         ensures ready { IsReady K.machine self.new }
-        ensures taken { TakesStep C.given K.machine K.comparisons self.old seat what.now self.new }
+        ensures taken { TakesStep K.QueueCore C.Clock self.old seat what.now self.new }
         ensures told { (result, self.new.notices) ≡ told_after (concern_of what.now) self.new.outs self.new.time.moment
             self.old.notices }
     {
@@ -153,7 +153,7 @@ impl<C: Clock + Drop, K: QueueCore + Drop> TimedCore<C, K> {
         requires ready { IsReady K.machine self.old }
         ensures ready { IsReady K.machine self.new }
         ensures notices { self.new.notices ≡ self.old.notices }
-        ensures taken { TakesStep C.given K.machine K.comparisons self.old seat what.now self.new }
+        ensures taken { TakesStep K.QueueCore C.Clock self.old seat what.now self.new }
     {
         let _reading = self.time.hear();
         self.is_due_known = false;
@@ -176,8 +176,8 @@ impl<C: Clock + Drop, K: QueueCore + Drop> TimedCore<C, K> {
     pub fn tick_if_due(&mut self, seat: Seat, is_fresh: bool, may_tick: bool) -> bool
         requires ready { IsReady K.machine self.old }
         ensures ready { IsReady K.machine self.new }
-        ensures over { (may_tick && result) ≡ false → PassesOver C.given K.machine K.comparisons self.old self.new }
-        ensures ticked { (may_tick && result) ≡ true → LooksAndSteps C.given K.machine K.comparisons self.old seat Step.Tick self.new }
+        ensures over { (may_tick && result) ≡ false → PassesOver K.QueueCore C.Clock self.old self.new }
+        ensures ticked { (may_tick && result) ≡ true → LooksAndSteps K.QueueCore C.Clock self.old seat Step.Tick self.new }
         ensures read { HearsIf C.given (is_read_for is_fresh self.old.time.moment (next_due (K.machine self.old.core))) self.old.time self.new.time }
         ensures is_due { result
             ≡ not (is_before self.new.time.moment (next_due (K.machine self.old.core))) }
@@ -198,7 +198,7 @@ impl<C: Clock + Drop, K: QueueCore + Drop> TimedCore<C, K> {
     fn tick(&mut self, seat: Seat)
         requires ready { IsReady K.machine self.old }
         ensures ready { IsReady K.machine self.new }
-        ensures ticked { (first : TimedCore C K) → OnlyHears C.given first self.old → TakesStep C.given K.machine K.comparisons first seat Step.Tick self.new }
+        ensures ticked { (first : TimedCore C K) → OnlyHears C.given first self.old → TakesStep K.QueueCore C.Clock first seat Step.Tick self.new }
         ensures time { self.new.time ≡ self.old.time }
         ensures due { self.new.due ≡ self.old.due }
         ensures settings { (K.machine self.new.core).settings ≡ (K.machine self.old.core).settings }
@@ -219,8 +219,8 @@ impl<C: Clock + Drop, K: QueueCore + Drop> TimedCore<C, K> {
     fn is_due(&mut self, is_fresh: bool) -> bool
         requires ready { IsReady K.machine self.old }
         ensures ready { IsReady K.machine self.new }
-        ensures over { PassesOver C.given K.machine K.comparisons self.old self.new }
-        ensures heard { result ≡ true → HearsDue C.given K.machine K.comparisons self.old self.new }
+        ensures over { PassesOver K.QueueCore C.Clock self.old self.new }
+        ensures heard { result ≡ true → HearsDue K.QueueCore C.Clock self.old self.new }
         ensures read { HearsIf C.given (is_read_for is_fresh self.old.time.moment (next_due (K.machine self.old.core))) self.old.time self.new.time }
         ensures is_due { result
             ≡ not (is_before self.new.time.moment (next_due (K.machine self.old.core))) }
@@ -244,7 +244,7 @@ impl<C: Clock + Drop, K: QueueCore + Drop> TimedCore<C, K> {
         requires ready { IsReady K.machine self.old }
         ensures ready { IsReady K.machine self.new }
         ensures due { result ≡ next_due (K.machine self.old.core) }
-        ensures known { KnowsDue K.machine K.comparisons self.old self.new }
+        ensures known { KnowsDue K.QueueCore self.old self.new }
         ensures notices { self.new.notices ≡ self.old.notices }
     {
         if !self.is_due_known {

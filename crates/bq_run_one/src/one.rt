@@ -89,7 +89,7 @@ fn serve_line<R: Wait, L: Line + Drop, C: Clock + Drop, K: QueueCore + Drop>(
     machine: SeatMachine,
 ) -> One<L, C>
     requires new { L.seen line ≡ new_line }
-    requires hub { IsNewMailState (K.machine hub.timed.core).settings (state_of K.machine K.comparisons hub) }
+    requires hub { IsNewMailState (K.machine hub.timed.core).settings (state_of K.QueueCore hub) }
     requires lone { (K.machine hub.timed.core).settings.seats ≡ 1 }
     requires awaits { awaited machine ≡ Awaited.ALine }
     requires limit { machine.reader.max_job_size ≡ (K.machine hub.timed.core).settings.max_job_size }
@@ -139,9 +139,9 @@ fn into_clock<C: Clock + Drop, K: QueueCore + Drop>(hub: Hub<C, K>) -> C
 
 // Lets time pass if the next action checks the mail.
 fn pass_time_before<C: Clock + Drop, K: QueueCore + Drop>(next: &NextAction, hub: &mut Hub<C, K>)
-    requires ready { IsInOrderFor K.machine K.comparisons 0 hub.old }
-    ensures ready { IsInOrderFor K.machine K.comparisons 0 hub.new }
-    ensures went { WentAt K.machine K.comparisons C.given 0 hub.old [] [] hub.new }
+    requires ready { IsInOrderFor K.QueueCore 0 hub.old }
+    ensures ready { IsInOrderFor K.QueueCore 0 hub.new }
+    ensures went { WentAt K.QueueCore C.Clock 0 hub.old [] [] hub.new }
 {
     if matches!(next.does(), Does::PollMail) {
         let _due = hub.pass_time();

@@ -1,9 +1,8 @@
 -- How the turns of the core's driver combine.
 use Rattle.std.proofs.Common.{◌≡◌, ℕ, Bool, true, false, not, List, [], ◌∷◌, ◌++◌, Option, Some, None}
-use Rattle.std.proofs.Common.{◌≤◌, ◌⊎◌, ◌∙◌, append-nil, arith, refl, ap, sym, subst, inl, inr}
+use Rattle.std.proofs.Common.{◌≤◌, ◌∙◌, append-nil, arith, refl, ap, sym, subst, inl, inr}
 use Rattle.std.proofs.Math.Nat.{le-max_left}
 use Rattle.bq_job.specs.beside.NextDue.{is_before, next_due}
-use Rattle.bq_job.specs.declared.settings.Settings.{Settings}
 use Rattle.bq_job.specs.declared.step.Step.{Step}
 use Rattle.bq_job.specs.declared.step.Step.TheVariants.{Tick}
 use Rattle.bq_job.specs.machine.Dispatch.{GivenAnswer}
@@ -13,13 +12,13 @@ use Rattle.bq_job.specs.promise.History.{moment_heard}
 use Rattle.bq_job.specs.promise.Runs.{Entry}
 use Rattle.bq_core_api.specs.Outbox.{Outbox}
 use Rattle.bq_link.specs.Submissions.{Invariant}
-use Rattle.bq_host.specs.Clocks.{Gives}
+use Rattle.bq_host.specs.Meanings.{Clock, Core}
 use Rattle.bq_host.specs.Timed.{HasHeard, IsReady, LooksAndSteps, PassesOver}
 use Rattle.bq_host.specs.declared.timed_core.HeardClock.{HeardClock}
 use Rattle.bq_host.specs.declared.timed_core.TimedCore.{TimedCore}
 use Rattle.bq_thread_work.specs.CoreWork.{steps_made}
 use Rattle.bq_thread_work.specs.Sending.{AreStuck}
-use Rattle.bq_thread_work.specs.Worked.{FindsWork, HasTicked, IsInOrder, TookOne, WorkWent, WorksOn, driver_state}
+use Rattle.bq_thread_work.specs.Worked.{FindsWork, HasTicked, IsInOrder, WorkWent, WorksOn, driver_state}
 use Rattle.bq_thread_work.specs.declared.core_work.polling.Polling.{Polling}
 use Rattle.bq_thread_work.specs.declared.core_work.sender.Sender.{Sender}
 use Rattle.bq_thread_work.specs.declared.core_work.yielding.Yielding.{Yielding}
@@ -28,14 +27,13 @@ use Rattle.bq_host.proofs.TimedRunLemmas.{TimedRan, entry_of, machine_over, outs
 use Rattle.bq_thread_work.proofs.WorkedLemmas.{pending_on, worked_inside}
 
 -- Nothing was done.
-pub on_still : {C K : Type 0} (given : Gives C) (machine : K → Machine) (compared : K → ℕ) (h : CoreDriver C K) → IsInOrder machine h
-    → WorksOn given machine compared h h
-on_still given machine compared h order = record { order = order; end = (refl, refl); settings = refl; work = λ settings from first w. w }
+pub on_still : {C K : Type 0} (k : Core K) (c : Clock C) (h : CoreDriver C K) → IsInOrder k.machine h → WorksOn k c h h
+on_still k c h order = record { order = order; end = (refl, refl); settings = refl; work = λ settings from first w. w }
 
 -- Nothing but the pace of the thread changed.
-pub on_paced : {C K : Type 0} (given : Gives C) (machine : K → Machine) (compared : K → ℕ) (h : CoreDriver C K) (yielding : Yielding)
-    (polling : Polling) → IsInOrder machine h → WorksOn given machine compared h (record h { yielding = yielding; polling = polling })
-on_paced given machine compared h yielding polling order = record {
+pub on_paced : {C K : Type 0} (k : Core K) (c : Clock C) (h : CoreDriver C K) (yielding : Yielding) (polling : Polling)
+    → IsInOrder k.machine h → WorksOn k c h (record h { yielding = yielding; polling = polling })
+on_paced k c h yielding polling order = record {
   order = record { ready = order.ready; sender = order.sender; many = order.many; all = order.all };
   end = (refl, refl);
   settings = refl;
@@ -59,10 +57,9 @@ in_order_taken machine h step order =
     }
 
 -- One thing was done, and then another.
-pub on_both : {C K : Type 0} (given : Gives C) (machine : K → Machine) (compared : K → ℕ) (old mid new : CoreDriver C K)
-    → WorksOn given machine compared old mid → WorksOn given machine compared mid new
-    → WorksOn given machine compared old new
-on_both given machine compared old mid new a b = record {
+pub on_both : {C K : Type 0} (k : Core K) (c : Clock C) (old mid new : CoreDriver C K) → WorksOn k c old mid → WorksOn k c mid new
+    → WorksOn k c old new
+on_both k c old mid new a b = record {
   order = b.order;
   end = (b.end.0 ∙ a.end.0, b.end.1 ∙ a.end.1);
   settings = b.settings ∙ a.settings;
@@ -70,20 +67,20 @@ on_both given machine compared old mid new a b = record {
 }
 
 -- The core did this by itself: it took a tick, or none.
-on_timed : {C K : Type 0} (given : Gives C) (machine : K → Machine) (compared : K → ℕ) (old : CoreDriver C K) (t : TimedCore C K)
-    (history : List Entry) (now : List GivenAnswer) → IsInOrder machine old → IsReady machine t
-    → (machine t.core).settings ≡ (machine old.timed.core).settings → steps_made history ≡ []
+on_timed : {C K : Type 0} (k : Core K) (c : Clock C) (old : CoreDriver C K) (t : TimedCore C K) (history : List Entry)
+    (now : List GivenAnswer) → IsInOrder k.machine old → IsReady k.machine t
+    → (k.machine t.core).settings ≡ (k.machine old.timed.core).settings → steps_made history ≡ []
     → old.sender.kept.items ++ t.outs.given ≡ (old.sender.kept.items ++ old.timed.outs.given) ++ now
-    → TimedRan machine compared given old.timed history now t → WorksOn given machine compared old (record old { timed = t })
-on_timed given machine compared old t history now order ready same none pending r = record {
+    → TimedRan k c old.timed history now t → WorksOn k c old (record old { timed = t })
+on_timed k c old t history now order ready same none pending r = record {
   order = record { ready = ready; sender = order.sender; many = order.many; all = order.all };
   end = (refl, refl);
   settings = same;
   work = λ settings from first w. (
     w.0 ++ r.0,
     r.1 first w.0 w.1,
-    worked_inside settings from w.0 r.0 (driver_state machine compared old) (driver_state machine compared (record old { timed = t }))
-        history now w.2 r.2 none refl pending refl,
+    worked_inside settings from w.0 r.0 (driver_state k old) (driver_state k (record old { timed = t })) history now
+        w.2 r.2 none refl pending refl,
   );
 }
 
@@ -93,40 +90,36 @@ not_lowered last next None e = omega (arith, e)
 not_lowered last next (Some moment) e = rw e (le-max_left last moment)
 
 -- The clock was read, and nothing else happened.
-pub on_heard : {C K : Type 0} (given : Gives C) (machine : K → Machine) (compared : K → ℕ) (old : CoreDriver C K) (time : HeardClock C)
-    (reading : Option ℕ) → IsInOrder machine old → HasHeard given old.timed.time reading time
-    → WorksOn given machine compared old (record old { timed = record old.timed { time = time } })
-on_heard {C} {K} given machine compared old time reading order h =
+pub on_heard : {C K : Type 0} (k : Core K) (c : Clock C) (old : CoreDriver C K) (time : HeardClock C) (reading : Option ℕ)
+    → IsInOrder k.machine old → HasHeard c.given old.timed.time reading time
+    → WorksOn k c old (record old { timed = record old.timed { time = time } })
+on_heard {C} {K} k c old time reading order h =
     let new : TimedCore C K = record old.timed { time = time } in
-    on_timed given machine compared old new [] [] order (record { room = order.ready.room; due = order.ready.due }) refl refl
-    (sym (append-nil (old.sender.kept.items ++ old.timed.outs.given)))
-    (timed_heard machine compared given old.timed new (reading, h, refl))
+    on_timed k c old new [] [] order (record { room = order.ready.room; due = order.ready.due }) refl refl
+    (sym (append-nil (old.sender.kept.items ++ old.timed.outs.given))) (timed_heard k c old.timed new (reading, h, refl))
 
 -- Time passed, and the core took a tick, or no step.
-pub on_passed : {C K : Type 0} (given : Gives C) (machine : K → Machine) (compared : K → ℕ) (old : CoreDriver C K) (t : TimedCore C K)
-    (ticks : Bool) → IsInOrder machine old → IsReady machine t → old.timed.outs.given ≡ []
-    → (ticks ≡ false → PassesOver given machine compared old.timed t)
-    → (ticks ≡ true → LooksAndSteps given machine compared old.timed 0 Tick t)
-    → WorksOn given machine compared old (record old { timed = t })
-on_passed given machine compared old t true order ready none over ticked =
+pub on_passed : {C K : Type 0} (k : Core K) (c : Clock C) (old : CoreDriver C K) (t : TimedCore C K) (ticks : Bool)
+    → IsInOrder k.machine old → IsReady k.machine t → old.timed.outs.given ≡ []
+    → (ticks ≡ false → PassesOver k c old.timed t) → (ticks ≡ true → LooksAndSteps k c old.timed 0 Tick t)
+    → WorksOn k c old (record old { timed = t })
+on_passed k c old t true order ready none over ticked =
     let late = ticked refl in
-    on_timed given machine compared old t (entry_of t.time.moment 0 Tick ∷ []) t.outs.given order ready
+    on_timed k c old t (entry_of t.time.moment 0 Tick ∷ []) t.outs.given order ready
     (late.2.settings ∙ ap (λ (m : Machine). m.settings) late.1.same) refl
     (pending_on old.sender.kept.items old.sender.kept.items old.timed.outs.given t.outs.given refl none)
-    (timed_late machine compared given old.timed t 0 Tick late)
-on_passed given machine compared old t false order ready none over ticked =
+    (timed_late k c old.timed t 0 Tick late)
+on_passed k c old t false order ready none over ticked =
     let passed = over refl in
-    on_timed given machine compared old t [] [] order ready
-    (ap (λ (m : Machine). m.settings) (machine_over machine compared given old.timed t passed)) refl
-    (ap (λ (o : Outbox). old.sender.kept.items ++ o.given) (outs_over machine compared given old.timed t passed)
-    ∙ sym (append-nil (old.sender.kept.items ++ old.timed.outs.given)))
-    (timed_over machine compared given old.timed t passed)
+    on_timed k c old t [] [] order ready (ap (λ (m : Machine). m.settings) (machine_over k c old.timed t passed)) refl
+    (ap (λ (o : Outbox). old.sender.kept.items ++ o.given) (outs_over k c old.timed t passed)
+    ∙ sym (append-nil (old.sender.kept.items ++ old.timed.outs.given))) (timed_over k c old.timed t passed)
 
-pub has_ticked : {C K : Type 0} (given : Gives C) (machine : K → Machine) (compared : K → ℕ) (old : CoreDriver C K) (t : TimedCore C K)
-    → LooksAndSteps given machine compared old.timed 0 Tick t → HasTicked machine old (record old { timed = t })
-has_ticked given machine compared old t (looked, l, s) = record {
+pub has_ticked : {C K : Type 0} (k : Core K) (c : Clock C) (old : CoreDriver C K) (t : TimedCore C K)
+    → LooksAndSteps k c old.timed 0 Tick t → HasTicked k.machine old (record old { timed = t })
+has_ticked k c old t (looked, l, s) = record {
   outcome = s.outcome;
-  step = subst (λ (m : Machine). IsStep m t.time.moment 0 Tick s.outcome t.outs.given (machine t.core)) l.same s.step.step;
+  step = subst (λ (m : Machine). IsStep m t.time.moment 0 Tick s.outcome t.outs.given (k.machine t.core)) l.same s.step.step;
 }
 
 -- What the core did after answers were sent or the clock was read.

@@ -11,9 +11,9 @@ use Rattle.bq_job.specs.promise.Runs.{Entry, answers_to}
 use Rattle.bq_job.specs.machine.Steps.{IsStep, Outcome}
 use Rattle.bq_link.specs.EndStates.{CoreState, IntakeState, IsSameCore, sent_to}
 use Rattle.bq_link.specs.Submissions.{AreBelow, Invariant, steps_of}
+use Rattle.bq_host.specs.Meanings.{Clock, Core}
 use Rattle.bq_host.specs.Timed.{IsReady}
 use Rattle.bq_host.specs.TimedRuns.{HasRun, TimedState, new_timed, timed_state}
-use Rattle.bq_host.specs.Clocks.{Gives}
 use Rattle.bq_thread_work.specs.CoreWork.{HasGone, no_ticks, steps_made}
 use Rattle.bq_thread_work.specs.Flags.{AreAllSet}
 use Rattle.bq_thread_work.specs.Sending.{AreStuck, IsAtRest}
@@ -28,9 +28,9 @@ pub record DriverState : Type 0 where
   pub pending : List GivenAnswer
   pub gone : List Bool
 
-abbrev pub driver_state : {C K : Type 0} → (K → Machine) → (K → ℕ) → CoreDriver C K → DriverState
-driver_state machine compared h = record {
-  timed = timed_state machine compared h.timed;
+abbrev pub driver_state : {C K : Type 0} → Core K → CoreDriver C K → DriverState
+driver_state k h = record {
+  timed = timed_state k h.timed;
   end = h.sender.end;
   pending = h.sender.kept.items ++ h.timed.outs.given;
   gone = h.gone.flags.items;
@@ -49,10 +49,9 @@ pub record HasWorked (settings : Settings) (from : ℕ) (readings : List (Option
   pub marked : (seat : ℕ) → slice_index_or h.gone seat false ≡ true → HasGone (steps_of seat h.end.taken)
 
 -- the same with the clock, which gave these readings from the first on
-abbrev pub IsAtWork : {C K : Type 0} → Gives C → (K → Machine) → (K → ℕ) → Settings → ℕ → C → CoreDriver C K → Type 0
-IsAtWork given machine compared settings from first driver =
-    (readings : List (Option ℕ)) × given first readings driver.timed.time.clock
-    × HasWorked settings from readings (driver_state machine compared driver)
+abbrev pub IsAtWork : {C K : Type 0} → Core K → Clock C → Settings → ℕ → C → CoreDriver C K → Type 0
+IsAtWork k c settings from first driver =
+    (readings : List (Option ℕ)) × c.given first readings driver.timed.time.clock × HasWorked settings from readings (driver_state k driver)
 
 -- It is known for each end whether it has gone.
 pub record KnowsAll (gone : GoneEnds) : Type 0 where
@@ -73,12 +72,11 @@ IsInOrderAt machine intake h = (h.sender.end.intake ≡ intake.id) × IsInOrder 
 
 -- The driver is still in order, and has the same end and settings. The work went on from whatever
 -- was done before.
-pub record WorksOn {C K : Type 0} (given : Gives C) (machine : K → Machine) (compared : K → ℕ) (old new : CoreDriver C K) : Type 0 where
-  pub order : IsInOrder machine new
+pub record WorksOn {C K : Type 0} (k : Core K) (c : Clock C) (old new : CoreDriver C K) : Type 0 where
+  pub order : IsInOrder k.machine new
   pub end : IsSameCore old.sender.end new.sender.end
-  pub settings : (machine new.timed.core).settings ≡ (machine old.timed.core).settings
-  pub work : (settings : Settings) (from : ℕ) (first : C) → IsAtWork given machine compared settings from first old
-      → IsAtWork given machine compared settings from first new
+  pub settings : (k.machine new.timed.core).settings ≡ (k.machine old.timed.core).settings
+  pub work : (settings : Settings) (from : ℕ) (first : C) → IsAtWork k c settings from first old → IsAtWork k c settings from first new
 
 -- the flags of the ends that have gone, after a step: an end's own step sets its flag
 abbrev pub gone_after : ℕ → Step → List Bool → List Bool

@@ -67,7 +67,7 @@ fn run_out<R: Wait, C: Clock + Drop, K: QueueCore + Drop>(
 ) -> (CoreEnd, K, C)
     requires order { IsInOrderAt K.machine intake.now driver }
     ensures end { IsSameCore driver.sender.end result.0 }
-    ensures ran { (settings : Settings) (from : ℕ) (first : C) → IsAtWork C.given K.machine K.comparisons settings from first driver
+    ensures ran { (settings : Settings) (from : ℕ) (first : C) → IsAtWork K.QueueCore C.Clock settings from first driver
         → length driver.sender.end.rings ≡ settings.seats + 1
         → RanToEnd C.given settings first result.0 (K.machine result.1) result.2 from (K.comparisons result.1) }
 {

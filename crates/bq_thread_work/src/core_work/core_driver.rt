@@ -75,8 +75,7 @@ impl<C: Clock + Drop, K: QueueCore + Drop> CoreDriver<C, K> {
         ensures order { IsInOrder K.machine result }
         ensures end { result.sender.end ≡ end }
         ensures settings { (K.machine result.timed.core).settings ≡ (K.machine core).settings }
-        ensures work { IsAtWork C.given K.machine K.comparisons
-            (K.machine core).settings (K.comparisons core) clock result }
+        ensures work { IsAtWork K.QueueCore C.Clock (K.machine core).settings (K.comparisons core) clock result }
     {
         let CoreRoom {
             kept,
@@ -103,7 +102,7 @@ impl<C: Clock + Drop, K: QueueCore + Drop> CoreDriver<C, K> {
     /// true if everything is done.
     pub fn turn<R: Wait>(&mut self, rt: &R, intake: &Intake<NoTicks>) -> bool
         requires order { IsInOrderAt K.machine intake.now self.old }
-        ensures on { WorksOn C.given K.machine K.comparisons self.old self.new }
+        ensures on { WorksOn K.QueueCore C.Clock self.old self.new }
         ensures over { result ≡ true → IsOver self.new }
         ensures stuck { AreStuck self.new.sender.end self.new.sender.kept.items }
         ensures turned { result ≡ false → TurnWent K.machine self.old self.new }
@@ -124,7 +123,7 @@ impl<C: Clock + Drop, K: QueueCore + Drop> CoreDriver<C, K> {
     fn work<R: Wait>(&mut self, rt: &R, intake: &Intake<NoTicks>)
         requires order { IsInOrderAt K.machine intake.now self.old }
         requires none { self.old.timed.outs.given ≡ [] }
-        ensures on { WorksOn C.given K.machine K.comparisons self.old self.new }
+        ensures on { WorksOn K.QueueCore C.Clock self.old self.new }
         ensures stuck { AreStuck self.old.sender.end self.old.sender.kept.items
             → AreStuck self.new.sender.end self.new.sender.kept.items }
         ensures worked { WorkWent K.machine self.old self.new }
@@ -139,7 +138,7 @@ impl<C: Clock + Drop, K: QueueCore + Drop> CoreDriver<C, K> {
     // if there is room for the answers of the next step.
     fn send_all(&mut self, intake: &Intake<NoTicks>) -> bool
         requires order { IsInOrder K.machine self.old }
-        ensures on { WorksOn C.given K.machine K.comparisons self.old self.new }
+        ensures on { WorksOn K.QueueCore C.Clock self.old self.new }
         ensures stuck { AreStuck self.new.sender.end self.new.sender.kept.items }
         ensures none { result ≡ true → self.new.timed.outs.given ≡ [] }
         ensures full { result ≡ false → length self.new.sender.kept.items ≡ self.new.sender.ends }
@@ -164,7 +163,7 @@ impl<C: Clock + Drop, K: QueueCore + Drop> CoreDriver<C, K> {
     // seats' threads whether the last yield was slow.
     fn give_way(&mut self, intake: &Intake<NoTicks>)
         requires order { IsInOrderAt K.machine intake.now self.old }
-        ensures on { WorksOn C.given K.machine K.comparisons self.old self.new }
+        ensures on { WorksOn K.QueueCore C.Clock self.old self.new }
         ensures rest { self.new ≡ record self.old { timed = record self.old.timed { time = self.new.timed.time }; yielding = self.new.yielding } }
         // A wait that begins without a yield is only counted.
         ensures waits { 0 < self.old.yielding.left
@@ -192,7 +191,7 @@ impl<C: Clock + Drop, K: QueueCore + Drop> CoreDriver<C, K> {
     // Yields to other threads, and returns how many milliseconds passed.
     fn yield_once(&mut self) -> u64
         requires order { IsInOrder K.machine self.old }
-        ensures on { WorksOn C.given K.machine K.comparisons self.old self.new }
+        ensures on { WorksOn K.QueueCore C.Clock self.old self.new }
         ensures took { result ≤ self.new.timed.time.moment - self.old.timed.time.moment }
         ensures rest { self.new ≡ record self.old { timed = record self.old.timed { time = self.new.timed.time } } }
     {
@@ -208,7 +207,7 @@ impl<C: Clock + Drop, K: QueueCore + Drop> CoreDriver<C, K> {
     #[tactic(auto, using(crate::proofs::TurnLemmas::on_still))]
     fn hear_start(&mut self)
         requires order { IsInOrder K.machine self.old }
-        ensures on { WorksOn C.given K.machine K.comparisons self.old self.new }
+        ensures on { WorksOn K.QueueCore C.Clock self.old self.new }
         ensures moment { self.old.timed.time.moment ≤ self.new.timed.time.moment }
         ensures rest { self.new ≡ record self.old { timed = record self.old.timed { time = self.new.timed.time } } }
     {
@@ -220,7 +219,7 @@ impl<C: Clock + Drop, K: QueueCore + Drop> CoreDriver<C, K> {
     // Reads the clock once.
     fn hear(&mut self)
         requires order { IsInOrder K.machine self.old }
-        ensures on { WorksOn C.given K.machine K.comparisons self.old self.new }
+        ensures on { WorksOn K.QueueCore C.Clock self.old self.new }
         ensures moment { self.old.timed.time.moment ≤ self.new.timed.time.moment }
         ensures rest { self.new ≡ record self.old { timed = record self.old.timed { time = self.new.timed.time } } }
     {
@@ -236,7 +235,7 @@ impl<C: Clock + Drop, K: QueueCore + Drop> CoreDriver<C, K> {
         requires order { IsInOrderAt K.machine intake.now self.old }
         requires may { MayTake I.was }
         requires none { self.old.timed.outs.given ≡ [] }
-        ensures on { WorksOn C.given K.machine K.comparisons self.old self.new }
+        ensures on { WorksOn K.QueueCore C.Clock self.old self.new }
         ensures found { FindsWork I.was K.machine self.old self.new result }
     {
         if self.sender.has_none(intake) {
@@ -253,7 +252,7 @@ impl<C: Clock + Drop, K: QueueCore + Drop> CoreDriver<C, K> {
         requires order { IsInOrderAt K.machine intake.now self.old }
         requires may { MayTake I.was }
         requires none { self.old.timed.outs.given ≡ [] }
-        ensures on { WorksOn C.given K.machine K.comparisons self.old self.new }
+        ensures on { WorksOn K.QueueCore C.Clock self.old self.new }
         ensures found { FindsWork I.was K.machine self.old self.new result }
     {
         match self.sender.next_step(rt, intake) {
@@ -270,7 +269,7 @@ impl<C: Clock + Drop, K: QueueCore + Drop> CoreDriver<C, K> {
     fn take_step(&mut self, seat: Seat, what: &Step)
         requires order { IsInOrder K.machine self.old }
         ensures order { IsInOrder K.machine self.new }
-        ensures taken { TakesStep C.given K.machine K.comparisons self.old.timed seat what.now self.new.timed }
+        ensures taken { TakesStep K.QueueCore C.Clock self.old.timed seat what.now self.new.timed }
         ensures marked { self.new.gone.flags.items
             ≡ gone_after seat what.now self.old.gone.flags.items }
         ensures sender { self.new.sender ≡ self.old.sender }
@@ -284,7 +283,7 @@ impl<C: Clock + Drop, K: QueueCore + Drop> CoreDriver<C, K> {
         requires order { IsInOrder K.machine self.old }
         requires none { self.old.timed.outs.given ≡ [] }
         ensures sender { self.new.sender ≡ self.old.sender }
-        ensures on { WorksOn C.given K.machine K.comparisons self.old self.new }
+        ensures on { WorksOn K.QueueCore C.Clock self.old self.new }
         ensures due { self.new.timed.due ≡ next_due (K.machine self.old.timed.core) }
         ensures ticks { result
             ≡ not (is_before self.new.timed.time.moment (next_due (K.machine self.old.timed.core))) }
@@ -299,7 +298,7 @@ impl<C: Clock + Drop, K: QueueCore + Drop> CoreDriver<C, K> {
     // no step.
     fn await_step<R: Wait>(&mut self, rt: &R, intake: &Intake<NoTicks>)
         requires order { IsInOrderAt K.machine intake.now self.old }
-        ensures on { WorksOn C.given K.machine K.comparisons self.old self.new }
+        ensures on { WorksOn K.QueueCore C.Clock self.old self.new }
         ensures rest { self.new ≡ record self.old { polling = self.new.polling } }
         ensures noted { self.new.polling.last ≡ self.old.timed.time.moment }
     {

@@ -1,6 +1,6 @@
 use Rattle.std.proofs.Common.{◌∙◌, arith, subst, sym}
+use Rattle.bq_host.specs.Hubs.{state_of}
 use Rattle.bq_host.proofs.WentLemmas.{new_mails_are}
-use Rattle.bq_event_loop.specs.Meanings.{state}
 use Rattle.bq_event_loop.specs.SoFar.{Beginning}
 use Rattle.bq_event_loop.proofs.RowLemmas.{same_selves, tended_at_first}
 use Rattle.bq_event_loop.proofs.SoFarLemmas.{serving_first, serving_since}
@@ -18,7 +18,7 @@ returns g c =
       ready = (
         new.order,
         tended_at_first g.L.Line g.D.Door (c.requires.doored ∙ sym new.many) new.new_seats c.requires.new_doors,
-        new_mails_are c.args.config (state g.K.QueueCore parts.core) new.made ∙ sym new.many,
+        new_mails_are c.args.config (state_of g.K.QueueCore parts.core) new.made ∙ sym new.many,
         (let many = new.many in omega arith),
       );
       known = known_at_first new.many c.requires.knows new.new_seats;

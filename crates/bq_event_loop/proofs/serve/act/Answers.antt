@@ -28,6 +28,5 @@ returns g c =
       serves = serves_acted c.args.seat c.index_mut.result.now c.attend.new.attendant c.index_mut-2.result.now c.attend.new.door
           ready.1 ready.0.1.doored seat_is door_is goes c.attend.ensures.same refl refl;
       only = changed_one c.attend.new.attendant;
-      wakes = (called g.K.QueueCore.machine g.K.QueueCore.comparisons g.C.Clock.given c.args.seat c.args.core.now c.attend.new.hub goes.0
-          goes.1 goes.2).1;
+      wakes = (called g.K.QueueCore g.C.Clock c.args.seat c.args.core.now c.attend.new.hub goes.0 goes.1 goes.2).1;
     }

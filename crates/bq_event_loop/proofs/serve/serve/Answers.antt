@@ -18,7 +18,7 @@ loop-init g c = record {
   due = inl refl;
   free = λ seat e a. absurd cc;
   still = λ seat e a. absurd cc;
-  stands = c.stands-stands.ensures;
+  stands = c.of-stands.ensures;
 }
 
 pub take_turn-requires : goal.take_turn-requires
@@ -38,7 +38,7 @@ loop-preserved g c =
     let rests = c.end_turn.ensures.keeps.1 later (rested_none g.L.Line g.D.Door later.seats.items later.doors.items) in
     record {
       ready = (
-        order_woken g.K.QueueCore.machine g.K.QueueCore.comparisons c.take_turn.new.core woken same t.order,
+        order_woken g.K.QueueCore c.take_turn.new.core woken same t.order,
         c.end_turn.ensures.keeps.0,
         ap (λ z. length z.mails.items) same ∙ turned.mailed ∙ i.ready.2 ∙ sym turned.many ∙ sym rests.many,
         subst (λ n. n ≤ 65535) (sym (rests.many ∙ turned.many)) i.ready.3,

@@ -7,4 +7,4 @@ returns-then-matches-clause-ready g c =
     let went = c.pass_time-due.ensures.went in (went.0, omega (arith, went.1.0.2.went.many, c.requires.ready.1))
 
 pub returns-else-matches-clause-went : goal.returns-else-matches-clause-went
-returns-else-matches-clause-went g c = went_none g.K.QueueCore.machine g.K.QueueCore.comparisons g.C.Clock.given 0 c.args.hub.now
+returns-else-matches-clause-went g c = went_none g.K.QueueCore g.C.Clock 0 c.args.hub.now

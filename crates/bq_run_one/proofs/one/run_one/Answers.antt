@@ -5,13 +5,14 @@ use Rattle.bq_job.specs.promise.Headline.{IsHistoryOfLine}
 use Rattle.bq_core.specs.CoreState.{CoreState}
 use Rattle.bq_host.specs.Hubs.{state_of}
 use Rattle.bq_host.specs.MailStates.{IsNewMailState}
+use Rattle.bq_host.specs.Meanings.{Core}
 use Rattle.bq_run_one.proofs.one.run_one.Goals as goal
 
 pub serve_line-requires-clause-hub : goal.serve_line-requires-clause-hub
 serve_line-requires-clause-hub g c =
     let made = c.in_ok-hub.ensures.made in
-    let state = state_of (λ (k : CoreState). k.machine) (λ (k : CoreState). k.comparisons) c.in_ok-hub.hub in
-    subst (λ (s : Settings). IsNewMailState s state) (sym (ap (λ (m : Machine). m.settings) made.core)) made
+    let k : Core CoreState = record { machine = λ core. core.machine; comparisons = λ core. core.comparisons } in
+    subst (λ (s : Settings). IsNewMailState s (state_of k c.in_ok-hub.hub)) (sym (ap (λ (m : Machine). m.settings) made.core)) made
 
 pub serve_line-requires-clause-lone : goal.serve_line-requires-clause-lone
 serve_line-requires-clause-lone g c =

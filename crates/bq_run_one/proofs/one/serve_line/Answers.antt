@@ -12,7 +12,7 @@ pub loop-init : goal.loop-init
 loop-init g c =
     let made = c.requires.hub in
     let settings = (g.K.QueueCore.machine c.args.hub.timed.core).settings in
-    let state = state_of g.K.QueueCore.machine g.K.QueueCore.comparisons c.args.hub in
+    let state = state_of g.K.QueueCore c.args.hub in
     let many = new_mails_are settings state made in
     let seats = c.requires.lone in
     record {
@@ -30,23 +30,20 @@ loop-init g c =
 
 pub loop-preserved : goal.loop-preserved
 loop-preserved g c =
-    let machine = g.K.QueueCore.machine in
-    let compared = g.K.QueueCore.comparisons in
     let first = c.args.hub in
     let i = c.loop.invariant.serves in
     let h = c.act-progress.ensures.carried in
     let next = c.act-progress.new.hub in
-    let w = went_then machine compared g.C.Clock.given 0 0 c.loop.hub c.pass_time_before.new.hub next [] h.0 [] h.1 refl
+    let w = went_then g.K.QueueCore g.C.Clock 0 0 c.loop.hub c.pass_time_before.new.hub next [] h.0 [] h.1 refl
     c.pass_time_before.ensures.went h.2 in
     record {
       iterator = (tt, tt);
       serves = (
         i.0 ++ w.0.0,
         w.0.1 first.timed.time.clock i.0 i.1,
-        goes_on_alone c.act-progress.result (machine first.timed.core).settings 0 i.0 w.0.0 (state_of machine compared c.loop.hub)
-            (state_of machine compared next)
-            c.loop.machine c.act-progress.new.machine (g.L.Line.seen c.loop.line) (g.L.Line.seen c.act-progress.new.line)
-            c.loop.action c.act-progress.new.action c.loop.sent
+        goes_on_alone c.act-progress.result (g.K.QueueCore.machine first.timed.core).settings 0 i.0 w.0.0
+            (state_of g.K.QueueCore c.loop.hub) (state_of g.K.QueueCore next) c.loop.machine c.act-progress.new.machine
+            (g.L.Line.seen c.loop.line) (g.L.Line.seen c.act-progress.new.line) c.loop.action c.act-progress.new.action c.loop.sent
             c.act-progress.new.sent h.0 h.1 i.2 w.0.2 h.3.2,
       );
       stays = λ first over. c.act-progress.ensures.stays first (c.loop.invariant.stays first over);
@@ -56,9 +53,8 @@ loop-preserved g c =
 pub returns-in-LineOver-clause-served : goal.returns-in-LineOver-clause-served
 returns-in-LineOver-clause-served g c =
     let i = c.loop.invariant.serves in
-    let machine = g.K.QueueCore.machine in
-    let settings = (machine c.args.hub.timed.core).settings in
-    let state = state_of machine g.K.QueueCore.comparisons c.loop.hub in
+    let settings = (g.K.QueueCore.machine c.args.hub.timed.core).settings in
+    let state = state_of g.K.QueueCore c.loop.hub in
     let end = c.in-LineOver.end in
     let s : IsServingAlone settings 0 i.0 state c.loop.machine (g.L.Line.seen c.loop.line) (actions.LineOver end) c.loop.sent =
     subst (λ (a : Action). IsServingAlone settings 0 i.0 state c.loop.machine (g.L.Line.seen c.loop.line) a c.loop.sent)

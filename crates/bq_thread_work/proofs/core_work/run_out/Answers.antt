@@ -7,24 +7,23 @@ use Rattle.bq_thread_work.proofs.core_work.run_out.Goals as goal
 pub loop-init : goal.loop-init
 loop-init g c = record {
   iterator = (tt, tt);
-  on = on_still _ _ _ c.args.driver c.requires.order.1;
+  on = on_still _ _ c.args.driver c.requires.order.1;
 }
 
 pub loop-preserved : goal.loop-preserved
 loop-preserved g c =
-    record { iterator = (tt, tt); on = on_both _ _ _ c.args.driver c.loop.driver c.turn.new.self c.loop.invariant.on c.turn.ensures.on }
+    record { iterator = (tt, tt); on = on_both _ _ c.args.driver c.loop.driver c.turn.new.self c.loop.invariant.on c.turn.ensures.on }
 
 pub returns-then-turn-clause-ran : goal.returns-then-turn-clause-ran
 returns-then-turn-clause-ran g c settings from first w rings =
     let driver = c.turn.new.self in
     let parts = c.into_parts.ensures in
-    let on = on_both _ _ _ c.args.driver c.loop.driver driver c.loop.invariant.on c.turn.ensures.on in
+    let on = on_both _ _ c.args.driver c.loop.driver driver c.loop.invariant.on c.turn.ensures.on in
     let order = on.order in
     let over = c.turn.ensures.over c.if-turn.true in
     let work = on.work settings from first w in
     let ends : length driver.sender.end.rings ≡ settings.seats + 1 = ap length on.end.1 ∙ rings in
-    let done = worked_all settings from work.0
-    (driver_state g.K.QueueCore.machine g.K.QueueCore.comparisons driver) work.2 over.none_pending ends
+    let done = worked_all settings from work.0 (driver_state g.K.QueueCore driver) work.2 over.none_pending ends
     (order.many ∙ sym order.sender.places.ends ∙ ends) over.all_gone in (
       work.0,
       subst (λ clock. g.C.Clock.given first work.0 clock) (sym parts.2) work.1,

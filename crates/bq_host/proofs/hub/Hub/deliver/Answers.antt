@@ -10,14 +10,14 @@ returns-clause-none g c = λ e. c.in_default.ensures.none refl
 
 pub returns-clause-sorted : goal.returns-clause-sorted
 returns-clause-sorted g c =
-    let state = state_of g.K.QueueCore.machine g.K.QueueCore.comparisons in
+    let state = state_of g.K.QueueCore in
     sorted_moved (state c.args.self.now) (state c.loop-seat.self) (state c.next_pending.new.self) _ _ c.loop-seat.invariant.sorted
     (ap state c.next_pending.ensures.rest)
     (sym (ap (λ h. (state h).pending) c.next_pending.ensures.rest) ∙ sym c.in_default.ensures.pending)
 
 pub returns-in-Err-clause-sorted : goal.returns-in-Err-clause-sorted
 returns-in-Err-clause-sorted g c =
-    let state = state_of g.K.QueueCore.machine g.K.QueueCore.comparisons in
+    let state = state_of g.K.QueueCore in
     let popped = c.next_pending.new.self in
     let rest = c.next_pending.ensures.rest in
     let now : List (List Answer) → MailState = λ ms. record (state popped) {
@@ -40,7 +40,7 @@ returns-in-Err-clause-wakes g c =
 
 pub loop-seat-preserved : goal.loop-seat-preserved
 loop-seat-preserved g c =
-    let state = state_of g.K.QueueCore.machine g.K.QueueCore.comparisons in
+    let state = state_of g.K.QueueCore in
     let rest = c.next_pending.ensures.rest in
     let i = c.loop-seat.invariant in
     record {

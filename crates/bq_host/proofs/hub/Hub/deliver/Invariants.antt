@@ -6,12 +6,11 @@ use Rattle.bq_host.proofs.hub.Hub.deliver.Given as goal
 
 abbrev pub invariant-loop-seat : goal.invariant-loop-seat
 invariant-loop-seat g l = record {
-  sorted : IsSorted (state_of g.K.QueueCore.machine g.K.QueueCore.comparisons l.fn.self)
-      (state_of g.K.QueueCore.machine g.K.QueueCore.comparisons l.self);
+  sorted : IsSorted (state_of g.K.QueueCore l.fn.self) (state_of g.K.QueueCore l.self);
   clock : l.self.timed.time.clock ≡ l.fn.self.timed.time.clock;
   only : OnlyMoves l.fn.self l.self;
   wakes : Wakes l.fn.self.mails.items l.self.mails.items l.fn.self.woken l.self.woken;
 }
 
 abbrev pub decreases-loop-seat : goal.decreases-loop-seat
-decreases-loop-seat g l = length (state_of g.K.QueueCore.machine g.K.QueueCore.comparisons l.self).pending
+decreases-loop-seat g l = length (state_of g.K.QueueCore l.self).pending

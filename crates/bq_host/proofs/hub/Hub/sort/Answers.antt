@@ -5,14 +5,11 @@ pub returns-then-self-clause-none : goal.returns-then-self-clause-none
 returns-then-self-clause-none g c = λ e. c.requires.order.none_pending c.if-self.true
 
 pub returns-then-self-clause-went : goal.returns-then-self-clause-went
-returns-then-self-clause-went g c = (
-  c.requires.order,
-  went_none g.K.QueueCore.machine g.K.QueueCore.comparisons g.C.Clock.given c.args.seat c.args.self.now,
-)
+returns-then-self-clause-went g c = (c.requires.order, went_none g.K.QueueCore g.C.Clock c.args.seat c.args.self.now)
 
 pub returns-clause-went : goal.returns-clause-went
 returns-clause-went g c = (
   c.sort_out.ensures.order,
-  went_sorted g.K.QueueCore.machine g.K.QueueCore.comparisons g.C.Clock.given c.args.seat c.args.self.now c.sort_out.new.self
-      c.sort_out.ensures.sorted c.sort_out.ensures.clock c.sort_out.ensures.wakes,
+  went_sorted g.K.QueueCore g.C.Clock c.args.seat c.args.self.now c.sort_out.new.self c.sort_out.ensures.sorted
+      c.sort_out.ensures.clock c.sort_out.ensures.wakes,
 )

@@ -14,12 +14,12 @@ marked first last sorted s = record {
 
 pub returns-clause-order : goal.returns-clause-order
 returns-clause-order g c =
-    let state = state_of g.K.QueueCore.machine g.K.QueueCore.comparisons in
+    let state = state_of g.K.QueueCore in
     let d = c.deliver-sorts in
     order_sorted (state c.args.self.now) (state (record d.new.self { is_sorted = d.result }))
     (marked (state c.args.self.now) (state d.new.self) d.result d.ensures.sorted) d.ensures.none c.requires.order
 
 pub returns-clause-sorted : goal.returns-clause-sorted
 returns-clause-sorted g c =
-    let state = state_of g.K.QueueCore.machine g.K.QueueCore.comparisons in
+    let state = state_of g.K.QueueCore in
     marked (state c.args.self.now) (state c.deliver-sorts.new.self) c.deliver-sorts.result c.deliver-sorts.ensures.sorted

@@ -5,8 +5,8 @@ use Rattle.bq_host.proofs.hub.Hub.submit.Goals as goal
 
 pub returns-clause-taken : goal.returns-clause-taken
 returns-clause-taken g c = λ e.
-    went_then g.K.QueueCore.machine g.K.QueueCore.comparisons g.C.Clock.given c.args.seat c.args.seat c.args.self.now c.sort.new.self
-    c.take_step.new.self [] (as_submitted c.args.step.now) [] [] refl c.sort.ensures.went.1 c.take_step.ensures.went.1
+    went_then g.K.QueueCore g.C.Clock c.args.seat c.args.seat c.args.self.now c.sort.new.self c.take_step.new.self []
+    (as_submitted c.args.step.now) [] [] refl c.sort.ensures.went.1 c.take_step.ensures.went.1
 
 pub returns-clause-fresh : goal.returns-clause-fresh
 returns-clause-fresh g c =

@@ -1,4 +1,4 @@
-use Rattle.std.proofs.Common.{[], refl, arith, rules}
+use Rattle.std.proofs.Common.{[], arith, rules}
 use Rattle.bq_host.specs.Hubs.{state_of}
 use Rattle.bq_host.proofs.{MailLemmas.{none_taken, seat_takes, still_at}, TimedRunLemmas.gave_none}
 use Rattle.bq_host.proofs.WakeLemmas.{wakes_taken}
@@ -11,8 +11,8 @@ returns-clause-went g c = (
     (
       [],
       gave_none g.C.Clock.given c.args.self.now.timed.time.clock,
-      seat_takes (state_of g.K.QueueCore.machine g.K.QueueCore.comparisons c.args.self.now) c.args.seat c.from.result
-          c.index_mut.result.now c.take_first.new.self _ c.from.ensures (let e = c.from.ensures in let b = c.requires.ready.1 in
+      seat_takes (state_of g.K.QueueCore c.args.self.now) c.args.seat c.from.result c.index_mut.result.now c.take_first.new.self _
+          c.from.ensures (let e = c.from.ensures in let b = c.requires.ready.1 in
           omega arith) c.index_mut.ensures.value c.take_first.ensures.oldest,
     ),
     wakes_taken c.args.self.now.mails.items c.from.result c.index_mut.result.now c.take_first.new.self _ c.args.self.now.woken

@@ -19,19 +19,16 @@ none_ticks false due none = refl
 pub returns-clause-same : goal.returns-clause-same
 returns-clause-same g c = λ no.
     let t = c.tick_if_due-is_due in
-    machine_over g.K.QueueCore.machine g.K.QueueCore.comparisons g.C.Clock.given c.sort-may_tick.new.self.timed t.new.self
-    (t.ensures.over (none_ticks c.sort-may_tick.result t.result no))
-    ∙ ap (λ d. d.core) c.sort-may_tick.ensures.sorted.rest
+    machine_over g.K.QueueCore g.C.Clock c.sort-may_tick.new.self.timed t.new.self
+    (t.ensures.over (none_ticks c.sort-may_tick.result t.result no)) ∙ ap (λ d. d.core) c.sort-may_tick.ensures.sorted.rest
 
 pub returns-clause-went : goal.returns-clause-went
 returns-clause-went g c =
-    let machine = g.K.QueueCore.machine in
-    let compared = g.K.QueueCore.comparisons in
     let s = c.sort-may_tick in
     let t = c.tick_if_due-is_due in
-    let passed = went_passed machine compared g.C.Clock.given s.new.self t.new.self s.result t.result t.ensures.ready t.ensures.settings
+    let passed = went_passed g.K.QueueCore g.C.Clock s.new.self t.new.self s.result t.result t.ensures.ready t.ensures.settings
     t.ensures.over t.ensures.ticked s.ensures.none s.ensures.went.0 in (
       passed.0,
-      went_then machine compared g.C.Clock.given 0 0 c.args.self.now s.new.self
+      went_then g.K.QueueCore g.C.Clock 0 0 c.args.self.now s.new.self
           (record s.new.self { timed = t.new.self; is_sorted = s.result && not t.result }) [] [] [] [] refl s.ensures.went.1 passed.1,
     )

@@ -14,9 +14,6 @@ returns-clause-ready g c =
 pub returns-clause-ticked : goal.returns-clause-ticked
 returns-clause-ticked g c first h =
     let s = c.step_in_place in
-    let machine = g.K.QueueCore.machine in
-    let compared = g.K.QueueCore.comparisons in
-    let old = c.args.self.now in
     record {
       reading = h.0;
       outcome = record { left_out = s.new.outs.left_out; unshared = s.new.outs.unshared };
@@ -24,5 +21,5 @@ returns-clause-ticked g c first h =
       step = rw (ap (λ (t : TimedCore _ _). t.core) h.2) at s.ensures.comparisons;
       unknown = refl;
       most = s.ensures.most ∙ ap (λ (t : TimedCore _ _). t.outs.most) h.2;
-      settings = s.ensures.settings ∙ ap (λ (t : TimedCore _ _). (machine t.core).settings) h.2;
+      settings = s.ensures.settings ∙ ap (λ (t : TimedCore _ _). (g.K.QueueCore.machine t.core).settings) h.2;
     }

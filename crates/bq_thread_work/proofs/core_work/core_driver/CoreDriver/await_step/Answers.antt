@@ -4,4 +4,4 @@ use Rattle.bq_thread_work.proofs.core_work.core_driver.CoreDriver.await_step.Goa
 pub returns-clause-on : goal.returns-clause-on
 returns-clause-on g c =
     let old = c.args.self.now in
-    rw c.look_often.ensures (on_paced _ _ _ old old.yielding c.begin-looks.new.self c.requires.order.1)
+    rw c.look_often.ensures (on_paced _ _ old old.yielding c.begin-looks.new.self c.requires.order.1)

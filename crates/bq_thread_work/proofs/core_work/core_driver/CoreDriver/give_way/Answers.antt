@@ -7,8 +7,7 @@ use Rattle.bq_thread_work.proofs.core_work.core_driver.CoreDriver.give_way.Goals
 pub yield_once-took-requires : goal.yield_once-took-requires
 yield_once-took-requires g c =
     let old = c.args.self.now in
-    let paced = on_paced g.C.Clock.given g.K.QueueCore.machine g.K.QueueCore.comparisons old c.is_yield_next.new.self.yielding old.polling
-    c.requires.order.1 in
+    let paced = on_paced g.K.QueueCore g.C.Clock old c.is_yield_next.new.self.yielding old.polling c.requires.order.1 in
     record { order = rw c.is_yield_next.ensures.rest paced.order }
 
 pub returns-then-is_yield_next-clause-on : goal.returns-then-is_yield_next-clause-on
@@ -16,16 +15,16 @@ returns-then-is_yield_next-clause-on g c =
     let old = c.args.self.now in
     let counted = c.is_yield_next.new.self in
     let yielded = c.yield_once-took.new.self in
-    let first = subst (λ (h : CoreDriver _ _). WorksOn g.C.Clock.given g.K.QueueCore.machine g.K.QueueCore.comparisons old h)
-    (sym c.is_yield_next.ensures.rest) (on_paced _ _ _ old counted.yielding old.polling c.requires.order.1) in
-    on_both _ _ _ old yielded _ (on_both _ _ _ old counted yielded first c.yield_once-took.ensures.on)
-    (on_paced _ _ _ yielded c.is_slow.new.self yielded.polling c.yield_once-took.ensures.on.order)
+    let first = subst (λ (h : CoreDriver _ _). WorksOn g.K.QueueCore g.C.Clock old h) (sym c.is_yield_next.ensures.rest)
+    (on_paced _ _ old counted.yielding old.polling c.requires.order.1) in
+    on_both _ _ old yielded _ (on_both _ _ old counted yielded first c.yield_once-took.ensures.on)
+    (on_paced _ _ yielded c.is_slow.new.self yielded.polling c.yield_once-took.ensures.on.order)
 
 pub returns-else-is_yield_next-clause-on : goal.returns-else-is_yield_next-clause-on
 returns-else-is_yield_next-clause-on g c =
     let old = c.args.self.now in
-    subst (λ (h : CoreDriver _ _). WorksOn g.C.Clock.given g.K.QueueCore.machine g.K.QueueCore.comparisons old h)
-    (sym c.is_yield_next.ensures.rest) (on_paced _ _ _ old c.is_yield_next.new.self.yielding old.polling c.requires.order.1)
+    subst (λ (h : CoreDriver _ _). WorksOn g.K.QueueCore g.C.Clock old h) (sym c.is_yield_next.ensures.rest)
+    (on_paced _ _ old c.is_yield_next.new.self.yielding old.polling c.requires.order.1)
 
 pub returns-then-is_yield_next-clause-rest : goal.returns-then-is_yield_next-clause-rest
 returns-then-is_yield_next-clause-rest g c =

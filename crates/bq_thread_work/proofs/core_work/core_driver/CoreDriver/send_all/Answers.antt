@@ -22,7 +22,6 @@ returns-clause-on g c =
       work = λ settings from first w. (
         w.0,
         w.1,
-        worked_sent settings from w.0 (driver_state g.K.QueueCore.machine g.K.QueueCore.comparisons c.args.self.now) _ w.2
-            c.send_all.ensures.sent refl refl,
+        worked_sent settings from w.0 (driver_state g.K.QueueCore c.args.self.now) _ w.2 c.send_all.ensures.sent refl refl,
       );
     }

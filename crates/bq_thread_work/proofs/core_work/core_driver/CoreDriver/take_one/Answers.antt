@@ -20,8 +20,6 @@ returns-in-Some-clause-on g c =
     let t = c.take_step.ensures.taken in
     let old = c.args.self.now in
     let new = c.take_step.new.self in
-    let machine = g.K.QueueCore.machine in
-    let compared = g.K.QueueCore.comparisons in
     let sender = c.take_step.ensures.sender ∙ c.in-Some.ensures.taken in
     let end = ap (λ (s : Sender). s.end) sender in
     record {
@@ -29,10 +27,10 @@ returns-in-Some-clause-on g c =
       end = (ap (λ (e : CoreState). e.intake) end, ap (λ (e : CoreState). e.rings) end);
       settings = t.settings;
       work = λ settings from first w.
-          let r = timed_step machine compared g.C.Clock.given old.timed new.timed c.in-Some.taken.0 c.in-Some.taken.1 t in (
+          let r = timed_step g.K.QueueCore g.C.Clock old.timed new.timed c.in-Some.taken.0 c.in-Some.taken.1 t in (
             w.0 ++ r.0,
             r.1 first w.0 w.1,
-            worked_step settings from w.0 r.0 (driver_state machine compared old) (driver_state machine compared new) new.timed.time.moment
+            worked_step settings from w.0 r.0 (driver_state g.K.QueueCore old) (driver_state g.K.QueueCore new) new.timed.time.moment
                 c.in-Some.taken.0 c.in-Some.taken.1 new.timed.outs.given c.in-Some.ensures.number w.2 r.2 end
                 (pending_on new.sender.kept.items old.sender.kept.items old.timed.outs.given new.timed.outs.given
                 (ap (λ (s : Sender). s.kept.items) sender) c.requires.none) c.take_step.ensures.marked,

@@ -39,7 +39,7 @@ returns-then-is_over-clause-stuck g c = c.send_all-has_room.ensures.stuck
 
 pub returns-clause-on : goal.returns-clause-on
 returns-clause-on g c =
-    on_both _ _ _ c.args.self.now c.send_all-has_room.new.self c.work.new.self c.send_all-has_room.ensures.on c.work.ensures.on
+    on_both _ _ c.args.self.now c.send_all-has_room.new.self c.work.new.self c.send_all-has_room.ensures.on c.work.ensures.on
 
 pub returns-clause-stuck : goal.returns-clause-stuck
 returns-clause-stuck g c = c.work.ensures.stuck c.send_all-has_room.ensures.stuck

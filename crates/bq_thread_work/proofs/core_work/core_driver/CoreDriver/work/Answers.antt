@@ -17,12 +17,12 @@ await_step-requires g c = record {
 }
 
 pub returns-then-not-go_on-clause-on : goal.returns-then-not-go_on-clause-on
-returns-then-not-go_on-clause-on g c = on_both _ _ _ c.args.self.now c.go_on.new.self c.await_step.new.self
-    (on_both _ _ _ c.args.self.now c.give_way.new.self c.go_on.new.self c.give_way.ensures.on c.go_on.ensures.on) c.await_step.ensures.on
+returns-then-not-go_on-clause-on g c = on_both _ _ c.args.self.now c.go_on.new.self c.await_step.new.self
+    (on_both _ _ c.args.self.now c.give_way.new.self c.go_on.new.self c.give_way.ensures.on c.go_on.ensures.on) c.await_step.ensures.on
 
 pub returns-else-not-go_on-clause-on : goal.returns-else-not-go_on-clause-on
 returns-else-not-go_on-clause-on g c =
-    on_both _ _ _ c.args.self.now c.give_way.new.self c.go_on.new.self c.give_way.ensures.on c.go_on.ensures.on
+    on_both _ _ c.args.self.now c.give_way.new.self c.go_on.new.self c.give_way.ensures.on c.go_on.ensures.on
 
 pub returns-then-not-go_on-clause-stuck : goal.returns-then-not-go_on-clause-stuck
 returns-then-not-go_on-clause-stuck g c = λ before.

@@ -3,5 +3,5 @@ use Rattle.bq_thread_work.proofs.core_work.core_driver.CoreDriver.yield_once.Goa
 
 pub returns-clause-on : goal.returns-clause-on
 returns-clause-on g c =
-    on_both g.C.Clock.given g.K.QueueCore.machine g.K.QueueCore.comparisons c.args.self.now c.hear_start.new.self c.hear.new.self
-    c.hear_start.ensures.on c.hear.ensures.on
+    on_both g.K.QueueCore g.C.Clock c.args.self.now c.hear_start.new.self c.hear.new.self c.hear_start.ensures.on
+    c.hear.ensures.on
