@@ -1,11 +1,10 @@
 -- Seats that the turns of a loop let act before they sleep.
-use Rattle.std.proofs.Common.{ℕ, zero, suc, ◌≡◌, ◌≢◌, ◌⊎◌, inl, inr, ◌+◌, ◌≤◌, ◌<◌, ◌==◌, ◌&&◌, ◌||◌, not, nat_lt, Bool, true, false}
+use Rattle.std.proofs.Common.{ℕ, zero, suc, ◌≡◌, ◌≢◌, ◌⊎◌, inl, inr, ◌+◌, ◌≤◌, ◌<◌, ◌==◌, not, nat_lt, Bool, true, false}
 use Rattle.std.proofs.Common.{List, [], ◌∷◌, ◌++◌, length, slice_set, slice_index_or, if◌then◌else◌, Option, Some, None, refl, sym, ap}
 use Rattle.std.proofs.Common.{◌∙◌, subst, arith}
 use Rattle.std.specs.Option.{option_to_list}
 use Rattle.std.specs.Prelude.{slice_get}
-use Rattle.std.proofs.Math.Bool.{or-false}
-use Rattle.std.proofs.lemmas.Bool.{eq-eqb, eqb-true, lt-ltb, or_cases, or_left, or_parts, or_right}
+use Rattle.std.proofs.lemmas.Bool.{eq-eqb, or_parts, or_right}
 use Rattle.std.proofs.lemmas.Bool.Decides.{eqb_tells, nat_tests}
 use Rattle.std.proofs.lemmas.List.{get_or-set_other, get_or-set_same, length-set}
 use Rattle.std.proofs.lemmas.List.Sums.{sum_by-cons}
@@ -19,12 +18,14 @@ use Rattle.bq_line.specs.declared.attendant.LinePlace.TheVariants as places
 use Rattle.bq_seat.specs.declared.machine.Action.{Action}
 use Rattle.bq_seat.specs.declared.machine.Action.TheVariants as actions
 use Rattle.bq_host.proofs.MarkLemmas.{one_if, times_push}
-use Rattle.bq_event_loop.specs.Known.{AreApart, AreIdle, AreKnown, AreKnownTo, AreSameLists, ChangesOnly, ChangesOnlyIn, IsKnown}
+use Rattle.bq_event_loop.specs.Keeping.{Chooses, KeepsSeat, KeepsSeats}
+use Rattle.bq_event_loop.specs.Known.{AreIdle, AreKnown, AreSameLists, ChangesOnly, ChangesOnlyIn, IsKnown}
 use Rattle.bq_event_loop.specs.Known.{IsListedIn, IsNextOf, IsTaken, KnowsAll, is_listed, is_looking, is_on, is_visited}
 use Rattle.bq_event_loop.specs.Meanings.{Line}
 use Rattle.bq_event_loop.specs.Listings.{Listing, all_free, enqueued, falling, freed, is_nowhere}
 use Rattle.bq_host.specs.Marks.{times}
 use Rattle.bq_event_loop.specs.Still.{IsStill, IsStillAt, IsStillOn}
+use Rattle.bq_event_loop.specs.declared.order.Order.{Order}
 use Rattle.bq_event_loop.specs.declared.turns.Turn.{Turn}
 use Rattle.bq_event_loop.specs.declared.turns.Turn.TheVariants as turns
 use Rattle.bq_host.specs.WakeLists.{WakeList, Wakes, none_waits}
@@ -50,247 +51,166 @@ changed_then h k = record {
   others = λ t differs x. k.others t differs x ∙ h.others t differs x;
 }
 
-on_some : (xs : List ℕ) (i : ℕ) → is_on xs i ≡ true → 0 < times i xs
-on_some xs i is = some (times i xs) is where
-  some : (n : ℕ) → not (n == 0) ≡ true → 0 < n
-  some n is = grind (arith, nat_tests)
-
 some_on : (xs : List ℕ) (i : ℕ) → 0 < times i xs → is_on xs i ≡ true
 some_on xs i there = on (times i xs) there where
   on : (n : ℕ) → 0 < n → not (n == 0) ≡ true
   on n there = grind (arith, nat_tests)
 
-left_only : (b : Bool) → (b || false) ≡ true → b ≡ true
-left_only true e = refl
-left_only false e = absurd cc
-
--- A list with one seat more, the first or the last.
-one_more : (n m : ℕ) (e : Bool) → m ≡ n + one_if e → not (m == 0) ≡ (not (n == 0) || e)
-one_more n m e is = grind (arith, nat_tests)
-
-on_cons : (i : ℕ) (xs : List ℕ) (t : ℕ) → is_on (i ∷ xs) t ≡ (is_on xs t || (i == t))
-on_cons i xs t = one_more (times t xs) (times t (i ∷ xs)) (i == t) (omega (arith, sum_by-cons (λ x. one_if (x == t)) i xs))
-
-on_push : (i : ℕ) (xs : List ℕ) (t : ℕ) → is_on (xs ++ i ∷ []) t ≡ (is_on xs t || (i == t))
-on_push i xs t = one_more (times t xs) (times t (xs ++ i ∷ [])) (i == t) (times_push t xs i)
-
-nowhere_none : (i : ℕ) (l : Listing) → is_nowhere i l ≡ true → times i l.queue + times i l.free ≡ 0
-nowhere_none i l is = none (nat_lt i l.seats) (times i l.queue + times i l.free) is where
-  none : (below : Bool) (n : ℕ) → (below && (n == 0)) ≡ true → n ≡ 0
-  none below n is = grind (arith, nat_tests)
-
-somewhere : (i : ℕ) (l : Listing) → i < l.seats → is_nowhere i l ≡ false → 0 < times i l.queue + times i l.free
-somewhere i l below is = some (nat_lt i l.seats) (times i l.queue + times i l.free) (lt-ltb i l.seats below) is where
-  some : (there : Bool) (n : ℕ) → there ≡ true → (there && (n == 0)) ≡ false → 0 < n
-  some there n below is = grind (arith, nat_tests)
-
-free_none : (i : ℕ) (l : Listing) → (is_on l.free i ≡ true → ⊥) → times i l.free ≡ 0
-free_none i l none = by (eqb_tells (times i l.free) 0) where
-  by : ((times i l.free == 0) ≡ true) × (times i l.free ≡ 0) ⊎ ((times i l.free == 0) ≡ false) × (times i l.free ≢ 0) → times i l.free ≡ 0
-  by (inl (_, is)) = is
-  by (inr (_, differs)) = absurd (none (some_on l.free i (omega (arith, differs))))
-
-on_none : (xs : List ℕ) (t : ℕ) → times t xs ≡ 0 → is_on xs t ≡ true → ⊥
-on_none xs t none on = omega (arith, none, on_some xs t on)
-
--- The numbers that turns go by were changed, the seats and their mail were not.
-pub known_as : {L : Type 0} (line : Line L) (many later_many : ℕ) (listed looks later later_looks : ℕ
-    → Bool) (seats : List (Attendant L))
-    (mails : List (List Answer))
-    → later_many ≡ many → AreApart later later_looks
-    → ((t : ℕ) → later_looks t ≡ true → (looks t ≡ true) ⊎ ((a : Attendant L) → (slice_index_or seats t a).place ≡ places.Between))
-    → ((t : ℕ) → t < length seats → listed t ≡ true → (later t ≡ true) ⊎ (later_looks t ≡ true)
-    ⊎ ((a : Attendant L) → IsStill line (slice_index_or seats t a) (slice_index_or mails t [])))
-    → ((t : ℕ) → t < length seats → looks t ≡ true → (later t ≡ true) ⊎ (later_looks t ≡ true))
+-- The turns let other seats act, and kept each seat. The seats and their mail were not changed.
+pub known_as : {L : Type 0} {line : Line L} {many later_many : ℕ} {listed looks later later_looks : ℕ → Bool} {Still Free : ℕ → Type 0}
+    {seats : List (Attendant L)} {mails : List (List Answer)} → later_many ≡ many
+    → ((t : ℕ) → KeepsSeat (t < many) (Still t) (Free t) (listed t) (looks t) (later t) (later_looks t))
+    → ((t : ℕ) → Still t → (a : Attendant L) → IsStill line (slice_index_or seats t a) (slice_index_or mails t []))
+    → ((t : ℕ) → Free t → (a : Attendant L) → (slice_index_or seats t a).place ≡ places.Between)
     → AreKnown line many listed looks [] seats mails → AreKnown line later_many later later_looks [] seats mails
-known_as {L} line many later_many listed looks later later_looks seats mails same_many apart before acts checks k = record {
-  all = omega (arith, same_many, k.all);
-  apart = apart;
-  looking = λ t below is a. by t below a (before t is);
-  known = λ t below a. at t below a (k.known t below a);
-}
+known_as {L} {line} {many} {later_many} {listed} {looks} {later} {later_looks} {Still} {Free} {seats} {mails} same each still free k =
+    record {
+      all = omega (arith, same, k.all);
+      apart = λ t checks acts. let both = (each t).apart checks acts in k.apart t both.0 both.1;
+      looking = λ t below checks a. elim ((each t).looking checks) [
+        | inl was ↦ k.looking t below was a
+        | inr is ↦ free t is a
+      ];
+      known = λ t below a. at t below a (k.known t below a);
+    }
   where
-    by : (t : ℕ) → t < length seats → (a : Attendant L)
-        → (looks t ≡ true) ⊎ ((a : Attendant L) → (slice_index_or seats t a).place ≡ places.Between)
-        → (slice_index_or seats t a).place ≡ places.Between
-    by t below a (inl is) = k.looking t below is a
-    by t below a (inr is) = is a
+    kept : (t : ℕ) (a : Attendant L) → (later t ≡ true) ⊎ (later_looks t ≡ true) ⊎ Still t
+        → IsKnown (later t) (later_looks t) (times t []) (IsStill line (slice_index_or seats t a) (slice_index_or mails t []))
+    kept t a (inl acts) = inl acts
+    kept t a (inr (inl checks)) = inr (inl checks)
+    kept t a (inr (inr is)) = inr (inr (inr (still t is a)))
 
     at : (t : ℕ) → t < length seats → (a : Attendant L)
         → IsKnown (listed t) (looks t) (times t []) (IsStill line (slice_index_or seats t a) (slice_index_or mails t []))
         → IsKnown (later t) (later_looks t) (times t []) (IsStill line (slice_index_or seats t a) (slice_index_or mails t []))
-    at t below a (inl is) = elim (acts t below is) [
-      | inl on ↦ inl on
-      | inr (inl on) ↦ inr (inl on)
-      | inr (inr still) ↦ inr (inr (inr (still a)))
-    ]
-    at t below a (inr (inl is)) = elim (checks t below is) [
-      | inl on ↦ inl on
-      | inr on ↦ inr (inl on)
-    ]
+    at t below a (inl acts) = kept t a ((each t).known (omega (arith, below, k.all)) (inl acts))
+    at t below a (inr (inl checks)) = kept t a ((each t).known (omega (arith, below, k.all)) (inr checks))
     at t below a (inr (inr (inl waits))) = absurd (omega (arith, waits))
-    at t below a (inr (inr (inr still))) = inr (inr (inr still))
+    at t below a (inr (inr (inr rests))) = inr (inr (inr rests))
 
-module _ {L : Type 0} {line : Line L} {seats : List (Attendant L)} {mails : List (List Answer)} where
-  -- The same seats are let act, and the same check for a client.
-  known_alike : (l later : Listing) (old new : Option ℕ) → later.seats ≡ l.seats
-      → ((t : ℕ) → is_listed later new t ≡ is_listed l old t) → ((t : ℕ) → is_looking later t ≡ is_looking l t)
-      → AreKnownTo line l old seats mails → AreKnownTo line later new seats mails
-  known_alike l later old new same acts checks k =
-      known_as line l.seats later.seats (is_listed l old) (is_looking l) (is_listed later new) (is_looking later) seats mails same
-      (λ t looks on. k.apart t (sym (checks t) ∙ looks) (sym (acts t) ∙ on))
-      (λ t looks. inl (sym (checks t) ∙ looks))
-      (λ t below on. inl (acts t ∙ on))
-      (λ t below looks. inr (checks t ∙ looks))
-      k
+same_times : (l : Listing) (i t : ℕ) → i ≡ t → times i l.queue + times i l.free ≡ times t l.queue + times t l.free
+same_times l i t = ap (λ n. times n l.queue + times n l.free)
 
-  -- A seat that checks for a client is taken out, as the one that is visited.
-  pub known_checks : {l later : Listing} (i : ℕ) → l.free ≡ later.free ++ i ∷ [] → times i later.free ≡ 0
-      → later ≡ record l { free = later.free }
-      → AreKnownTo line l None seats mails → AreKnownTo line later (Some i) seats mails
-  known_checks {l} {later} i last gone same k =
-      known_as line l.seats later.seats (is_listed l None) (is_looking l) (is_listed later (Some i)) (is_looking later) seats
-      mails (ap (λ z. z.seats) same)
-      (λ t looks on. apart t looks (or_cases _ _ on))
-      (λ t looks. inl (more t looks))
-      (λ t below on. inl (or_left (is_on later.queue t) (i == t) (subst (λ q. is_on q t ≡ true) (sym queue) (left_only (is_on l.queue
-      t) on))))
-      (λ t below looks. less t looks)
-      k
-    where
-      queue : later.queue ≡ l.queue
-      queue = ap (λ z. z.queue) same
-
-      free : (t : ℕ) → is_on l.free t ≡ (is_on later.free t || (i == t))
-      free t = ap (λ f. is_on f t) last ∙ on_push i later.free t
-
-      more : (t : ℕ) → is_on later.free t ≡ true → is_on l.free t ≡ true
-      more t on = free t ∙ or_left (is_on later.free t) (i == t) on
-
-      apart : (t : ℕ) → is_on later.free t ≡ true → (is_on later.queue t ≡ true) ⊎ ((i == t) ≡ true) → ⊥
-      apart t looks (inl on) = k.apart t (more t looks) (or_left (is_on l.queue t) false (subst (λ q. is_on q t ≡ true) queue on))
-      apart t looks (inr same) = on_none later.free t (subst (λ n. times n later.free ≡ 0) (eqb-true i t same) gone) looks
-
-      less : (t : ℕ) → is_on l.free t ≡ true → (is_listed later (Some i) t ≡ true) ⊎ (is_on later.free t ≡ true)
-      less t on = elim (or_cases (is_on later.free t) (i == t) (sym (free t) ∙ on)) [
-        | inl looks ↦ inr looks
-        | inr same ↦ inl (or_right (is_on later.queue t) (i == t) same)
-      ]
-
-  -- The next seat is visited. It was taken out of the queue, or it stays there.
-  pub known_next : {l later : Listing} {i : ℕ} → IsTaken i l later
-      → AreKnownTo line l None seats mails → AreKnownTo line later (Some i) seats mails
-  known_next {l} {later} {i} is = known_alike l later None (Some i) is.seats (λ t. acts t is.queue) (λ t. ap (λ f. is_on f t) is.free) where
-    acts : (t : ℕ) → (l.queue ≡ i ∷ later.queue) ⊎ ((is_on l.queue i ≡ true) × (later.queue ≡ l.queue))
-        → (is_on later.queue t || (i == t)) ≡ (is_on l.queue t || false)
-    acts t (inl first) = sym (ap (λ q. is_on q t) first ∙ on_cons i later.queue t) ∙ sym (or-false (is_on l.queue t))
-    acts t (inr (there, same)) = ap (λ q. is_on q t || (i == t)) same ∙ elim (eqb_tells i t) [
-      | inl (test, is) ↦ or_right (is_on l.queue t) (i == t) test
-          ∙ sym (or_left (is_on l.queue t) false (subst (λ n. is_on l.queue n ≡ true) is there))
-      | inr (test, _) ↦ ap (λ b. is_on l.queue t || b) test
-    ]
-
-  pub known_same : {l later : Listing} (visited : Option ℕ) → AreSameLists l later
-      → AreKnownTo line l visited seats mails → AreKnownTo line later visited seats mails
-  known_same {l} {later} visited same =
-      known_alike l later visited visited same.seats (λ t. ap (λ q. is_on q t || is_visited visited t) same.queue)
-      (λ t. ap (λ f. is_on f t) same.free)
+module _ {still free : Option ℕ} where
+  -- The lists stay as they are, and no seat is visited.
+  pub keeps_same : {l mid later : Listing} {next : Option ℕ} → AreSameLists l mid → AreSameLists mid later → next ≡ None
+      → KeepsSeats still free l None later next
+  keeps_same {l} {mid} {later} h k none = subst (λ n. KeepsSeats still free l None later n) (sym none) (record {
+    seats = k.seats ∙ h.seats;
+    each = λ t.
+        let q = ap (λ z. times t z) (k.queue ∙ h.queue) in
+        let f = ap (λ z. times t z) (k.free ∙ h.free) in
+        grind (arith, nat_tests);
+  })
 
   -- Seats changed places in the queue, and a part of a round began.
-  pub known_moved : (l : Listing) {mid later : Listing} {queue : List ℕ} {round at : ℕ} → mid ≡ record l { queue = queue }
+  pub keeps_moved : {l mid later : Listing} {queue : List ℕ} {round at : ℕ} → mid ≡ record l { queue = queue }
       → ((t : ℕ) → times t mid.queue ≡ times t l.queue) → later ≡ record mid { round = round; at = at }
-      → AreKnownTo line l None seats mails → AreKnownTo line later None seats mails
-  known_moved l {mid} {later} moved same began =
-      known_alike l later None None (ap (λ z. z.seats) began ∙ ap (λ z. z.seats) moved)
-      (λ t. ap (λ z. is_on z.queue t || false) began ∙ ap (λ n. not (n == 0) || false) (same t))
-      (λ t. ap (λ z. is_on z.free t) began ∙ ap (λ z. is_on z.free t) moved)
+      → KeepsSeats still free l None later None
+  keeps_moved {l} {mid} {later} moved same began = record {
+    seats = ap (λ z. z.seats) began ∙ ap (λ z. z.seats) moved;
+    each = λ t.
+        let q = ap (λ z. times t z.queue) began ∙ same t in
+        let f = ap (λ z. times t z.free) began ∙ ap (λ z. times t z.free) moved in
+        grind (arith, nat_tests);
+  }
 
-  -- A seat is not visited any more that is in the queue, or at which nothing moves.
-  known_left : (l : Listing) (i : ℕ)
-      → (i < length seats → (is_on l.queue i ≡ true)
-      ⊎ ((a : Attendant L) → IsStill line (slice_index_or seats i a) (slice_index_or mails i [])))
-      → AreKnownTo line l (Some i) seats mails → AreKnownTo line l None seats mails
-  known_left l i left k =
-      known_as line l.seats l.seats (is_listed l (Some i)) (is_looking l) (is_listed l None) (is_looking l) seats mails refl
-      (λ t looks on. k.apart t looks (or_left (is_on l.queue t) (i == t) (left_only _ on)))
-      (λ t looks. inl looks)
-      (λ t below on. after t below (or_cases _ _ on))
-      (λ t below looks. inr looks)
-      k
-    where
-      after : (t : ℕ) → t < length seats → (is_on l.queue t ≡ true) ⊎ ((i == t) ≡ true)
-          → (is_listed l None t ≡ true) ⊎ (is_looking l t ≡ true)
-          ⊎ ((a : Attendant L) → IsStill line (slice_index_or seats t a) (slice_index_or mails t []))
-      after t below (inl on) = inl (or_left (is_on l.queue t) false on)
-      after t below (inr same) =
-          let is : i ≡ t = eqb-true i t same in
-          elim (left (omega (arith, is, below))) [
-            | inl on ↦ inl (or_left (is_on l.queue t) false (subst (λ n. is_on l.queue n ≡ true) is on))
-            | inr still ↦ inr (inr (λ a. subst (λ n. IsStill line (slice_index_or seats n a) (slice_index_or mails n [])) is (still a)))
-          ]
+  -- A seat that checks for a client is taken out, as the one that is visited.
+  pub keeps_checks : {l later : Listing} {i : ℕ} → l.free ≡ later.free ++ i ∷ [] → times i later.free ≡ 0
+      → later ≡ record l { free = later.free } → KeepsSeats still free l None later (Some i)
+  keeps_checks {l} {later} {i} last gone same = record {
+    seats = ap (λ z. z.seats) same;
+    each = λ t.
+        let q = ap (λ z. times t z.queue) same in
+        let f = ap (λ z. times t z) last ∙ times_push t later.free i in
+        grind (arith, nat_tests);
+  }
 
-  -- If the visited seat is in a list already, it is in the queue.
-  known_queued : (l : Listing) (i : ℕ) → is_nowhere i l ≡ false → AreKnownTo line l (Some i) seats mails
-      → AreKnownTo line l None seats mails
-  known_queued l i kept k = known_left l i (λ below. inl (there below)) k where
-    there : i < length seats → is_on l.queue i ≡ true
-    there below =
-        let none = free_none i l (λ looks. k.apart i looks (or_right (is_on l.queue i) (i == i) (eq-eqb i i refl))) in
-        some_on l.queue i (omega (arith, somewhere i l (omega (arith, below, k.all)) kept, none))
+  -- The next seat is visited. It was taken out of the queue, or it stays there.
+  pub keeps_next : {l later : Listing} {i j : ℕ} → IsTaken i l later → j ≡ i → KeepsSeats still free l None later (Some j)
+  keeps_next {l} {later} {i} {j} is same = record {
+    seats = is.seats;
+    each = λ t. let f = ap (λ z. times t z) is.free in elim is.queue [
+      | inl first ↦ let q = ap (λ z. times t z) first ∙ sum_by-cons (λ x. one_if (x == t)) i later.queue in grind (arith, nat_tests)
+      | inr (there, stays) ↦ let q = ap (λ z. times t z) stays in grind (arith, nat_tests)
+    ];
+  }
 
-  -- The visited seat goes to the queue.
-  pub known_enqueued : (l : Listing) (i : ℕ) {later : Listing} → later ≡ enqueued i l
-      → AreKnownTo line l (Some i) seats mails → AreKnownTo line later None seats mails
-  known_enqueued l i {later} is k = by (is_nowhere i l) refl is where
-    by : (b : Bool) → is_nowhere i l ≡ b → later ≡ (if b then record l { queue = l.queue ++ i ∷ [] } else l)
-        → AreKnownTo line later None seats mails
-    by true gone same =
-        subst (λ (z : Listing). AreKnownTo line z None seats mails) (sym same)
-        (known_alike l (record l { queue = l.queue ++ i ∷ [] }) (Some i) None refl
-        (λ t. or-false (is_on (l.queue ++ i ∷ []) t) ∙ on_push i l.queue t) (λ t. refl) k)
-    by false kept same = subst (λ (z : Listing). AreKnownTo line z None seats mails) (sym same) (known_queued l i kept k)
-
-  -- The visited seat found no client, and is between two connections.
-  pub known_freed : (l : Listing) (i : ℕ) {later : Listing} → later ≡ freed i l
-      → ((a : Attendant L) → (slice_index_or seats i a).place ≡ places.Between)
-      → AreKnownTo line l (Some i) seats mails → AreKnownTo line later None seats mails
-  known_freed l i {later} is between k = by (is_nowhere i l) refl is where
-    apart : (t : ℕ) → is_nowhere i l ≡ true → is_on l.queue t ≡ true → (is_on l.free t ≡ true) ⊎ ((i == t) ≡ true) → ⊥
-    apart t gone on (inl looks) = k.apart t looks (or_left (is_on l.queue t) (i == t) on)
-    apart t gone on (inr same) =
-        let there = on_some l.queue i (subst (λ n. is_on l.queue n ≡ true) (sym (eqb-true i t same)) on) in
-        omega (arith, nowhere_none i l gone, there)
-
-    looked : (t : ℕ) → (is_on l.free t ≡ true) ⊎ ((i == t) ≡ true)
-        → (is_looking l t ≡ true) ⊎ ((a : Attendant L) → (slice_index_or seats t a).place ≡ places.Between)
-    looked t (inl looks) = inl looks
-    looked t (inr same) =
-        inr (λ a. subst (λ n. (slice_index_or seats n a).place ≡ places.Between) (eqb-true i t same) (between a))
-
-    after : (t : ℕ) → (is_on l.queue t ≡ true) ⊎ ((i == t) ≡ true)
-        → (is_listed l None t ≡ true) ⊎ (is_on (l.free ++ i ∷ []) t ≡ true)
-        ⊎ ((a : Attendant L) → IsStill line (slice_index_or seats t a) (slice_index_or mails t []))
-    after t (inl on) = inl (or_left (is_on l.queue t) false on)
-    after t (inr same) = inr (inl (on_push i l.free t ∙ or_right (is_on l.free t) (i == t) same))
-
-    by : (b : Bool) → is_nowhere i l ≡ b → later ≡ (if b then record l { free = l.free ++ i ∷ [] } else l)
-        → AreKnownTo line later None seats mails
-    by true gone same =
-        subst (λ (z : Listing). AreKnownTo line z None seats mails) (sym same)
-        (known_as line l.seats l.seats (is_listed l (Some i)) (is_looking l) (is_listed l None)
-        (is_looking (record l { free = l.free ++ i ∷ [] })) seats mails refl
-        (λ t looks on. apart t gone (left_only _ on) (or_cases _ _ (sym (on_push i l.free t) ∙ looks)))
-        (λ t looks. looked t (or_cases _ _ (sym (on_push i l.free t) ∙ looks)))
-        (λ t below on. after t (or_cases _ _ on))
-        (λ t below looks. inr (on_push i l.free t ∙ or_left (is_on l.free t) (i == t) looks))
-        k)
-    by false kept same = subst (λ (z : Listing). AreKnownTo line z None seats mails) (sym same) (known_queued l i kept k)
+  -- A seat is not visited any more that does not exist, is in a list, or at which nothing moves.
+  keeps_left : {l later : Listing} {i : ℕ} → later ≡ l → (l.seats ≤ i) ⊎ (0 < times i l.queue + times i l.free) ⊎ (still ≡ Some i)
+      → KeepsSeats still free l (Some i) later None
+  keeps_left {l} {later} {i} same left = record {
+    seats = ap (λ z. z.seats) same;
+    each = λ t.
+        let q = ap (λ z. times t z.queue) same in
+        let f = ap (λ z. times t z.free) same in
+        let e = same_times l i t in
+        grind (arith, nat_tests);
+  }
 
   -- Nothing moves at the visited seat.
-  pub known_rests : (l : Listing) (i : ℕ)
-      → ((a : Attendant L) → IsStill line (slice_index_or seats i a) (slice_index_or mails i []))
-      → AreKnownTo line l (Some i) seats mails → AreKnownTo line l None seats mails
-  known_rests l i still k = known_left l i (λ below. inr still) k
+  pub keeps_rests : {l : Listing} {i : ℕ} → still ≡ Some i → KeepsSeats still free l (Some i) l None
+  keeps_rests is = keeps_left refl (inr (inr is))
+
+  -- The visited seat goes to the queue.
+  pub keeps_enqueued : {l later : Listing} {i : ℕ} → later ≡ enqueued i l → KeepsSeats still free l (Some i) later None
+  keeps_enqueued {l} {later} {i} is = by (is_nowhere i l) refl is where
+    by : (b : Bool) → is_nowhere i l ≡ b → later ≡ (if b then record l { queue = l.queue ++ i ∷ [] } else l)
+        → KeepsSeats still free l (Some i) later None
+    by true gone same = record {
+      seats = ap (λ z. z.seats) same;
+      each = λ t.
+          let q = ap (λ z. times t z.queue) same ∙ times_push t l.queue i in
+          let f = ap (λ z. times t z.free) same in
+          grind (arith, nat_tests);
+    }
+    by false kept same = keeps_left same (grind (arith, nat_tests))
+
+  -- The visited seat found no client.
+  pub keeps_freed : {l later : Listing} {i : ℕ} → free ≡ Some i → later ≡ freed i l → KeepsSeats still free l (Some i) later None
+  keeps_freed {l} {later} {i} found is = by (is_nowhere i l) refl is where
+    by : (b : Bool) → is_nowhere i l ≡ b → later ≡ (if b then record l { free = l.free ++ i ∷ [] } else l)
+        → KeepsSeats still free l (Some i) later None
+    by true gone same = record {
+      seats = ap (λ z. z.seats) same;
+      each = λ t.
+          let q = ap (λ z. times t z.queue) same in
+          let f = ap (λ z. times t z.free) same ∙ times_push t l.free i in
+          let e = same_times l i t in
+          grind (arith, nat_tests);
+    }
+    by false kept same = keeps_left same (grind (arith, nat_tests))
+
+  -- Equal seats, and equal visited seats.
+  pub keeps_on : {old new : Listing} {i j : ℕ} {v w : Option ℕ} → i ≡ j → v ≡ w → KeepsSeats still free old (Some i) new v
+      → KeepsSeats still free old (Some j) new w
+  keeps_on {old} {new} {i} {j} {v} {w} at to h =
+      subst (λ z. KeepsSeats still free old (Some j) new z) to (subst (λ n. KeepsSeats still free old (Some n) new v) at h)
+
+  module _ {old : Listing} {visited : Option ℕ} {order : Order} {turn : Turn} where
+    -- No other seat was dropped than the still one, and none began to check for a client.
+    pub chooses_more : {s : Option ℕ} → Chooses s None old visited order turn → (s ≡ None) ⊎ (s ≡ still)
+        → Chooses still free old visited order turn
+    chooses_more k is = record {
+      keeps = record { seats = k.keeps.seats; each = λ t. let x = k.keeps.each t in grind arith };
+      acts = k.acts;
+    }
+
+    -- The queue was changed before the turn was chosen.
+    pub chooses_then : {mid : Listing} → KeepsSeats still free old visited mid None → Chooses None None mid None order turn
+        → Chooses still free old visited order turn
+    chooses_then h k = record {
+      keeps = record {
+        seats = k.keeps.seats ∙ h.seats;
+        each = λ t. let x = h.each t in let y = k.keeps.each t in let s = h.seats in grind arith;
+      };
+      acts = k.acts;
+    }
+
+    -- The same after a check for a client.
+    pub chooses_after : {mid : Listing} → KeepsSeats None free old visited mid None → Chooses None None mid None order turn
+        → Chooses still free old visited order turn
+    chooses_after h = chooses_then (record { seats = h.seats; each = λ t. let x = h.each t in grind arith })
 
 module _ {L : Type 0} (line : Line L) where
   -- A seat that the turns let act was changed.
@@ -319,10 +239,11 @@ module _ {L : Type 0} (line : Line L) where
 -- A seat at a place of the queue is on it.
 got_on : (xs : List ℕ) (n i : ℕ) → Some i ≡ slice_get xs n → is_on xs i ≡ true
 got_on [] n i is = absurd cc
-got_on (x ∷ xs) zero i is = on_cons x xs i ∙ or_right (is_on xs i) (x == i) (eq-eqb x i (sym (some_is i x is))) where
+got_on (x ∷ xs) zero i is = let e = some_is i x is in let first = sum_by-cons (λ y. one_if (y == i)) x xs in grind (arith, nat_tests) where
   some_is : (a b : ℕ) → Some a ≡ Some b → a ≡ b
   some_is a b e = cc
-got_on (x ∷ xs) (suc n) i is = on_cons x xs i ∙ or_left (is_on xs i) (x == i) (got_on xs n i is)
+got_on (x ∷ xs) (suc n) i is =
+    let rest = got_on xs n i is in let first = sum_by-cons (λ y. one_if (y == i)) x xs in grind (arith, nat_tests)
 
 pub next_in_round_is : (l : Listing) {later : Listing} {result : Option ℕ}
     → result ≡ (if nat_lt l.at l.round then slice_get l.queue l.at else None)

@@ -92,12 +92,9 @@ module _ {L C K I : Type 0} {line : Line L} {k : Core K} {many : ℕ} {listed lo
     -- The turns still let the same seats act, and the same check for a client.
     pub known_even : {later_many : ℕ} → later_many ≡ many → AreKnown line later_many later later_looks [] seats mails
     known_even {later_many} same =
-        known_as line many later_many listed looks later later_looks seats mails same
-        (λ t looking on. at.known.apart t (sym (looks_same t) ∙ looking) (sym (acts_same t) ∙ on))
-        (λ t looking. inl (sym (looks_same t) ∙ looking))
-        (λ t below on. inl (acts_same t ∙ on))
-        (λ t below looking. inr (looks_same t ∙ looking))
-        at.known
+        known_as {Still = λ t. ⊥} {Free = λ t. ⊥} same
+        (λ t. let acts = acts_same t in let checks = looks_same t in grind arith)
+        (λ t is. absurd is) (λ t is. absurd is) at.known
 
     -- They let no seat act, and none check for a client that may have come, so nothing moves at any seat.
     pub still_all : {may_come : Bool} → ((t : ℕ) → later t ≡ false) → (may_come ≡ true → (t : ℕ) → later_looks t ≡ false)

@@ -87,10 +87,6 @@ is_listed l visited seat = is_on l.queue seat || is_visited visited seat
 abbrev pub is_looking : Listing → ℕ → Bool
 is_looking l seat = is_on l.free seat
 
--- The same for a queue of seats and the seat that is visited. None is to be woken.
-abbrev pub AreKnownTo : {L : Type 0} → Line L → Listing → Option ℕ → List (Attendant L) → List (List Answer) → Type 0
-AreKnownTo l lists visited seats mails = AreKnown l lists.seats (is_listed lists visited) (is_looking lists) [] seats mails
-
 -- Both lists have the same seats.
 pub record AreSameLists (old new : Listing) : Type 0 where
   pub seats : new.seats ≡ old.seats

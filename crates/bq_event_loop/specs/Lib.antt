@@ -1,6 +1,7 @@
 pub mod Accepting
 pub mod ControlWatching
 pub mod EventLoopRuns
+pub mod Keeping
 pub mod Known
 pub mod KnownTurns
 pub mod Listings

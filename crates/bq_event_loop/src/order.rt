@@ -7,8 +7,8 @@
 //! code and data in the processor's caches. Seats that were in the queue before come last. Seats that
 //! are woken during the last part are visited in the same round, unless a visit was cut short.
 ghost use Rattle.std.specs.Prelude.{◌≡◌, ◌⊎◌, ℕ, [], true, false, None, Some, IfOk, IfSome};
-ghost use Rattle.bq_event_loop.specs.Known.{AreIdle, AreKnownTo, AreSameLists, IsFreeSeat, IsListedIn, IsNextOf, IsStillSeat, KnowsAll, is_listed};
-ghost use Rattle.bq_event_loop.specs.Known.{is_looking};
+ghost use Rattle.bq_event_loop.specs.Keeping.{Chooses, KeepsSeats};
+ghost use Rattle.bq_event_loop.specs.Known.{AreIdle, AreSameLists, IsListedIn, IsNextOf, KnowsAll, is_listed, is_looking};
 ghost use Rattle.bq_event_loop.specs.Listings.{enqueued};
 ghost use Rattle.bq_event_loop.specs.Sleeping.{visited_by};
 ghost use Rattle.bq_event_loop.specs.declared.order.Stage.TheVariants as stages;
@@ -16,15 +16,12 @@ ghost use Rattle.bq_event_loop.specs.declared.order.Stage.TheVariants as stages;
 use crate::seat_queue::SeatQueue;
 use crate::turns::{Began, News, SoFar, Turn, Turns, TurnsFault};
 use bq_core_api::QueueCore;
-use bq_host::Mail;
 use bq_line::Door;
-use bq_line::attendant::Attendant;
 use bq_line::clock::Clock;
 use bq_line::control_line::ControlInput;
 use bq_line::line::Line;
 use pace::Pace;
 use std::alloc::Global;
-use std::snapshot::Snapshot;
 use visits::{Part, Pause, Share, Visit};
 
 mod pace;
@@ -91,81 +88,51 @@ impl Order {
     }
 
     // Returns the next turn of a round.
-    fn next_turn<L: Line>(
-        &mut self,
-        seats: &Snapshot<Vec<Attendant<L>, Global>>,
-        mails: &Snapshot<Vec<Mail, Global>>,
-        news: &News,
-    ) -> Turn
-        requires known { AreKnownTo L.Line self.old.queue (visited_by self.old.stage self.old.visit)
-            seats.now.value.items mails.now.value.items }
-        requires still { IsStillSeat L.Line news.now.still seats.now.value.items mails.now.value.items }
-        requires free { IsFreeSeat news.now.free seats.now.value.items }
-        ensures known { AreKnownTo L.Line self.new.queue (visited_by self.new.stage self.new.visit)
-            seats.now.value.items mails.now.value.items }
-        ensures acts { IsListedIn (is_listed self.new.queue (visited_by self.new.stage self.new.visit)) result }
-        ensures seats { self.new.queue.seats ≡ self.old.queue.seats }
+    fn next_turn(&mut self, news: &News) -> Turn
+        ensures { Chooses news.now.still news.now.free self.old.queue (visited_by self.old.stage self.old.visit) self.new result }
     {
         match self.stage {
-            Stage::Control => self.control_turn(seats, mails, news),
-            Stage::Doors => self.look_at_next(seats, mails, news.may_come),
+            Stage::Control => self.control_turn(news),
+            Stage::Doors => self.look_at_next(news.may_come),
             Stage::DoorLook(seat) => {
-                self.note_looked(seats, mails, seat, news.free);
-                self.look_at_next(seats, mails, news.may_come)
+                self.note_looked(seat, news.free);
+                self.look_at_next(news.may_come)
             }
-            Stage::Away => self.begin_visits(seats, mails),
-            Stage::Visits(part) => self.begin_next(seats, mails, part),
-            Stage::Visit(part) => self.go_on(seats, mails, part, news),
+            Stage::Away => self.begin_visits(),
+            Stage::Visits(part) => self.begin_next(part),
+            Stage::Visit(part) => self.go_on(part, news),
             Stage::VisitLook(seat, part) => {
-                self.note_looked(seats, mails, seat, news.free);
-                self.begin_next(seats, mails, part)
+                self.note_looked(seat, news.free);
+                self.begin_next(part)
             }
             Stage::HandOn(seat, part) => {
-                self.put_back(seats, mails, seat);
-                self.begin_next(seats, mails, part)
+                self.put_back(seat);
+                self.begin_next(part)
             }
         }
     }
 
     // Returns the turn of the control line in this round, or that of the doors if the control line
     // is not read.
-    fn control_turn<L: Line>(
-        &mut self,
-        seats: &Snapshot<Vec<Attendant<L>, Global>>,
-        mails: &Snapshot<Vec<Mail, Global>>,
-        news: &News,
-    ) -> Turn
-        requires known { AreKnownTo L.Line self.old.queue None seats.now.value.items mails.now.value.items }
-        ensures known { AreKnownTo L.Line self.new.queue (visited_by self.new.stage self.new.visit)
-            seats.now.value.items mails.now.value.items }
-        ensures acts { IsListedIn (is_listed self.new.queue (visited_by self.new.stage self.new.visit)) result }
-        ensures seats { self.new.queue.seats ≡ self.old.queue.seats }
+    fn control_turn(&mut self, news: &News) -> Turn
+        ensures { Chooses None None self.old.queue None self.new result }
     {
         match news.reads {
             Some(reads) => {
                 self.stage = Stage::Doors;
                 Turn::Control(reads)
             }
-            None => self.look_at_next(seats, mails, news.may_come),
+            None => self.look_at_next(news.may_come),
         }
     }
 
     // Lets one free seat check for a connection, if one may have come. Otherwise the visits begin.
     #[inline(always)]
-    fn look_at_next<L: Line>(
-        &mut self,
-        seats: &Snapshot<Vec<Attendant<L>, Global>>,
-        mails: &Snapshot<Vec<Mail, Global>>,
-        may_come: bool,
-    ) -> Turn
-        requires known { AreKnownTo L.Line self.old.queue None seats.now.value.items mails.now.value.items }
-        ensures known { AreKnownTo L.Line self.new.queue (visited_by self.new.stage self.new.visit)
-            seats.now.value.items mails.now.value.items }
-        ensures acts { IsListedIn (is_listed self.new.queue (visited_by self.new.stage self.new.visit)) result }
-        ensures seats { self.new.queue.seats ≡ self.old.queue.seats }
+    fn look_at_next(&mut self, may_come: bool) -> Turn
+        ensures { Chooses None None self.old.queue None self.new result }
     {
         if !may_come {
-            return self.begin_visits(seats, mails);
+            return self.begin_visits();
         }
         let Some(seat) = self.queue.next_free() else {
             self.stage = Stage::Away;
@@ -177,17 +144,8 @@ impl Order {
 
     // Notes the result of a check for a connection: this seat was free, or another or none. A seat
     // without a connection checks again when a client may have connected.
-    fn note_looked<L: Line>(
-        &mut self,
-        seats: &Snapshot<Vec<Attendant<L>, Global>>,
-        mails: &Snapshot<Vec<Mail, Global>>,
-        seat: usize,
-        free: Option<usize>,
-    )
-        requires known { AreKnownTo L.Line self.old.queue (Some seat) seats.now.value.items mails.now.value.items }
-        requires free { IsFreeSeat free seats.now.value.items }
-        ensures known { AreKnownTo L.Line self.new.queue None seats.now.value.items mails.now.value.items }
-        ensures seats { self.new.queue.seats ≡ self.old.queue.seats }
+    fn note_looked(&mut self, seat: usize, free: Option<usize>)
+        ensures { KeepsSeats None free self.old.queue (Some seat) self.new.queue None }
     {
         if is_this(free, seat) {
             self.queue.set_free(seat);
@@ -200,16 +158,8 @@ impl Order {
     // last wait come last, so that a visit that was cut short goes on after the seats that the
     // system reported. They have the last part only.
     #[inline(always)]
-    fn begin_visits<L: Line>(
-        &mut self,
-        seats: &Snapshot<Vec<Attendant<L>, Global>>,
-        mails: &Snapshot<Vec<Mail, Global>>,
-    ) -> Turn
-        requires known { AreKnownTo L.Line self.old.queue None seats.now.value.items mails.now.value.items }
-        ensures known { AreKnownTo L.Line self.new.queue (visited_by self.new.stage self.new.visit)
-            seats.now.value.items mails.now.value.items }
-        ensures acts { IsListedIn (is_listed self.new.queue (visited_by self.new.stage self.new.visit)) result }
-        ensures seats { self.new.queue.seats ≡ self.old.queue.seats }
+    fn begin_visits(&mut self) -> Turn
+        ensures { Chooses None None self.old.queue None self.new result }
     {
         let waited = self.queue.round();
         self.queue.put_last(waited);
@@ -219,52 +169,31 @@ impl Order {
         self.may_repeat = true;
         self.pace = Pace::begin(self.reading);
         let part = Part::first(self.fresh);
-        self.begin_next(seats, mails, part)
+        self.begin_next(part)
     }
 
     // Returns the next action of the current visit, or begins the next visit.
-    fn go_on<L: Line>(
-        &mut self,
-        seats: &Snapshot<Vec<Attendant<L>, Global>>,
-        mails: &Snapshot<Vec<Mail, Global>>,
-        part: Part,
-        news: &News,
-    ) -> Turn
-        requires known { AreKnownTo L.Line self.old.queue (Some self.old.visit.seat)
-            seats.now.value.items mails.now.value.items }
-        requires still { IsStillSeat L.Line news.now.still seats.now.value.items mails.now.value.items }
-        ensures known { AreKnownTo L.Line self.new.queue (visited_by self.new.stage self.new.visit)
-            seats.now.value.items mails.now.value.items }
-        ensures acts { IsListedIn (is_listed self.new.queue (visited_by self.new.stage self.new.visit)) result }
-        ensures seats { self.new.queue.seats ≡ self.old.queue.seats }
+    fn go_on(&mut self, part: Part, news: &News) -> Turn
+        ensures { Chooses news.now.still None self.old.queue (Some self.old.visit.seat) self.new result }
     {
         let seat = self.visit.seat();
         let took = self.pace.note(part, seat, self.reading);
         // Mostly the visit ends so: nothing moves at its seat, which leaves the queue.
         if is_this(news.still, seat) {
-            return self.begin_next(seats, mails, part);
+            return self.begin_next(part);
         }
         self.visit.note(news.progress, took);
-        match self.goes_on(seats, mails, part, news) {
+        match self.goes_on(part, news) {
             Some(turn) => turn,
-            None => self.begin_next(seats, mails, part),
+            None => self.begin_next(part),
         }
     }
 
     // Returns the first action of the next visit of this part. After the last one the next part
     // begins, or the core's time passes.
     #[inline(always)]
-    fn begin_next<L: Line>(
-        &mut self,
-        seats: &Snapshot<Vec<Attendant<L>, Global>>,
-        mails: &Snapshot<Vec<Mail, Global>>,
-        part: Part,
-    ) -> Turn
-        requires known { AreKnownTo L.Line self.old.queue None seats.now.value.items mails.now.value.items }
-        ensures known { AreKnownTo L.Line self.new.queue (visited_by self.new.stage self.new.visit)
-            seats.now.value.items mails.now.value.items }
-        ensures acts { IsListedIn (is_listed self.new.queue (visited_by self.new.stage self.new.visit)) result }
-        ensures seats { self.new.queue.seats ≡ self.old.queue.seats }
+    fn begin_next(&mut self, part: Part) -> Turn
+        ensures { Chooses None None self.old.queue None self.new result }
     {
         let Some(seat) = self.next_seat(part) else {
             return self.end_part(part);
@@ -350,20 +279,11 @@ impl Order {
     }
 
     // Returns the next turn of the visit, if it has one. Otherwise it ends here.
-    fn goes_on<L: Line>(
-        &mut self,
-        seats: &Snapshot<Vec<Attendant<L>, Global>>,
-        mails: &Snapshot<Vec<Mail, Global>>,
-        part: Part,
-        news: &News,
-    ) -> Option<Turn>
-        requires known { AreKnownTo L.Line self.old.queue (Some self.old.visit.seat)
-            seats.now.value.items mails.now.value.items }
-        ensures known { AreKnownTo L.Line self.new.queue (visited_by self.new.stage self.new.visit)
-            seats.now.value.items mails.now.value.items }
+    fn goes_on(&mut self, part: Part, news: &News) -> Option<Turn>
+        ensures keeps { KeepsSeats None None self.old.queue (Some self.old.visit.seat)
+            self.new.queue (visited_by self.new.stage self.new.visit) }
         ensures acts { IfSome result (IsListedIn (is_listed self.new.queue (visited_by self.new.stage self.new.visit))) }
         ensures ended { result ≡ None → visited_by self.new.stage self.new.visit ≡ None }
-        ensures seats { self.new.queue.seats ≡ self.old.queue.seats }
     {
         let visit = self.visit;
         match visit.pause(news.stands) {
@@ -371,25 +291,16 @@ impl Order {
                 self.stage = Stage::Visit(part);
                 Some(visit.turn())
             }
-            Some(pause) => self.end_visit(seats, mails, visit.seat(), part, pause),
+            Some(pause) => self.end_visit(visit.seat(), part, pause),
         }
     }
 
     // Ends the visit of a seat. If its connection has ended, it checks for the next one.
-    fn end_visit<L: Line>(
-        &mut self,
-        seats: &Snapshot<Vec<Attendant<L>, Global>>,
-        mails: &Snapshot<Vec<Mail, Global>>,
-        seat: usize,
-        part: Part,
-        pause: Pause,
-    ) -> Option<Turn>
-        requires known { AreKnownTo L.Line self.old.queue (Some seat) seats.now.value.items mails.now.value.items }
-        ensures known { AreKnownTo L.Line self.new.queue (visited_by self.new.stage self.new.visit)
-            seats.now.value.items mails.now.value.items }
+    fn end_visit(&mut self, seat: usize, part: Part, pause: Pause) -> Option<Turn>
+        ensures keeps { KeepsSeats None None self.old.queue (Some seat)
+            self.new.queue (visited_by self.new.stage self.new.visit) }
         ensures acts { IfSome result (IsListedIn (is_listed self.new.queue (visited_by self.new.stage self.new.visit))) }
         ensures ended { result ≡ None → visited_by self.new.stage self.new.visit ≡ None }
-        ensures seats { self.new.queue.seats ≡ self.old.queue.seats }
     {
         match pause {
             Pause::IsFree => {
@@ -407,7 +318,7 @@ impl Order {
                 None
             }
             Pause::Stuck => {
-                self.put_back(seats, mails, seat);
+                self.put_back(seat);
                 self.stage = Stage::Visits(part);
                 None
             }
@@ -424,15 +335,8 @@ impl Order {
     }
 
     // Puts a seat that goes on at the end of the queue.
-    fn put_back<L: Line>(
-        &mut self,
-        seats: &Snapshot<Vec<Attendant<L>, Global>>,
-        mails: &Snapshot<Vec<Mail, Global>>,
-        seat: usize,
-    )
-        requires known { AreKnownTo L.Line self.old.queue (Some seat) seats.now.value.items mails.now.value.items }
-        ensures known { AreKnownTo L.Line self.new.queue None seats.now.value.items mails.now.value.items }
-        ensures seats { self.new.queue.seats ≡ self.old.queue.seats }
+    fn put_back(&mut self, seat: usize)
+        ensures { KeepsSeats None None self.old.queue (Some seat) self.new.queue None }
     {
         self.enqueue(seat);
     }
@@ -487,7 +391,7 @@ impl Turns for Order {
         K: QueueCore + Drop,
     >(&mut self, news: &News, _began: &Began<D, C, I>, so_far: SoFar<L, D, C, I, K>) -> Turn {
         self.reading = news.elapsed;
-        self.next_turn(&so_far.seats, &so_far.mails, news)
+        self.next_turn(news)
     }
 
     fn wake(&mut self, seat: usize) {

@@ -1,14 +1,13 @@
-use Rattle.std.proofs.Common.{None, Some, sym, subst}
-use Rattle.bq_event_loop.proofs.KnownLemmas.{known_next, known_same}
-use Rattle.bq_event_loop.specs.Known.{AreKnownTo}
+use Rattle.std.proofs.Common.{Some, sym, subst}
+use Rattle.bq_event_loop.proofs.KnownLemmas.{keeps_next, listed_self}
+use Rattle.bq_event_loop.specs.Known.{IsListedIn, is_listed}
 use Rattle.bq_event_loop.proofs.order.Order.begin_next.Goals as goal
 
-pub returns-in_default-clause-known : goal.returns-in_default-clause-known
-returns-in_default-clause-known g c =
-    subst (λ v. AreKnownTo g.L.Line c.end_part.new.self.queue v c.args.seats.now.value.items c.args.mails.now.value.items)
-    (sym c.end_part.ensures.idle) (known_same None c.end_part.ensures.lists (known_same None c.in_default.ensures c.requires.known))
-
-pub returns-clause-known : goal.returns-clause-known
-returns-clause-known g c =
-    subst (λ i. AreKnownTo g.L.Line c.next_seat.new.self.queue (Some i) c.args.seats.now.value.items c.args.mails.now.value.items)
-    (sym c.new-self.ensures.seat) (known_next c.in-Some.ensures c.requires.known)
+pub returns : goal.returns
+returns c =
+    let mid = c.next_seat.new.self.queue in
+    let seat = c.new-self.result.seat in
+    record {
+      keeps = keeps_next c.in-Some.ensures c.new-self.ensures.seat;
+      acts = subst (IsListedIn (is_listed mid (Some seat))) (sym c.turn.ensures) (listed_self mid seat);
+    }
