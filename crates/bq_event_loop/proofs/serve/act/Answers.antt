@@ -1,4 +1,4 @@
-use Rattle.std.proofs.Common.{◌<◌, refl, subst, sym}
+use Rattle.std.proofs.Common.{refl}
 use Rattle.bq_event_loop.proofs.KnownLemmas.{changed_one}
 use Rattle.bq_host.proofs.HubLemmas.{called}
 use Rattle.bq_event_loop.proofs.RowLemmas.{placed_there, tended_set}
@@ -8,11 +8,6 @@ use Rattle.bq_event_loop.proofs.serve.act.Goals as goal
 pub attend-requires-clause-placed : goal.attend-requires-clause-placed
 attend-requires-clause-placed g c =
     placed_there c.requires.ready.1 c.requires.ready.0.1 c.index_mut.ensures.value c.index_mut-2.ensures.value
-
-pub attend-requires-clause-ready : goal.attend-requires-clause-ready
-attend-requires-clause-ready g c =
-    let r = c.requires.ready in
-    (r.0.0, subst (λ n. c.args.seat < n) (sym r.0.2) r.1)
 
 pub returns : goal.returns
 returns g c =

@@ -1,15 +1,8 @@
-use Rattle.std.proofs.Common.{◌≤◌, subst, sym}
 use Rattle.bq_event_loop.proofs.ServingLemmas.{control_none, control_read, control_then}
 use Rattle.bq_event_loop.proofs.serve.serve_control.Goals as goal
 
 pub loop-init : goal.loop-init
 loop-init g c = control_none c.requires.order
-
-pub submit_owed-requires : goal.submit_owed-requires
-submit_owed-requires g c = record {
-  order = c.loop.invariant.order;
-  few = subst (λ n. n ≤ 65535) (sym c.loop.invariant.went.0.2.went.many) c.requires.few;
-}
 
 pub returns-then-not-submit_owed : goal.returns-then-not-submit_owed
 returns-then-not-submit_owed g c = control_then c.loop.invariant c.submit_owed.ensures

@@ -1,16 +1,8 @@
 use Rattle.std.proofs.Common.{[], ◌∷◌, refl}
 use Rattle.bq_line.proofs.attendant.act.Goals as goal
 
-pub returns-in-Submit-clause-carried : goal.returns-in-Submit-clause-carried
-returns-in-Submit-clause-carried g c =
-    let h = c.submit.ensures.submitted c.in-Submit.ensures.action.0 c.in-Submit.ensures.action.1 in
-    rw c.in-Submit.ensures.action.1 (h.0, [], h.1, (refl, refl, h.2))
-
 pub returns-in-Read-clause-carried : goal.returns-in-Read-clause-carried
 returns-in-Read-clause-carried g c = rw c.in-Read.ensures.action ([], [], refl, c.read.ensures.0)
-
-pub returns-in-Read-clause-stays : goal.returns-in-Read-clause-stays
-returns-in-Read-clause-stays g c = c.read.ensures.1
 
 pub returns-in-Write-clause-carried : goal.returns-in-Write-clause-carried
 returns-in-Write-clause-carried g c = rw c.in-Write.ensures.action.1 ([], [], refl, (refl, refl, (refl, refl, refl)))

@@ -1,6 +1,5 @@
-use Rattle.std.proofs.Common.{◌∙◌, ap, refl}
-use Rattle.bq_seat.specs.NextActions.{does_of}
-use Rattle.bq_line.proofs.CarriedLemmas.{at_once, broke_off, not_yet, writes_this, wrote_part, wrote_whole}
+use Rattle.std.proofs.Common.{refl}
+use Rattle.bq_line.proofs.CarriedLemmas.{broke_off, not_yet, writes_this, wrote_part, wrote_whole}
 use Rattle.bq_line.proofs.attendant.carry_out.Goals as goal
 
 pub returns-in-Whole-clause-carried : goal.returns-in-Whole-clause-carried
@@ -22,8 +21,3 @@ pub returns-in-Fault-clause-carried : goal.returns-in-Fault-clause-carried
 returns-in-Fault-clause-carried g c =
     broke_off g.K.Link.went _ _ _ _ _ (writes_this c.in-Write.ensures.action c.answer.ensures)
     (rw (c.in-Fault.is, c.expect_answers.ensures.seen) at c.write_answer.ensures.text) c.write_fault.ensures
-
-pub returns-in_default-clause-carried : goal.returns-in_default-clause-carried
-returns-in_default-clause-carried g c =
-    at_once g.K.Link.went _ _ _ _ _ _ _ _ _ _ (λ answer is. c.in_default.not-Write (c.does.ensures.does ∙ ap does_of is))
-    c.act.ensures.carried

@@ -3,7 +3,6 @@ use Rattle.bq_seat.specs.declared.machine.Action.TheVariants as actions
 use Rattle.bq_line.specs.declared.attendant.LinePlace.TheVariants as places
 use Rattle.bq_line.specs.Tending.{door_seen}
 use Rattle.bq_line.proofs.TendingLemmas.{tends_shut}
-use Rattle.bq_line.proofs.SureLemmas.{sure_shut}
 use Rattle.bq_line.proofs.attendant.shut_line.Goals as goal
 
 pub returns-in-On-clause-went : goal.returns-in-On-clause-went
@@ -13,11 +12,3 @@ returns-in-On-clause-went g c = λ machine.
     let first = c.requires.over.2 in let second = c.in-On.is in let third = c.replace.ensures.value in cc in
     rw (over, c.replace.ensures.after) (tends_shut g.L.Line.seen machine c.in-On.line c.args.end c.in-On.field-2
     (at c.args.door.now) (at c.shut.new.self) c.shut.ensures.over c.shut.ensures.inside c.shut.ensures.at_end)
-
-pub returns-in-On-clause-sure : goal.returns-in-On-clause-sure
-returns-in-On-clause-sure g c = λ never sure.
-    let over : c.args.place.now ≡ places.On c.in-On.line (actions.LineOver c.args.end) c.in-On.field-2 =
-    let first = c.requires.over.2 in let second = c.in-On.is in let third = c.replace.ensures.value in cc in
-    rw c.replace.ensures.after (sure_shut g.L.Line.seen g.L.Line.lies_over c.args.place.now c.in-On.line
-    (actions.LineOver c.args.end) c.in-On.field-2 c.args.end (g.D.Door.lines_over c.args.door.now)
-    (g.D.Door.lines_over c.shut.new.self) g.met.L.Line.no_fault over c.shut.ensures.over sure)

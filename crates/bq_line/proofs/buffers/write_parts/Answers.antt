@@ -1,6 +1,6 @@
 use Rattle.std.proofs.Common.{◌≡◌, ◌==◌, ◌++◌, false, arith}
 use Rattle.std.proofs.lemmas.Bool.Decides.{nat_tests}
-use Rattle.bq_line.proofs.WritingLemmas.{breaks_off, stops, take_begins, whole_on, written_from}
+use Rattle.bq_line.proofs.WritingLemmas.{breaks_off, stops, take_begins, written_from}
 use Rattle.bq_line.proofs.buffers.write_parts.Goals as goal
 
 pub returns-then-count-eq0-clause-text : goal.returns-then-count-eq0-clause-text
@@ -21,8 +21,3 @@ pub returns-in-Err-clause-text : goal.returns-in-Err-clause-text
 returns-in-Err-clause-text g c = λ first e.
     stops (c.args.head.now ++ c.args.body.now ++ c.args.tail.now) _ _ first c.loop-sent.done _ _
     (c.loop-sent.invariant.seen first e) c.after_error.ensures c.in-Err.ensures.seen
-
-pub returns-clause-text : goal.returns-clause-text
-returns-clause-text g c = λ first e.
-    whole_on (c.args.head.now ++ c.args.body.now ++ c.args.tail.now) _ first c.loop-sent.done
-    (c.is_whole.ensures.whole c.loop-sent-test.false) (c.loop-sent.invariant.seen first e)

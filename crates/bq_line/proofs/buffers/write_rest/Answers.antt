@@ -1,6 +1,6 @@
-use Rattle.std.proofs.Common.{◌≡◌, ◌==◌, ◌≤◌, false, length, refl, arith}
+use Rattle.std.proofs.Common.{◌≡◌, ◌==◌, false, refl, arith}
 use Rattle.std.proofs.lemmas.Bool.Decides.{nat_tests}
-use Rattle.bq_line.proofs.WritingLemmas.{breaks_off, stops, take_begins, whole_on, written_on}
+use Rattle.bq_line.proofs.WritingLemmas.{breaks_off, stops, take_begins, written_on}
 use Rattle.bq_line.proofs.buffers.write_rest.Goals as goal
 
 pub returns-then-count-eq0-clause-text : goal.returns-then-count-eq0-clause-text
@@ -20,8 +20,3 @@ loop-done-preserved g c =
 pub returns-in-Err-clause-text : goal.returns-in-Err-clause-text
 returns-in-Err-clause-text g c = λ first e.
     stops c.args.bytes.now _ _ first c.loop-done.done _ _ (c.loop-done.invariant.seen first e) c.after_error.ensures c.in-Err.ensures.seen
-
-pub returns-clause-text : goal.returns-clause-text
-returns-clause-text g c = λ first e.
-    let all : length c.args.bytes.now ≤ c.loop-done.done = grind (arith, nat_tests) in
-    whole_on c.args.bytes.now _ first c.loop-done.done all (c.loop-done.invariant.seen first e)

@@ -1,10 +1,9 @@
-use Rattle.std.proofs.Common.{◌≡◌, ◌∙◌, ℕ, arith, subst, sym}
+use Rattle.std.proofs.Common.{◌≡◌, ℕ, arith, subst}
 use Rattle.std.specs.Prelude.{IfSome}
-use Rattle.std.proofs.lemmas.List.{nil_from_length}
 use Rattle.bq_lock.specs.LockedRuns.{IsServedToEnd}
 use Rattle.bq_line.specs.Tending.{door_seen}
 use Rattle.bq_host.proofs.ListLemmas.{all_pushed, first_passes, rest_passes}
-use Rattle.bq_line.proofs.BackLemmas.{all_back, one_back}
+use Rattle.bq_line.proofs.BackLemmas.{one_back}
 use Rattle.bq_lock.proofs.doors_served.join_all.Goals as goal
 
 pub loop-thread-preserved : goal.loop-thread-preserved
@@ -28,15 +27,3 @@ loop-thread-preserved g c =
       served = all_pushed c.loop-thread.doors.items _ c.in-Some-join.door
           (λ d. IsServedToEnd c.args.max_job_size (at d)) c.push_reserved.ensures.items c.loop-thread.invariant.served here;
     }
-
-pub returns-clause-many : goal.returns-clause-many
-returns-clause-many g c = let h = c.loop-thread.invariant.many in let e = c.in-None.ensures.steps.0 in omega arith
-
-pub returns-clause-served : goal.returns-clause-served
-returns-clause-served g c = c.loop-thread.invariant.served
-
-pub returns-clause-same : goal.returns-clause-same
-returns-clause-same g c =
-    let rest = c.loop-thread.thread-iterator.rest in
-    all_back g.D.Door.same (λ t. t.promise.door.value) c.args.threads.items rest.items c.loop-thread.doors.items
-    (nil_from_length rest.items (sym rest.ok.0 ∙ c.in-None.ensures.steps.0)) c.loop-thread.invariant.back

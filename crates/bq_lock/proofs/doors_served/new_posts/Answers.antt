@@ -1,5 +1,5 @@
-use Rattle.std.proofs.Common.{◌≡◌, ◌-◌, ◌∙◌, arith, sym, vec_len}
-use Rattle.std.proofs.lemmas.List.{Elements.All-take, nil_from_length}
+use Rattle.std.proofs.Common.{◌≡◌, ◌-◌, ◌∙◌, arith, vec_len}
+use Rattle.std.proofs.lemmas.List.{Elements.All-take}
 use Rattle.bq_line.specs.Tending.{IsNewDoor, door_seen}
 use Rattle.bq_host.proofs.ListLemmas.{all_pushed, put_behind}
 use Rattle.bq_lock.proofs.doors_served.new_posts.Goals as goal
@@ -18,14 +18,3 @@ loop-door-preserved g c =
       new = rw c.pop.ensures.rest
           (All-take (λ d. IsNewDoor (at d)) (vec_len c.loop-door.doors - 1) c.loop-door.doors.items c.loop-door.invariant.new);
     }
-
-pub returns-clause-many : goal.returns-clause-many
-returns-clause-many g c = let h = c.loop-door.invariant.many in let e = c.in_default-pop.ensures.cases.0 in omega arith
-
-pub returns-clause-limits : goal.returns-clause-limits
-returns-clause-limits g c = c.loop-door.invariant.limits
-
-pub returns-clause-doors : goal.returns-clause-doors
-returns-clause-doors g c =
-    let none = nil_from_length c.loop-door.doors.items (sym c.loop-door.doors.ok.0 ∙ c.in_default-pop.ensures.cases.0) in
-    rw none at c.loop-door.invariant.doors

@@ -1,14 +1,8 @@
 use Rattle.std.proofs.Common.{◌≡◌, ◌∙◌, ◌+◌, ap, length, subst, sym}
 use Rattle.bq_thread_work.specs.Worked.{driver_state}
-use Rattle.bq_thread_work.proofs.TurnLemmas.{on_both, on_still}
+use Rattle.bq_thread_work.proofs.TurnLemmas.{on_both}
 use Rattle.bq_thread_work.proofs.WorkedLemmas.{worked_all}
 use Rattle.bq_thread_work.proofs.core_work.run_out.Goals as goal
-
-pub loop-init : goal.loop-init
-loop-init g c = record {
-  iterator = (tt, tt);
-  on = on_still _ _ c.args.driver c.requires.order.1;
-}
 
 pub loop-preserved : goal.loop-preserved
 loop-preserved g c =

@@ -5,6 +5,3 @@ use Rattle.bq_event_loop.proofs.order.OrderTurns.may_sleep.Goals as goal
 pub returns-clause-checks : goal.returns-clause-checks
 returns-clause-checks c idle come seat =
     subst (λ f. is_on f seat ≡ false) (ap (λ l. l.free) c.begin_round.ensures) (c.is_idle.ensures.checks idle come seat)
-
-pub returns-clause-busy : goal.returns-clause-busy
-returns-clause-busy c = c.is_idle.ensures.busy

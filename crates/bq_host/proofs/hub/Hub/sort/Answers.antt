@@ -1,9 +1,6 @@
 use Rattle.bq_host.proofs.HubLemmas.{went_none, went_sorted}
 use Rattle.bq_host.proofs.hub.Hub.sort.Goals as goal
 
-pub returns-then-self-clause-none : goal.returns-then-self-clause-none
-returns-then-self-clause-none g c = λ e. c.requires.order.none_pending c.if-self.true
-
 pub returns-then-self-clause-went : goal.returns-then-self-clause-went
 returns-then-self-clause-went g c = (c.requires.order, went_none g.K.QueueCore g.C.Clock c.args.seat c.args.self.now)
 

@@ -1,6 +1,6 @@
 use Rattle.std.proofs.Common.{[], arith, rules}
 use Rattle.bq_host.specs.Hubs.{state_of}
-use Rattle.bq_host.proofs.{MailLemmas.{none_taken, seat_takes, still_at}, TimedRunLemmas.gave_none}
+use Rattle.bq_host.proofs.{MailLemmas.{seat_takes}, TimedRunLemmas.gave_none}
 use Rattle.bq_host.proofs.WakeLemmas.{wakes_taken}
 use Rattle.bq_host.proofs.hub.Hub.take_mail.Goals as goal
 
@@ -20,9 +20,3 @@ returns-clause-went g c = (
         omega arith) c.index_mut.ensures.value c.take_first.ensures.oldest,
   ),
 )
-
-pub returns-clause-still : goal.returns-clause-still
-returns-clause-still g c = λ none.
-    still_at c.args.self.now.mails.items c.from.result c.index_mut.result.now c.take_first.new.self
-    (let e = c.from.ensures in let b = c.requires.ready.1 in
-    omega arith) c.index_mut.ensures.value (none_taken c.take_first.result _ _ c.take_first.ensures.oldest none)

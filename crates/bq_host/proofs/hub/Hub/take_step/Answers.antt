@@ -1,6 +1,5 @@
-use Rattle.std.proofs.Common.{ap, ◌∙◌, false, refl}
+use Rattle.std.proofs.Common.{false, refl}
 use Rattle.std.proofs.lemmas.Bool.{false≢true}
-use Rattle.bq_host.specs.Told.{noted}
 use Rattle.bq_host.proofs.HubLemmas.{order_ready, went_stepped}
 use Rattle.bq_host.proofs.TimedRunLemmas.{timed_step}
 use Rattle.bq_host.proofs.hub.Hub.take_step.Goals as goal
@@ -14,6 +13,3 @@ returns-clause-went g c =
       went_stepped g.K.QueueCore g.C.Clock c.args.seat t.new.self.time.moment c.args.what.now old t.new.self false
           (timed_step g.K.QueueCore g.C.Clock old.timed t.new.self c.args.seat c.args.what.now t.ensures.taken) c.requires.empty,
     )
-
-pub returns-clause-noted : goal.returns-clause-noted
-returns-clause-noted g c = c.note.ensures ∙ ap (λ told. noted told.0 c.args.self.now.unlogged) c.take_step_quietly-notice.ensures.told

@@ -7,12 +7,6 @@ returns-in_default-clause-over g c = (c.next_due.new.self, c.next_due.ensures.kn
 pub returns-then-self-due-clause-over : goal.returns-then-self-due-clause-over
 returns-then-self-due-clause-over g c = (c.next_due.new.self, c.next_due.ensures.known, inl refl)
 
-pub returns-clause-ready : goal.returns-clause-ready
-returns-clause-ready g c = let o = c.next_due.ensures.ready in record { room = o.room; due = o.due }
-
 pub returns-clause-over : goal.returns-clause-over
 returns-clause-over g c =
     (c.next_due.new.self, c.next_due.ensures.known, inr (c.hear-reading.result, c.hear-reading.ensures, refl))
-
-pub returns-clause-heard : goal.returns-clause-heard
-returns-clause-heard g c = λ e. (c.next_due.new.self, c.next_due.ensures.known, (c.hear-reading.result, c.hear-reading.ensures, refl))

@@ -1,20 +1,11 @@
-use Rattle.std.proofs.Common.{◌≡◌, ◌∙◌, ◌&&◌, ap, Bool, false, sym, true, true≢false}
+use Rattle.std.proofs.Common.{◌≡◌, ◌&&◌, Bool, false, sym, true, true≢false}
 use Rattle.bq_host.proofs.timed_core.TimedCore.tick_if_due.Goals as goal
 
 not_due : (may : Bool) → (may && false) ≡ true → ⊥
 not_due true e = true≢false (sym e)
 not_due false e = true≢false (sym e)
 
-pub returns-then-not-is_due-clause-ticked : goal.returns-then-not-is_due-clause-ticked
-returns-then-not-is_due-clause-ticked g c = λ e. absurd (not_due c.args.may_tick e)
-
-pub returns-then-may_tick-clause-over : goal.returns-then-may_tick-clause-over
-returns-then-may_tick-clause-over g c = λ e. absurd (true≢false (sym (ap (λ b. b && true) c.if-may_tick.true) ∙ e))
-
 pub returns-then-may_tick-clause-ticked : goal.returns-then-may_tick-clause-ticked
 returns-then-may_tick-clause-ticked g c = λ e.
     let h = c.is_due.ensures.heard c.if-not-is_due.false in
     (h.0, h.1, c.tick.ensures.ticked h.0 h.2)
-
-pub returns-else-may_tick-clause-ticked : goal.returns-else-may_tick-clause-ticked
-returns-else-may_tick-clause-ticked g c = λ e. absurd (true≢false (sym e ∙ ap (λ b. b && true) c.if-may_tick.false))

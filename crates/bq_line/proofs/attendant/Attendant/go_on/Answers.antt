@@ -1,7 +1,7 @@
 use Rattle.std.proofs.Common.{[], ◌∙◌, ap, refl, inl, inr}
 use Rattle.bq_seat.specs.NextActions.{does_of}
 use Rattle.bq_line.specs.Tending.{door_seen}
-use Rattle.bq_line.proofs.CarriedLemmas.{ends_on, ends_submission, rests, rests_submission, uses_carried, uses_submission}
+use Rattle.bq_line.proofs.CarriedLemmas.{ends_on, rests, uses_carried}
 use Rattle.bq_line.proofs.TendingLemmas.{from_place, on_action, tends_acted, tends_submitted}
 use Rattle.bq_line.proofs.SureLemmas.{sure_further}
 use Rattle.bq_line.proofs.attendant.Attendant.go_on.Goals as goal
@@ -43,36 +43,9 @@ returns-in_default-does-clause-still g c = λ moved.
     let h = c.carry_out.ensures.carried in
     rests g.K.Link.went _ _ _ c.in-On.action h.0 h.1 h.2 h.3.1 h.3.0 moved
 
-pub returns-in-Submit-clause-progress : goal.returns-in-Submit-clause-progress
-returns-in-Submit-clause-progress g c =
-    let h = c.submit_and_take.ensures.submitted c.in-Submit.ensures.action.0 c.in-Submit.ensures.action.1 in
-    ends_submission _ _ c.in-On.line c.in-Submit.ensures.action.0 c.in-On.sent _ _ _ h.0 h.1
-    (on_action c.in-On.is c.in-Submit.ensures.action.1) h.3
-
-pub returns-in-Submit-clause-still : goal.returns-in-Submit-clause-still
-returns-in-Submit-clause-still g c = λ moved.
-    let h = c.submit_and_take.ensures.submitted c.in-Submit.ensures.action.0 c.in-Submit.ensures.action.1 in
-    rests_submission g.K.Link.went _ _ _ _ _ _ _ h.0 h.1 h.2 h.3 moved
-
-pub returns-in-LineOver-clause-progress : goal.returns-in-LineOver-clause-progress
-returns-in-LineOver-clause-progress g c = rw (on_action c.in-On.is c.in-LineOver.ensures.action) refl
-
-pub returns-in-LineOver-clause-sure : goal.returns-in-LineOver-clause-sure
-returns-in-LineOver-clause-sure g c = λ never sure.
-    c.shut_line.ensures.sure never (rw c.in-On.is at sure)
-
 pub returns-in_default-does-clause-sure : goal.returns-in_default-does-clause-sure
 returns-in_default-does-clause-sure g c = λ never sure.
     sure_further g.L.Line.lies_over _ c.in-On.line c.carry_out.new.line _ _ _ _ _ c.in-On.is c.carry_out.ensures.stays sure
-
-pub returns-in-Submit-clause-sure : goal.returns-in-Submit-clause-sure
-returns-in-Submit-clause-sure g c = λ never sure.
-    sure_further g.L.Line.lies_over _ c.in-On.line c.in-On.line _ _ _ _ _ c.in-On.is (λ first over. over) sure
-
-pub returns-in-Submit-clause-uses : goal.returns-in-Submit-clause-uses
-returns-in-Submit-clause-uses g c =
-    let h = c.submit_and_take.ensures.submitted c.in-Submit.ensures.action.0 c.in-Submit.ensures.action.1 in
-    rw (on_action c.in-On.is c.in-Submit.ensures.action.1) (uses_submission g.K.Link.went _ _ _ _ _ _ _ h.0 h.1 h.2 h.3)
 
 pub returns-in_default-does-clause-uses : goal.returns-in_default-does-clause-uses
 returns-in_default-does-clause-uses g c =

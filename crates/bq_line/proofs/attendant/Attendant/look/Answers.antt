@@ -1,5 +1,4 @@
 use Rattle.bq_line.proofs.TendingLemmas.{tends_from, tends_opened}
-use Rattle.bq_line.proofs.SureLemmas.{sure_opened}
 use Rattle.bq_line.proofs.attendant.Attendant.look.Goals as goal
 
 pub returns-in-Ok-Line-clause-went : goal.returns-in-Ok-Line-clause-went
@@ -8,8 +7,3 @@ returns-in-Ok-Line-clause-went g c =
     rw c.put_place.ensures (tends_from c.requires.between
     (tends_opened g.L.Line.seen c.args.self.now.machine c.open-action.new.self c.in-Ok-Line.line c.open-action.result _ _
     c.open-action.ensures c.in-Ok-Line.ensures.over opened.0 opened.1 opened.2))
-
-pub returns-in-Ok-Line-clause-sure : goal.returns-in-Ok-Line-clause-sure
-returns-in-Ok-Line-clause-sure g c = λ never sure.
-    rw c.put_place.ensures (sure_opened g.L.Line.lies_over _ c.in-Ok-Line.line _ _ _ c.in-Ok-Line.ensures.over
-    (rw c.in-Ok-Line.field-0-is at (c.in-Ok-Line.ensures.sure never)) sure)

@@ -1,6 +1,6 @@
-use Rattle.std.proofs.Common.{refl, sym, ◌∙◌, add-one, arith, rules}
+use Rattle.std.proofs.Common.{refl, ◌∙◌, add-one, rules}
 use Rattle.std.proofs.lemmas.Option.{slice_get_past, slice_get_read}
-use Rattle.bq_line.proofs.PartLemmas.{open_here, open_next, open_past, passed}
+use Rattle.bq_line.proofs.PartLemmas.{open_next, passed}
 use Rattle.bq_line.proofs.line.mem_line.next_open.Goals as goal
 
 pub loop-at-preserved : goal.loop-at-preserved
@@ -21,11 +21,3 @@ returns-else-is_over-clause-open c =
 
 pub returns-after-loop-at-clause-open : goal.returns-after-loop-at-clause-open
 returns-after-loop-at-clause-open c = rw (slice_get_past _ _ c.loop-at-test.false) tt
-
-pub returns-else-is_over-clause-place : goal.returns-else-is_over-clause-place
-returns-else-is_over-clause-place c =
-    sym (open_here _ _ c.loop-at.from c.args.written c.index-parts-at.result c.loop-at-test.true c.index-parts-at.is (search rules))
-    ∙ c.loop-at.invariant.on
-
-pub returns-after-loop-at-clause-place : goal.returns-after-loop-at-clause-place
-returns-after-loop-at-clause-place c = sym (open_past _ _ c.loop-at.from c.args.written (omega arith)) ∙ c.loop-at.invariant.on

@@ -30,6 +30,3 @@ loop-preserved g c =
       tended = (t.0 ++ w.0, t.1 ++ w.1, (w.3 c.args.self.max_job_size t.0 t.1 t.2).0);
       same = c.go_on-progress.ensures.same c.args.self.door c.loop.invariant.same;
     }
-
-pub go_on-progress-requires-clause-placed : goal.go_on-progress-requires-clause-placed
-go_on-progress-requires-clause-placed g c = c.loop.invariant.tended.2.placed

@@ -1,11 +1,7 @@
-use Rattle.bq_thread_work.proofs.TurnLemmas.{not_lowered, on_heard}
+use Rattle.bq_thread_work.proofs.TurnLemmas.{on_heard}
 use Rattle.bq_thread_work.proofs.core_work.core_driver.CoreDriver.hear.Goals as goal
 
 pub returns-clause-on : goal.returns-clause-on
 returns-clause-on g c =
     on_heard g.K.QueueCore g.C.Clock c.args.self.now c.hear-reading.new.self c.hear-reading.result
     c.requires.order c.hear-reading.ensures
-
-pub returns-clause-moment : goal.returns-clause-moment
-returns-clause-moment g c = not_lowered c.args.self.now.timed.time.moment c.hear-reading.new.self.moment c.hear-reading.result
-    c.hear-reading.ensures.heard

@@ -4,16 +4,8 @@ use Rattle.bq_host.proofs.TimedRunLemmas.{timed_step}
 use Rattle.bq_thread_work.specs.Sending.{AreStuck}
 use Rattle.bq_thread_work.specs.Worked.{driver_state}
 use Rattle.bq_thread_work.specs.declared.core_work.sender.Sender.{Sender}
-use Rattle.bq_thread_work.proofs.{TurnLemmas.{finds_tick, in_order_taken}, WorkedLemmas.{pending_on, worked_step}}
+use Rattle.bq_thread_work.proofs.{WorkedLemmas.{pending_on, worked_step}}
 use Rattle.bq_thread_work.proofs.core_work.core_driver.CoreDriver.take_one.Goals as goal
-
-pub take_step-requires : goal.take_step-requires
-take_step-requires g c = record {
-  order = rw c.in-Some.ensures.taken (in_order_taken g.K.QueueCore.machine c.args.self.now c.in-Some.taken c.requires.order.1);
-}
-
-pub tick_if_due-requires-clause-order : goal.tick_if_due-requires-clause-order
-tick_if_due-requires-clause-order g c = rw c.in-None.ensures.none.0 c.requires.order.1
 
 pub returns-in-Some-clause-on : goal.returns-in-Some-clause-on
 returns-in-Some-clause-on g c =
@@ -49,11 +41,3 @@ returns-in-Some-clause-found g c =
       λ e. absurd cc,
       λ e. inl (c.in-Some.taken, ap (λ (s : Sender). s.end.taken) sender),
     )
-
-pub returns-in-None-clause-found : goal.returns-in-None-clause-found
-returns-in-None-clause-found g c =
-    let t = c.tick_if_due.ensures in
-    let none = c.in-None.ensures.none in
-    finds_tick g.I.IntakeInvariant.was g.K.QueueCore.machine c.args.self.now c.tick_if_due.new.self c.tick_if_due.result
-    (t.sender ∙ none.0) none.1 t.ticks
-    (λ e. rw none.0 at (t.ticked e))

@@ -1,7 +1,7 @@
 use Rattle.std.proofs.Common.{◌≡◌, ◌∙◌, ◌∷◌, [], ◌++◌, ap, subst, sym}
 use Rattle.bq_thread_work.specs.Sending.{AreSent}
 use Rattle.bq_thread_work.specs.declared.core_work.sender.Sender.{Sender}
-use Rattle.bq_thread_work.proofs.SendingLemmas.{sent_before, sent_on, sent_one, stuck_kept, stuck_sent}
+use Rattle.bq_thread_work.proofs.SendingLemmas.{sent_before, sent_on, sent_one}
 use Rattle.bq_thread_work.proofs.core_work.sender.Sender.send_or_keep.Goals as goal
 
 pub returns-then-can_send-clause-sent : goal.returns-then-can_send-clause-sent
@@ -26,15 +26,3 @@ returns-else-can_send-clause-sent c =
     subst (λ left. AreSent old.end (old.kept.items ++ more) mid.end left)
     (sym (c.push_back_reserved.ensures.items ∙ ap (λ xs. xs ++ more) kept))
     (sent_before old.end mid.end old.kept.items old.kept.items more c.can_send.ensures.unsent)
-
-pub returns-then-can_send-clause-stuck : goal.returns-then-can_send-clause-stuck
-returns-then-can_send-clause-stuck c =
-    let can = c.can_send.ensures in
-    stuck_sent c.can_send.new.self.end c.push.new.self c.args.self.now.kept.items c.can_send.new.self.kept.items c.args.seat c.args.answer
-    c.push.ensures.sent (can.none c.if-can_send.true) (ap (λ (s : Sender). s.kept.items) can.rest) can.stuck
-
-pub returns-else-can_send-clause-stuck : goal.returns-else-can_send-clause-stuck
-returns-else-can_send-clause-stuck c =
-    let can = c.can_send.ensures in
-    stuck_kept c.can_send.new.self.end c.args.self.now.kept.items c.can_send.new.self.kept.items _ c.args.seat c.args.answer
-    (can.full c.if-can_send.false) (ap (λ (s : Sender). s.kept.items) can.rest) c.push_back_reserved.ensures.items can.stuck
