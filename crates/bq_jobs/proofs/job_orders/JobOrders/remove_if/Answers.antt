@@ -10,17 +10,9 @@ use Rattle.bq_jobs.proofs.Orders.{held_place}
 use Rattle.std.specs.BTreeMap.{is_at}
 use Rattle.std.specs.Ordering.{nat_cmp}
 use Rattle.bq_index.specs.Removed.{removed_if}
-use Rattle.bq_jobs.proofs.Shelved.{id_search, removes_if, shelved_kept, shelved_removed, timer_search, group_search}
+use Rattle.bq_jobs.proofs.Shelved.{id_search, removes_if, shelved_removed, timer_search, group_search}
 use Rattle.bq_jobs.proofs.TestedRemovals.{passing_there}
 use Rattle.bq_jobs.proofs.job_orders.JobOrders.remove_if.Goals as goal
-
-pub invariant_of-self : goal.invariant_of-self
-invariant_of-self g c =
-    let was = c.in_err-job.was in
-    let spare = ap (λ o. c.self.inside.by_id.spare + cond (is_some o) 1 0) was in
-    shelved_kept c.self.inside c.remove_at.new.by_id c.self.invariant
-    (c.remove_at.ensures.entries ∙ ap (λ o. removed_if (is_at (nat_cmp c.args.id)) o c.self.inside.by_id.entries) was)
-    (omega (arith, c.remove_at.ensures.spare, spare))
 
 pub returns-in_err-job-clause-left : goal.returns-in_err-job-clause-left
 returns-in_err-job-clause-left g c =
