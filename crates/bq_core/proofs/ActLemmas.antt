@@ -1,22 +1,21 @@
 -- What each event at a seat does, if its seat is known.
 use Rattle.std.proofs.Common.{Bool, List, None, Option, Some, [], append-nil, arith, false, filter, if◌then◌else◌, is_some, length, nat_le}
-use Rattle.std.proofs.{Common.{not, refl, sym, true, ℕ, ◌&&◌, ◌++◌, ◌+◌, ◌==◌, ◌∙◌, ◌∷◌, ◌≡◌}, Math.Bool.{or-false, or-true}}
-use Rattle.std.proofs.lemmas.Bool.{and_parts}
+use Rattle.std.proofs.{Common.{not, refl, true, ℕ, ◌&&◌, ◌++◌, ◌+◌, ◌==◌, ◌∷◌, ◌≡◌}, Math.Bool.{or-false}}
 use Rattle.std.{proofs.lemmas.{Bool.{cases_Bool, eqb-true}, Grind.common_steps}, specs.List.list_any}
 use Rattle.bq_core.{proofs.AskLemmas.asked_before, specs.Acting.{Acts, Replies, put_of, with_answer, with_reply}}
-use Rattle.bq_core.specs.declared.{acts.Reply.{Reply, TheVariants.{LeftOut, Silent, Told, Unshared}}, job_acts.NewJob.NewJob}
+use Rattle.bq_core.specs.declared.{acts.Reply.{Reply}, job_acts.NewJob.NewJob}
 use Rattle.bq_core_api.specs.Outbox.{Outbox}
-use Rattle.bq_job.{proofs.{KeptLemmas.only_seat, ListLemmas.{all_at, all_weaker, found_passes, map_all_same}}, specs.beside.AreIdsWithin}
+use Rattle.bq_job.{proofs.{KeptLemmas.only_seat, ListLemmas.{all_weaker, found_passes, map_all_same}}, specs.beside.AreIdsWithin}
 use Rattle.bq_job.specs.{declared.{answer.Answer.Answer, job.Job.Job, request.Request.Request, step.Step.Step}, machine.Machine.Machine}
-use Rattle.bq_job.specs.machine.{SeatRecord, after_close, after_connect, asked, delete_effect, effect, growth_refused, ignore_effect}
+use Rattle.bq_job.specs.machine.{SeatRecord, after_close, after_connect, asked, delete_effect, effect, ignore_effect}
 use Rattle.bq_job.specs.machine.{is_full, is_reserved, is_waiting}
 use Rattle.bq_job.specs.machine.{job_with, last_id, new_job, put_effect, raised, reserve_job_effect, reserved_by, seat_with}
-use Rattle.bq_job.specs.machine.{share_refused, step_takes_memory, takes_memory, telling, watch_effect, watches, watching, with_end}
+use Rattle.bq_job.specs.machine.{step_takes_memory, takes_memory, telling, watch_effect, watches, watching, with_end}
 use Rattle.bq_job.specs.machine.{with_job, with_put}
 use Rattle.bq_job.specs.{machine.{with_seat, with_tube}, reading.TubeName.is_same_name}
 use Rattle.bq_jobs.{proofs.Changes.found_id, specs.{Kept.{ComparesAtMost, Kept, with_added}, Searching.Asks, Seen.IsBodyOf}}
 use Rattle.bq_state.{proofs.TubeLemmas.some_left, specs.{Asking.AsksAsChanged, JobChanges.is_passed_by, SeatChanges.AreNumbered}}
-use Rattle.bq_state.specs.{SeatStates.{is_asking, is_connected, is_free}, TubeEntries.{HasTubes, has_entry}}
+use Rattle.bq_state.specs.{SeatStates.{is_asking, is_connected, is_free}, TubeEntries.{has_entry}}
 use Rattle.bq_state.specs.declared.core_parts.CoreParts.{CoreParts}
 use Rattle.bq_job.specs.declared.answer.Answer.TheVariants as answers
 use Rattle.bq_job.specs.declared.request.Request.TheVariants as requests
@@ -100,18 +99,11 @@ asking_client o h = grind (arith, common_steps)
 -- the tube that it uses has an entry
 pub used_has_entry : (st : CoreParts) (seat : ℕ) (s : SeatRecord) → seat_with seat st.seats.items ≡ Some s
     → is_asking (seat_with seat st.seats.items) ≡ true → has_entry s.used st.tubes.entries ≡ true
-used_has_entry st seat s found asking =
-    (all_at (HasTubes st.tubes.entries) _ s st.sound.entries.of_seats (found_passes _ _ _ found).1).used
-    (grind (arith, common_steps, and_parts))
+used_has_entry st seat s found asking = grind (arith, common_steps, found_passes)
 
 pub acts_silent : (m : Machine) (seat : ℕ) (what : Step) (outs : Outbox) (last : Machine)
     → effect m seat what ≡ record { machine = last; answer = None } → Acts m seat what outs outs last
 acts_silent m seat what outs last is = grind (arith, common_steps, append-nil, or-false)
-
-pub acts_told : (m : Machine) (seat : ℕ) (what : Step) (answer : Answer) (old new : Outbox) (last : Machine)
-    → effect m seat what ≡ record { machine = last; answer = Some answer } → new ≡ with_answer seat answer old
-    → Acts m seat what old new last
-acts_told m seat what answer old new last is adds = grind (arith, common_steps, or-false)
 
 pub some_there : (o : Option Job) → is_some o ≡ true → (j : Job) × (o ≡ Some j)
 some_there o h = grind (arith, common_steps)
@@ -120,45 +112,17 @@ some_there o h = grind (arith, common_steps)
 pub acts_outcome : (m next : Machine) (seat : ℕ) (what : Step) (reply : Reply) (told : Answer) (old new : Outbox)
     → Replies (step_takes_memory what) m (effect m seat what) reply told next → new ≡ with_reply seat reply told old
     → Acts m seat what old new next
-acts_outcome m next seat what Silent told old new is adds = rw adds (acts_silent _ _ _ _ _ is)
-acts_outcome m next seat what Told told old new is adds = acts_told _ _ _ _ _ _ _ is adds
-acts_outcome m next seat what LeftOut told old new is adds = rw adds (record {
-  memory = growth_refused;
-  possible = is.1;
-  after = is.0;
-  added = refl;
-  most = refl;
-  left_out = sym (or-true old.left_out);
-  unshared = sym (or-false old.unshared);
-})
-acts_outcome m next seat what Unshared told old new is adds = rw adds (record {
-  memory = share_refused;
-  possible = is.1;
-  after = is.0;
-  added = refl;
-  most = refl;
-  left_out = sym (or-false old.left_out);
-  unshared = sym (or-true old.unshared);
-})
-
--- What a client asks that may make a request is its effect.
-effect_of : (m : Machine) (seat : ℕ) (request : Request) (s : SeatRecord) → seat_with seat m.seats ≡ Some s
-    → (s.connected && not (is_waiting s)) ≡ true → effect m seat (steps.Ask request) ≡ asked request m s
-effect_of m seat request s found asks = rw (found, asks) refl
+acts_outcome m next seat what reply told old new is adds = grind (arith, acts_silent, or-false)
 
 effect_asked : (m : Machine) (seat : ℕ) (request : Request) → is_asking (seat_with seat m.seats) ≡ true
     → (s : SeatRecord) × (seat_with seat m.seats ≡ Some s) × (effect m seat (steps.Ask request) ≡ asked request m s)
-effect_asked m seat request asking =
-    let a = asking_client (seat_with seat m.seats) asking in
-    (a.0, a.1, effect_of m seat request a.0 a.1 a.2)
+effect_asked m seat request asking = grind arith
 
 pub acts_asked : (m next : Machine) (seat : ℕ) (request : Request) (answer : Answer) (old new : Outbox)
     → is_asking (seat_with seat m.seats) ≡ true
     → ((s : SeatRecord) → seat_with seat m.seats ≡ Some s → asked request m s ≡ telling answer next)
     → new ≡ with_answer seat answer old → Acts m seat (steps.Ask request) old new next
-acts_asked m next seat request answer old new asking does adds =
-    let e = effect_asked m seat request asking in
-    acts_told _ _ _ _ _ _ _ (e.2 ∙ does e.0 e.1) adds
+acts_asked m next seat request answer old new asking does adds = grind arith
 
 -- An allocation failed or a body could not be shared, so the command was skipped.
 pub acts_replied : (m next : Machine) (seat : ℕ) (request : Request) (reply : Reply) (told : Answer) (old new : Outbox)
@@ -182,8 +146,7 @@ module _ (m : Machine) (seat : ℕ) (new : NewJob) (body : List ℕ) (asking : i
 
     pub put_left_out : (next : Machine) → is_full m.settings.max_jobs m.jobs ≡ false → next ≡ m
         → last ≡ record (with_answer seat answers.OutOfMemory old) { left_out = true } → Acts m seat (put_of new body) old last next
-    put_left_out next free same adds = acts_replied _ _ _ _ LeftOut answers.Closed _ _ asking (λ s found. (same, rw (accepts, free) refl))
-        adds
+    put_left_out next free same adds = grind arith
 
 -- what a put does, under a name that an attribute can cite
 pub ruleset puts = (asked_in_all, put_in_drain, put_at_limit, put_left_out, used_has_entry)
@@ -192,5 +155,4 @@ pub ruleset puts = (asked_in_all, put_in_drain, put_at_limit, put_left_out, used
 pub deletes : (m next : Machine) (seat id : ℕ) (answer : Answer) (old new : Outbox) → is_asking (seat_with seat m.seats) ≡ true
     → ((s : SeatRecord) → s.number ≡ seat → delete_effect id m s ≡ telling answer next)
     → new ≡ with_answer seat answer old → Acts m seat (steps.Ask (requests.Delete id)) old new next
-deletes m next seat id answer old new asking does adds =
-    acts_asked _ _ _ _ _ _ _ asking (λ s found. does s (number_found _ _ _ found)) adds
+deletes m next seat id answer old new asking does adds = search (acts_asked, number_found)

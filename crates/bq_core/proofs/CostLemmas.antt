@@ -1,8 +1,7 @@
 -- The searches of the parts of a step, in terms of the model.
 use Rattle.std.proofs.Common.{Bool, List, Some, [], ap, arith, false, if◌then◌else◌, length, map, not, suc, true, ℕ, ◌&&◌, ◌*◌, ◌+◌, ◌-◌}
 use Rattle.std.proofs.{Common.{◌<◌, ◌==◌, ◌∙◌, ◌∷◌, ◌≡◌, ◌≤◌}, Math.Nat.suc-mul, lemmas.{Grind.common_steps, List.Sums.sum_by-cons}}
-use Rattle.std.{proofs.lemmas.{List.length-append, Nat.mul-le}, specs.{List.{AllByRecursion as All, list_any, sum_by}, Prelude.count_by}}
-use Rattle.std.specs.Prelude.{option_map}
+use Rattle.std.{proofs.lemmas.{List.length-append, Nat.mul-le}, specs.{List.{AllByRecursion as All, sum_by}, Prelude.count_by}}
 use Rattle.bq_core.{proofs.TurnLemmas.{kept_by_dispatch, kept_by_ends}, specs.{Kicking.all_kicked, Turns.Gives}}
 use Rattle.bq_core_api.specs.{Cost.{changed_jobs, is_gone_or_changed, is_same_job, tubes_watched}, Outbox.Outbox}
 use Rattle.bq_job.{proofs.{ListLemmas.all_weaker, LookupLemmas.job_in_map}, specs.beside.{AreIdsWithin, waiting_count}}
@@ -59,11 +58,7 @@ module _ (f : Job → Job) (keeps : (j : Job) → (f j).id ≡ j.id) (q : Job �
   counted_among new (j ∷ jobs) all = grind (arith, common_steps, other, counted_among new jobs all.1)
 
   pub changed_of : (low next : ℕ) (jobs : List Job) → AreIdsWithin low jobs next → count_by q jobs ≤ changed_jobs jobs (map f jobs)
-  changed_of low next jobs ids = omega (
-    arith,
-    counted_among (map f jobs) jobs
-        (all_weaker _ _ jobs (λ k found. job_in_map f k.id jobs keeps ∙ ap (option_map f) found) (all_found _ _ _ ids)),
-  )
+  changed_of low next jobs ids = grind (arith, all_weaker, job_in_map, counted_among (map f jobs) jobs, all_found _ _ _ ids)
 
 -- the jobs that a client loses are changed
 pub given_back_changed : (state : JobState) (seat low next : ℕ) (jobs : List Job) → is_reserved state ≡ false → AreIdsWithin low jobs next
@@ -81,8 +76,4 @@ pub kicked_changed : (kind : JobKind) (tube : List ℕ) → ((k : Job) → is_of
     (low next n : ℕ) (jobs : List Job) → AreIdsWithin low jobs next
     → count_by (is_of kind tube) (all_kicked chosen jobs) + n ≤ count_by (is_of kind tube) jobs
     → n ≤ changed_jobs jobs (all_kicked chosen jobs)
-kicked_changed kind tube out chosen low next n jobs ids few =
-    let p = is_of kind tube in
-    let f = λ (j : Job). if list_any (λ k. k.id == j.id) chosen then kicked j else j in
-    let changes = changed_of f (λ j. grind (arith, common_steps)) (λ j. p j && not (p (f j))) (λ j h. grind (arith, common_steps)) in
-    omega (arith, passing_apart p f jobs, changes low next jobs ids)
+kicked_changed kind tube out chosen low next n jobs ids few = grind (arith, changed_of, passing_apart)

@@ -165,9 +165,7 @@ module _ (m : Machine) (id : ℕ) (ids : AreIdsWithin 1 m.jobs m.next_id) (first
       (tube_is : IsTubeOf (job_with id m.jobs) tube) (found : Option ℕ)
       (found_is : found ≡ option_map (λ s. s.number) (first_of (waits_at name) is_wait_before seats)) where
     pub picked_at_tube : (j : Job) → next_job m ≡ Some j → found ≡ option_map (λ s. s.number) (next_seat m j)
-    picked_at_tube j e =
-        let at = tube_is j (sym next_is ∙ e) in
-        rw (found_is, seats_are, name_is, at) (ap (option_map (λ s. s.number)) (seat_at_tube m j e))
+    picked_at_tube j e = grind (arith, next_is, seat_at_tube m j e)
 
     pub one_picked : is_some found ≡ true
     one_picked =

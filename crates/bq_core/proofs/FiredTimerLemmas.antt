@@ -46,14 +46,11 @@ module _ (m : Machine) (ids : AreIdsWithin 1 m.jobs m.next_id) where
       let f = job_after_timers m.moment in
       let p = λ (j : Job). is_expired m.moment j.state in
       let jobs = absorbed f f id m.jobs (all_always _ m.jobs (λ k e. fired_once m.moment k)) in
-      let count = as_many p f id m.jobs (all_weaker _ _ m.jobs (λ k is e. grind (arith, common_steps))
-      (one_of_id id 1 m.next_id m.jobs one.job ids one.found)) in
-      rw (jobs, count) refl
+      grind (arith, as_many, all_weaker, one_of_id id 1 m.next_id m.jobs one.job ids one.found)
   others_left (Expired id) one = grind (arith, common_steps, absorbed, all_always, fired_once, one_fewer)
 
   one_ripe_fewer : (due : Due) → IsDue m due → count_by (is_ripe m.moment) (fired due m).jobs < count_by (is_ripe m.moment) m.jobs
-  one_ripe_fewer (Ripe id) one = grind (arith, common_steps, one_fewer, one.found, one.passes_is)
-  one_ripe_fewer (Expired id) one = grind (arith, common_steps, one_fewer, one.found, one.passes_is)
+  one_ripe_fewer due one = grind (arith, one_fewer)
 
 module _ (old mid new : CoreParts) (due : Due) (is : IsDue (machine_of old) due) (same : OnlyCompares old mid)
     (after : machine_of new ≡ fired due (machine_of mid)) where
@@ -131,8 +128,7 @@ none_fires m fits due expired =
     let over = none_pass _ _ expired in
     let jobs = map_all_same (job_after_timers m.moment) m.jobs
     (all_weaker _ _ _ (λ j none. rw (none.0, none.1) refl) (all_both _ _ _ (none_pass _ _ due) over)) in
-    let count = count_all_not _ _ over in
-    grind (arith, common_steps)
+    grind (arith, count_all_not)
 
 -- the first delayed job and the first reserved one
 module _ (st mid : CoreParts) (same : OnlyCompares st mid) (delayed lease : Option (ℕ × ℕ))
@@ -141,8 +137,7 @@ module _ (st mid : CoreParts) (same : OnlyCompares st mid) (delayed lease : Opti
     (first_of (λ j. is_reserved j.state) is_lease_before mid.jobs.jobs)) where
   first_of_leases : lease ≡ option_map (ranked (λ j. deadline_of j.state))
       (first_of (λ j. is_reserved j.state) is_lease_before st.jobs.jobs)
-  first_of_leases = lease_is ∙ ap (λ (h : Held). option_map (ranked (λ j. deadline_of j.state))
-      (first_of (λ j. is_reserved j.state) is_lease_before h.jobs.jobs)) same
+  first_of_leases = grind arith
 
   pub lease_due : (id : ℕ) → Some id ≡ id_if_past st.moment lease → IsDue (machine_of st) (Expired id)
   lease_due id past = first_past _ _ _ expiries_are st.jobs.jobs st.moment 1 st.next_id id st.sound.ids lease first_of_leases past
@@ -201,22 +196,16 @@ module _ (state : JobState) (seat : ℕ) (old new : CoreParts) (kept : Kept) (id
   gone = grind (arith, common_steps)
 
   pub given_one : after_giving_back state seat (machine_of new) ≡ after_giving_back state seat (machine_of old)
-  given_one = ap (after_giving_back state seat) gives ∙ ap (λ jobs. record (machine_of old) { jobs = jobs })
-      (absorbed _ _ id old.jobs.jobs (all_weaker _ _ _ (λ k is e. rw (gone, ap (is_held_by seat) (is e) ∙ one.passes_is) refl)
-      (one_of_id id 1 old.next_id old.jobs.jobs one.job old.sound.ids one.found)))
+  given_one = grind (arith, absorbed, all_weaker, gone, one_of_id id 1 old.next_id old.jobs.jobs one.job old.sound.ids one.found)
 
   pub given_fewer : count_jobs (is_held_by seat) new < count_jobs (is_held_by seat) old
   given_fewer = grind (arith, common_steps, one_fewer, gives, one.passes_is, gone, one.found, old.sound.ids)
 
 -- no client waits: no wait ends
 pub nobody_ends : (m : Machine) → list_any is_waiting m.seats ≡ false → next_end m ≡ None
-nobody_ends m h = first_of_none_passes (ends_waiting m) is_wait_before m.seats
-    (none_stronger is_waiting (ends_waiting m) m.seats (λ s none. rw none refl) h)
+nobody_ends m h = grind (arith, none_stronger, first_of_none_passes (ends_waiting m) is_wait_before m.seats)
 
 -- no wait has timed out, and no time to run ends soon
 pub none_ends : (m : Machine) → list_any (has_waited m.moment) m.seats ≡ false
     → list_any (is_lease_short m.moment) m.jobs ≡ false → next_end m ≡ None
-none_ends m waited short =
-    let soon = λ (n : ℕ). none_stronger _ (λ j. is_ending_lease m.moment n j.state) m.jobs (λ j none. grind (arith, common_steps)) short in
-    first_of_none_passes (ends_waiting m) is_wait_before m.seats
-    (none_stronger (has_waited m.moment) (ends_waiting m) m.seats (λ s none. rw (soon s.number) none) waited)
+none_ends m waited short = grind (arith, none_stronger, first_of_none_passes (ends_waiting m) is_wait_before m.seats)

@@ -1,9 +1,9 @@
 -- Kicking the first job of a kind repeatedly kicks the first ones in order.
 use lib.Seq.{take-nil}
-use Rattle.std.proofs.Common.{Bool, List, None, Option, Some, [], ap, arith, eq-eqb, false, filter, if◌then◌else◌, inl, inr, length, map}
+use Rattle.std.proofs.Common.{Bool, List, None, Option, Some, [], ap, arith, false, filter, if◌then◌else◌, inl, inr, length, map}
 use Rattle.std.proofs.Common.{map-id, not, refl, suc, sym, take, true, ℕ, ◌+◌, ◌-◌, ◌<◌, ◌==◌, ◌∙◌, ◌∷◌, ◌≡◌, ◌≤◌}
 use Rattle.std.proofs.lemmas.Bool.{cases_Bool, eqb-true}
-use Rattle.std.{proofs.lemmas.{Bool.{Decides.nat_tests, ne_eqb}, Grind.common_steps}, specs.List.AllByRecursion as All}
+use Rattle.std.{proofs.lemmas.{Grind.common_steps}, specs.List.AllByRecursion as All}
 use Rattle.std.specs.Prelude.{option_map}
 use Rattle.bq_core.{proofs.ActLemmas.none_left, specs.Kicking.{KicksFirst, all_kicked, jobs_of}}
 use Rattle.bq_job.proofs.{BecomeLemmas.{all_in_order, all_of_take}, ChoiceLemmas.{first_of_is_least, first_of_is_some, first_of_none}}
@@ -18,8 +18,7 @@ use Rattle.bq_state.specs.declared.job_store.JobKind.TheVariants.{Buried, Delaye
 -- a job is the only one with its id
 pub one_of_id : (id low next : ℕ) (jobs : List Job) (j : Job) → AreIdsWithin low jobs next → job_with id jobs ≡ Some j
     → All (λ x. (x.id == id) ≡ true → x ≡ j) jobs
-one_of_id id low next jobs j h found =
-    all_weaker _ _ jobs (λ x is same. let at = eqb-true x.id id same in cc) (all_found low next jobs h)
+one_of_id id low next jobs j h found = grind (arith, all_weaker, all_found)
 
 -- What comes before all others is at the head.
 at_head : (before : Job → Job → Bool) (j : Job) (ks : List Job) → All (λ y. before y j ≡ false) ks → put_in_order before j ks ≡ j ∷ ks
@@ -59,10 +58,7 @@ kicked_in_turn j chosen others [] = refl
 kicked_in_turn j chosen others (x ∷ js) =
     let rest = kicked_in_turn j chosen others js in
     let none = list_any_not (λ k. k.id == j.id) chosen others in
-    elim (cases_Bool (x.id == j.id)) [
-      | inl same ↦ rw same (grind (arith, common_steps, cases_Bool, nat_tests, eqb-true x.id j.id same, eq-eqb))
-      | inr apart ↦ rw apart (grind (arith, common_steps, ne_eqb, eq-eqb))
-    ]
+    grind arith
 
 -- the first one is kicked
 pub kicks_first : (kind : JobKind) (tube : List ℕ) (low next : ℕ) (jobs : List Job) (j : Job)
@@ -84,8 +80,7 @@ kicks_first kind tube low next jobs j out ids first =
     (ids_of_filter p low next jobs ids) (all_weaker _ _ _ (λ x h. h.0 h.1) (all_of_filter _ p jobs least)) (there ∙ found) in
     let left = kicked_are_out p j.id out jobs in
     record {
-      jobs = λ n. rw (ordered, left) (kicked_in_turn j (take n (in_order before others))
-          (all_of_take _ n _ (all_in_order _ before others (left_are_others j.id (filter p jobs)))) jobs);
+      jobs = grind (arith, kicked_in_turn, all_of_take, all_in_order, left_are_others);
       count = λ n. rw (ordered, left) refl;
     }
 

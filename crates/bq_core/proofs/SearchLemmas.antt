@@ -19,9 +19,7 @@ some_passes p seats h = let any = Any-from_list_any p seats h in (any.1, (any.0,
 -- only the client at this seat may pass, if there is one
 only_client : (m : Machine) (seat : ℕ) (o : Option SeatRecord) → AreNumbered m.seats → seat_with seat m.seats ≡ o → (j : Job)
     → All (IsKnown (Client seat) m.tubes j) m.seats → list_any (is_waiting_for m j) m.seats ≡ list_any (is_waiting_for m j) (these o)
-only_client m seat None numbered found j all =
-    let none = none_found seat m.seats found in
-    grind (arith, common_steps, cases_Bool, nat_tests, some_passes, all_at)
+only_client m seat None numbered found j all = grind (arith, common_steps, nat_tests, some_passes, all_at, none_found seat m.seats found)
 only_client m seat (Some s) numbered found j all =
     let only = only_seat 0 (length m.seats) seat m.seats s numbered found in
     grind (arith, common_steps, cases_Bool, eqb-true, list_any_with, some_passes, found_passes, all_at)

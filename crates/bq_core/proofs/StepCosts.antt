@@ -1,16 +1,16 @@
 -- A whole step and its searches, from its parts.
 use Rattle.std.proofs.Common.{Bool, [], ap, append_assoc, arith, false, length, max, subst, sym, ℕ, ◌*◌, ◌++◌, ◌+◌, ◌<◌, ◌||◌, ◌∙◌, ◌≡◌}
-use Rattle.std.proofs.{Common.◌≤◌, Math.{Bool.or_assoc, Nat.add-mul}, lemmas.{Grind.common_steps, List.Sums.count_by-le-length}}
+use Rattle.std.proofs.{Common.◌≤◌, Math.{Nat.add-mul}, lemmas.{Grind.common_steps, List.Sums.count_by-le-length}}
 use Rattle.std.proofs.lemmas.{List.length-append, Nat.mul-le}
 use Rattle.bq_core.proofs.{AskLemmas.{asks_more, asks_then, search_grows}, CostLemmas.{ended_stop, entries_less, handed_stop, waited_less}}
-use Rattle.bq_core.proofs.{StepLemmas.timers_alike, TurnLemmas.{chain_joined, refused_joined, room_kept}, WatchLemmas.acted_few}
+use Rattle.bq_core.proofs.{StepLemmas.timers_alike, TurnLemmas.{chain_joined, room_kept}, WatchLemmas.acted_few}
 use Rattle.bq_core.{proofs.WatchLemmas.{waited_few, waiting_few}, specs.{AtOnce.ActsOrGives, Serving.{ServesAsking, TakesStepWithin}}}
 use Rattle.bq_core.specs.Turns.{Gives, HasRoom}
 use Rattle.bq_core_api.specs.{Cost.{ripening, tubes_watched, watched_tubes}, Outbox.Outbox}
 use Rattle.bq_job.proofs.{KeptLemmas.{Keeps, kept_of_lawful}, LawfulLemmas.{HasServed, kept_of_timers, leaves_acted, length_addressed}}
 use Rattle.bq_job.{proofs.{LawfulLemmas.{seats_many, served}, QuietLemmas.forgets_nothing}, specs.beside.{IsLawful, waiting_count}}
-use Rattle.bq_job.specs.{declared.step.Step.Step, machine.{DispatchTurn, Machine.Machine, acted, addressed, after_timers, at_moment}}
-use Rattle.bq_job.specs.machine.{forgetting, has_refused_share, is_growth_refused, is_share_refused, is_waiting}
+use Rattle.bq_job.specs.{declared.step.Step.Step, machine.{DispatchTurn, Machine.Machine, acted, after_timers, at_moment}}
+use Rattle.bq_job.specs.machine.{forgetting, has_refused_share, is_growth_refused, is_waiting}
 use Rattle.bq_jobs.specs.{Kept.Kept, Searching.Asks}
 use Rattle.bq_state.specs.{Asking.{AsksWithin, search_among}, CoreParts.machine_of, Cost.{waited, waited_tubes}}
 use Rattle.bq_state.specs.declared.core_parts.CoreParts.{CoreParts}
@@ -27,21 +27,11 @@ serving_after first middle last before between after old told new g rest asks =
       serves = record {
         handed = g.given ++ s.handed;
         ended = s.ended;
-        serves = record {
-          between = s.serves.between;
-          dispatches = record {
-            end = d.end;
-            turns = chain_joined DispatchTurn first middle d.end g.given s.handed g.turns d.turns;
-            done = d.done;
-            forgets = d.forgets;
-          };
-          ends_waits = s.serves.ends_waits;
-        };
+        serves = grind (arith, chain_joined);
         added = s.added ∙ rw g.added (simp append_assoc);
         most = s.most ∙ g.most;
         left_out = s.left_out ∙ g.left_out;
-        unshared = s.unshared ∙ rw (g.unshared, refused_joined g.given s.handed)
-            (or_assoc old.unshared (has_refused_share g.given) (has_refused_share s.handed));
+        unshared = grind (arith, common_steps);
         tubes = s.tubes;
         room = λ more h. s.room more (room_kept DispatchTurn has_refused_share more first middle old told g h);
       };
@@ -103,8 +93,7 @@ module _ (first fired before after : CoreParts) (at seat most : ℕ) (what : Ste
   room_then h =
       let room = x.serves.room 1 (first_room first fired at most begun lawful fires starts h) in
       let leaves = leaves_acted e.acts.memory (machine_of before) seat what served_first.keeps in
-      room_kept _ _ _ _ _ _ _ e.turns
-      (grind (arith, common_steps, length-append, length_addressed, left_is, e.acts.added, e.acts.most))
+      grind (arith, length-append, length_addressed)
 
   -- The step is within its bound.
   pub step_within : (last : CoreParts) (new : Outbox) → Asks (10 * ripening at (machine_of first) + 2) first.jobs fired.jobs
@@ -141,12 +130,9 @@ module _ (first fired before after : CoreParts) (at seat most : ℕ) (what : Ste
           possible = a.possible;
           acts = left_is;
           serves_then = y.serves;
-          answers_are = y.added ∙ ap (λ given. given ++ y.handed ++ y.ended) (a.added ∙ ap (λ given. given ++ addressed seat answer)
-              (s.added ∙ ap (λ o. o.given ++ s.handed ++ s.ended) starts));
+          answers_are = grind arith;
           left_out = y.left_out ∙ a.left_out ∙ ap (λ b. b || is_growth_refused a.memory) (s.left_out ∙ ap (λ o. o.left_out) starts);
-          unshared = y.unshared ∙ ap (λ b. b || has_refused_share y.handed) (a.unshared ∙ ap (λ b. b || is_share_refused a.memory)
-              (s.unshared ∙ ap (λ o. o.unshared || has_refused_share s.handed) starts)
-              ∙ or_comm (has_refused_share s.handed) (is_share_refused a.memory));
+          unshared = grind arith;
         };
         stays = omega (arith, timers.stays, x.asks.stays, e.asks.stays, then_serves.asks.stays);
         comparisons = summed _ _ _ _ (asks_then timers x.asks) e.asks then_serves.asks (bounded _ _ _ _ _ _ _ _ _ w v few fewer);

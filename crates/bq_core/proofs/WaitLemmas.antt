@@ -1,5 +1,5 @@
 -- The ends of waits, one waiting client after another in the order of their turns.
-use Rattle.std.proofs.Common.{Bool, List, None, Option, Some, [], ap, arith, cond, false, get_or, if◌then◌else◌, inl, inr, length, map}
+use Rattle.std.proofs.Common.{Bool, List, None, Option, Some, [], ap, arith, cond, false, get_or, if◌then◌else◌, length, map}
 use Rattle.std.proofs.Common.{map-id, not, refl, slice_get, sym, true, ℕ, ◌&&◌, ◌+◌, ◌<◌, ◌==◌, ◌∙◌, ◌∷◌, ◌≡◌, ◌≤◌}
 use Rattle.std.proofs.lemmas.{Bool.{Decides.nat_tests, and_from, and_parts, cases_Bool, eqb-true}, Grind.common_steps}
 use Rattle.std.proofs.lemmas.Option.{slice_get_read}
@@ -90,10 +90,7 @@ module _ (st : CoreParts) (last : Option (ℕ × ℕ)) (looked : AreLookedAt (ma
     look_given : Gives WaitEndTurn none_refused (machine_of st) next old new
     look_given =
         let is = looks s here passes.0 in
-        elim (cases_Bool (ends_waiting (machine_of st) s)) [
-          | inl e ↦ one_end _ _ _ _ _ (next_is e) member passes.0 (is.ends e)
-          | inr e ↦ let same = is.stays e in rw (same.machine, same.outs) (gives_nothing _ _ refl _ _)
-        ]
+        grind (arith, one_end, next_is, member, same, gives_nothing)
 
     changed : (b : Bool) → ends_waiting (machine_of st) s ≡ b
         → next ≡ record (machine_of st) { seats = map (λ t. if b && (t.number == s.number) then without_wait t else t) st.seats.items }

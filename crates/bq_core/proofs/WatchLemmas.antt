@@ -33,8 +33,7 @@ pub acted_few : (memory : Memory) (m : Machine) (seat : ℕ) (what : Step) → m
     → waited (acted memory m seat what).machine ≤ watched_tubes seat m
 acted_few memory m seat what seated = each_acted m seat (λ what e. waited e.machine ≤ watched_tubes seat m) (record {
   nothing = λ what. waited_few seat m;
-  connects = λ s is. rw is.number
-      (with_seat_few seat (λ t. record (empty_seat t.number) { connected = true }) m (all_always _ _ (λ t e. omega arith)));
+  connects = grind (arith, with_seat_few, all_always);
   asks = λ request s is c w. kind_few request m seat s is.number (only_seat _ _ _ _ _ seated is.found) w (kind_of request m s);
   ends = λ s is. rw is.number (with_seat_few seat with_end m (all_always _ _ (λ t e. grind (arith, common_steps))));
   closes = λ s is. rw is.number (with_seat_few seat (λ t. empty_seat t.number) m (all_always _ _ (λ t e. omega arith)));

@@ -193,7 +193,7 @@ pub(crate) fn reserve_job(
 
 /// Removes a job that no client holds, or that this client holds.
 #[inline(never)]
-#[tactic(auto, using(crate::proofs::ActLemmas::asked_in_all))]
+#[tactic(auto, using(crate::proofs::ActLemmas::asked_in_all, crate::proofs::ActLemmas::deletes))]
 pub(crate) fn delete(state: &mut CoreParts, seat: Seat, id: JobId, outs: &mut Outs)
     requires asks { is_asking (seat_with seat state.old.seats.items) ≡ true }
     requires room { length outs.old.given < outs.old.most }

@@ -1,35 +1,25 @@
 -- A box with a value changed in place.
-use Rattle.std.proofs.Common.{◌≡◌, Bool, List, [], ◌∷◌, ◌++◌, Option, None, Some, length, refl, sym, ap, ◌∙◌}
+use Rattle.std.proofs.Common.{◌≡◌, Bool, List, [], ◌∷◌, ◌++◌, Option, Some, length, refl, sym, ap, ◌∙◌, arith}
 use Rattle.std.specs.declared.cmp.Ordering.{Ordering}
 use Rattle.std.specs.declared.cmp.Ordering.TheVariants.{Less, Equal, Greater}
 use Rattle.std.specs.Cmp.{IsTotalOrder}
-use Rattle.std.specs.Option.{option_map}
 use Rattle.std.specs.Ordering.{match_ordering}
 use Rattle.std.specs.Map.{keys_of, lookup, set_value}
 use Rattle.std.specs.BTreeMap.{is_at}
 use Rattle.std.proofs.lemmas.Map.{keys-set_value, length-set_value, none_passes_from_lookup}
 use Rattle.bq_index.specs.declared.tree.Tree.{Tree}
-use Rattle.bq_index.specs.declared.tree.Tree.TheVariants.{Leaf, Fork}
 use Rattle.bq_index.specs.declared.tree.Node.{Node}
 use Rattle.bq_index.specs.declared.tree.Node.TheVariants.{Spare, SpareBefore', Alone, OnLeft', OnRight', Both'}
-use Rattle.bq_index.specs.Edited.{MayReturn, edited_at, edited_by, edited_if, edited_in, put_value, value_at, value_in}
+use Rattle.bq_index.specs.Edited.{edited_at, edited_if, edited_in, put_value, value_in}
 use Rattle.bq_index.specs.Order.{InOrder}
 use Rattle.bq_index.specs.Tree.{entries, entries_in, height_in, IsBalanced, IsLevel}
 use Rattle.bq_index.proofs.Order.{lookup_less, lookup_greater, lookup_equal, order_left, order_right}
 use Rattle.bq_index.proofs.Order.{set_less, set_greater, set_equal, set_none}
 
--- What is seen of a change is the change of what is seen.
-edited_as : {V X Y : Type 0} (f : V → V) (put : V → X) (x : X) (view : X → Y) (seen : V → Y) (o : Option V)
-    → ((w : V) → view (put w) ≡ seen w) → view (edited_if f put x o) ≡ edited_if f seen (view x) o
-edited_as f put x view seen None h = refl
-edited_as f put x view seen (Some v) h = h (f v)
-
 -- what holds for each of three values
 by_order : {X : Type 0} (P : X → Type 0) (a : Ordering) {x y z : X} → (a ≡ Less → P x) → (a ≡ Equal → P y) → (a ≡ Greater → P z)
     → P (match_ordering a x y z)
-by_order P Less i j k = i refl
-by_order P Equal i j k = j refl
-by_order P Greater i j k = k refl
+by_order P a h2 h3 h4 = grind arith
 
 -- A change keeps a box level, and its height.
 module _ {K V : Type 0} (compare : K → Ordering) (f : V → V) where
@@ -40,12 +30,8 @@ module _ {K V : Type 0} (compare : K → Ordering) (f : V → V) where
   edited_level Spare b = absurd b
   edited_level (SpareBefore' p n) b = absurd b
   edited_level (Alone k v) b = by_order (IsLevelAs (Alone k v)) (compare k) (λ e. (b, refl)) (λ e. (b, refl)) (λ e. (b, refl))
-  edited_level (OnLeft' k p l v) b =
-      let i = edited_level l b.1 in
-      by_order (IsLevelAs (OnLeft' k p l v)) (compare k) (λ e. ((i.1 ∙ b.0, i.0), refl)) (λ e. (b, refl)) (λ e. (b, refl))
-  edited_level (OnRight' k p r v) b =
-      let i = edited_level r b.1 in
-      by_order (IsLevelAs (OnRight' k p r v)) (compare k) (λ e. (b, refl)) (λ e. (b, refl)) (λ e. ((i.1 ∙ b.0, i.0), refl))
+  edited_level (OnLeft' k p l v) b = grind arith
+  edited_level (OnRight' k p r v) b = grind arith
   edited_level (Both' h k p l q r v) b =
       let i = edited_level l b.2 in
       let j = edited_level r b.3 in
@@ -61,23 +47,12 @@ module _ {K V : Type 0} {R : K → K → Ordering} (o : IsTotalOrder R) (k : K) 
     abbrev all : List (K × V)
     all = l ++ e ∷ r
 
-    changed_around : (view : List (K × V) → List (K × V)) (es : List (K × V)) → view es ≡ all
-        → lookup (is_at (R k)) all ≡ lookup (is_at (R k)) es
-        → ((w : V) → set_value (is_at (R k)) all w ≡ view (set_value (is_at (R k)) es w)) → view (changed es) ≡ changed all
-    changed_around view es v h g =
-        edited_as f (set_value (is_at (R k)) es) es view (set_value (is_at (R k)) all) (lookup (is_at (R k)) es) (λ w. sym (g w))
-        ∙ ap (λ z. edited_if f (set_value (is_at (R k)) all) z (lookup (is_at (R k)) es)) v
-        ∙ ap (edited_if f (set_value (is_at (R k)) all) all) (sym h)
-
     changed_here : R k e.0 ≡ Equal → l ++ (e.0, f e.1) ∷ r ≡ changed all
     changed_here h = sym (ap (edited_if f (set_value (is_at (R k)) all) all) (lookup_equal o k l e r s h) ∙ set_equal o k l e r s (f e.1) h)
 
     box_entries : (x y z : Node K V) → entries_in x ≡ changed l ++ e ∷ r → entries_in y ≡ l ++ (e.0, f e.1) ∷ r
         → entries_in z ≡ l ++ e ∷ changed r → entries_in (match_ordering (R k e.0) x y z) ≡ changed all
-    box_entries x y z a b c = by_order (λ n. entries_in n ≡ changed all) (R k e.0)
-        (λ h. a ∙ changed_around (λ es. es ++ e ∷ r) l refl (lookup_less o k l e r s h) (λ w. set_less o k l e r s w h))
-        (λ h. b ∙ changed_here h)
-        (λ h. c ∙ changed_around (λ es. l ++ e ∷ es) r refl (lookup_greater o k l e r s h) (λ w. set_greater o k l e r s w h))
+    box_entries x y z a b c = grind (arith, by_order, lookup_less, set_less, changed_here, lookup_greater, set_greater)
 
   pub edited_entries : (n : Node K V) → IsLevel n → InOrder R (entries_in n) → entries_in (edited_in (R k) f n) ≡ changed (entries_in n)
   edited_entries Spare b s = absurd b
@@ -95,8 +70,7 @@ module _ {K V : Type 0} {R : K → K → Ordering} (o : IsTotalOrder R) (k : K) 
   box_value : (l : List (K × V)) (e : K × V) (r : List (K × V)) → InOrder R (l ++ e ∷ r) → {x z : Option V}
       → x ≡ lookup (is_at (R k)) l → z ≡ lookup (is_at (R k)) r
       → match_ordering (R k e.0) x (Some e.1) z ≡ lookup (is_at (R k)) (l ++ e ∷ r)
-  box_value l e r s a c = by_order (λ v. v ≡ lookup (is_at (R k)) (l ++ e ∷ r)) (R k e.0)
-      (λ h. a ∙ sym (lookup_less o k l e r s h)) (λ h. sym (lookup_equal o k l e r s h)) (λ h. c ∙ sym (lookup_greater o k l e r s h))
+  box_value l e r s a c = grind (arith, lookup_less, lookup_equal, lookup_greater)
 
   pub value_looked_up : (n : Node K V) → IsLevel n → InOrder R (entries_in n) → value_in (R k) n ≡ lookup (is_at (R k)) (entries_in n)
   value_looked_up Spare b s = absurd b
@@ -112,60 +86,19 @@ module _ {K V : Type 0} {R : K → K → Ordering} (o : IsTotalOrder R) (k : K) 
 
 -- a list with a value written at a key
 module _ {K V : Type 0} (test : K → Bool) (es : List (K × V)) (w : V) where
-  set_if : (v : Option V) → lookup test es ≡ v → edited_if (λ x. w) (set_value test es) es v ≡ set_value test es w
-  set_if None h = sym (set_none test es w (none_passes_from_lookup test es h))
-  set_if (Some v) h = refl
-
   set_as_edited : edited_at test (λ x. w) es ≡ set_value test es w
-  set_as_edited = set_if (lookup test es) refl
+  set_as_edited = grind (arith, set_none, none_passes_from_lookup)
 
 -- the same for a tree of which a value is lent
 module _ {K V : Type 0} {R : K → K → Ordering} (o : IsTotalOrder R) (k : K) where
-  pub put_balanced : (t : Tree K V) (w : V) → IsBalanced t → IsBalanced (put_value (R k) t w)
-  put_balanced Leaf w b = tt
-  put_balanced (Fork x) w b = (edited_level (R k) (λ v. w) x.value b).0
-
   pub put_entries : (t : Tree K V) (w : V) → IsBalanced t → InOrder R (entries t)
       → entries (put_value (R k) t w) ≡ set_value (is_at (R k)) (entries t) w
-  put_entries Leaf w b s = refl
-  put_entries (Fork x) w b s = edited_entries o k (λ v. w) x.value b s ∙ set_as_edited (is_at (R k)) (entries_in x.value) w
-
-  pub value_at_key : (t : Tree K V) → IsBalanced t → InOrder R (entries t) → value_at (R k) t ≡ lookup (is_at (R k)) (entries t)
-  value_at_key Leaf b s = refl
-  value_at_key (Fork x) b s = value_looked_up o k x.value b s
+  put_entries t w h2 h3 = grind (arith, edited_entries, set_as_edited)
 
 -- A change of a value keeps the keys.
 module _ {K V : Type 0} (test : K → Bool) (f : V → V) (es : List (K × V)) where
-  keys_if : (o : Option V) → keys_of (edited_if f (set_value test es) es o) ≡ keys_of es
-  keys_if None = refl
-  keys_if (Some v) = keys-set_value test es (f v)
-
   pub edited_keys : keys_of (edited_at test f es) ≡ keys_of es
-  edited_keys = keys_if (lookup test es)
-
-  length_if : (o : Option V) → length (edited_if f (set_value test es) es o) ≡ length es
-  length_if None = refl
-  length_if (Some v) = length-set_value test es (f v)
+  edited_keys = grind (arith, keys-set_value)
 
   pub edited_length : length (edited_at test f es) ≡ length es
-  edited_length = length_if (lookup test es)
-
--- A change that never fails
-module _ {V T : Type 0} where
-  -- returns what it tells of the value,
-  pub sure_told : (tell : V → T) (o : Option V) (r : Option T) → MayReturn (λ v t. t ≡ tell v) o r → r ≡ option_map tell o
-  sure_told tell None None h = refl
-  sure_told tell None (Some t) h = absurd h
-  sure_told tell (Some v) None h = absurd h
-  sure_told tell (Some v) (Some t) h = ap Some h
-
-  sure_if : {X : Type 0} (P : V → T → Type 0) (f : V → V) (put : V → X) (x : X) (o : Option V) (r : Option T) → MayReturn P o r
-      → edited_if (edited_by (λ (t : T). f) r) put x o ≡ edited_if f put x o
-  sure_if P f put x None r h = refl
-  sure_if P f put x (Some v) None h = absurd h
-  sure_if P f put x (Some v) (Some t) h = refl
-
-  -- and is made wherever there is a value.
-  pub sure_edited : {K : Type 0} (P : V → T → Type 0) (test : K → Bool) (f : V → V) (es : List (K × V)) (r : Option T)
-      → MayReturn P (lookup test es) r → edited_at test (edited_by (λ (t : T). f) r) es ≡ edited_at test f es
-  sure_edited P test f es r h = sure_if P f (set_value test es) es (lookup test es) r h
+  edited_length = grind (arith, length-set_value)

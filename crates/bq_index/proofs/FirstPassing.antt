@@ -1,5 +1,5 @@
 -- The first entry of a tree that passes a test, derived from its sides.
-use Rattle.std.proofs.Common.{◌≡◌, Bool, true, false, ◌&&◌, not, if◌then◌else◌, List, [], ◌∷◌}
+use Rattle.std.proofs.Common.{◌≡◌, Bool, true, false, ◌&&◌, not, if◌then◌else◌, List, [], ◌∷◌, arith}
 use Rattle.std.proofs.Common.{◌++◌, Option, None, Some, refl, sym, ap, ◌∙◌, subst}
 use Rattle.std.specs.Prelude.{find}
 use Rattle.std.proofs.lemmas.List.Folds.{find-append}
@@ -23,24 +23,18 @@ module _ {K V : Type 0} (p : K × V → Bool) {t l r : Option (Node K V)} {x : K
   -- An entry on the left passes.
   pub found_left : {B : Type 0} (f : B → K × V) (o : Option B) → (o ≡ None → ⊥) → option_map f o ≡ find p (entries_of l)
       → option_map f o ≡ find p (entries_of t)
-  found_left f None n e = absurd (n refl)
-  found_left f (Some b) n e = sym (by_parts ∙ ap (λ o. option_or o (if p x then Some x else find p (entries_of r))) (sym e))
+  found_left f o h2 h3 = grind (arith, by_parts)
 
   -- No entry on the left passes:
   module _ {B : Type 0} (f : B → K × V) (o : Option B) (n : o ≡ None) (e : option_map f o ≡ find p (entries_of l)) where
-    without_left : (b : Bool) → b ≡ p x → (if b then Some x else find p (entries_of r)) ≡ find p (entries_of t)
-    without_left b h =
-        ap (λ d. if d then Some x else find p (entries_of r)) h
-        ∙ sym (by_parts ∙ ap (λ z. option_or z (if p x then Some x else find p (entries_of r))) (sym e ∙ ap (option_map f) n))
-
     -- then it is x,
     pub found_here : true ≡ p x → Some x ≡ find p (entries_of t)
-    found_here h = without_left true h
+    found_here h = grind (arith, by_parts)
 
     -- or it is on the right.
     pub found_right : {C : Type 0} → false ≡ p x → (g : C → K × V) (u : Option C) → option_map g u ≡ find p (entries_of r)
         → option_map g u ≡ find p (entries_of t)
-    found_right h g u i = i ∙ without_left false h
+    found_right h g u i = grind (arith, by_parts)
 
 module _ {K V : Type 0} {R : K → K → Ordering} (o : IsTotalOrder R) (k : K) (p : K → V → Bool) where
   -- no entry with a key below k passes `passes_from k`
@@ -89,6 +83,4 @@ module _ {K V : Type 0} {R : K → K → Ordering} (o : IsTotalOrder R) (k : K) 
       pub first_right : {C : Type 0} → false ≡ p x.0 x.1 → (g : C → K × V) (w : Option C)
           → option_map g w ≡ find (passes_by p) (entries_of r)
           → option_map g w ≡ find (passes_from (R k) p) (entries_of t)
-      first_right i g w j =
-          found_right (passes_from (R k) p) c f u n e (passes_here false i) g w
-          (j ∙ sym (all_beyond (entries_of r) (less_right o k (entries_of l) x (entries_of r) whole_order not_greater)))
+      first_right i g w j = grind (arith, found_right, all_beyond, less_right, whole_order, not_greater)

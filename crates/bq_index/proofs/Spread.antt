@@ -1,14 +1,12 @@
 -- Entries that are spread over trees by the parts of their keys: what holds for one of the trees, and
 -- what a lookup, an insertion or a removal there does to all of them.
-use Rattle.std.proofs.Common.{◌≡◌, ℕ, zero, suc, ◌+◌, ◌-◌, ◌*◌, ◌<◌, ◌≤◌, length, arith, true, false, cond, List}
-use Rattle.std.proofs.Common.{[], ◌∷◌, ◌++◌, Option, None, Some, refl, sym, ap, ◌∙◌, subst, append_assoc, length-append}
-use Rattle.std.proofs.lemmas.Bool.Decides.{nat_tests}
+use Rattle.std.proofs.Common.{◌≡◌, ℕ, zero, suc, ◌+◌, ◌-◌, ◌*◌, ◌<◌, ◌≤◌, length, arith, List}
+use Rattle.std.proofs.Common.{[], ◌∷◌, ◌++◌, Option, None, refl, sym, ap, ◌∙◌, subst, append_assoc, length-append}
 use Rattle.std.proofs.lemmas.List.{set-set}
-use Rattle.std.specs.Prelude.{◌==◌, ◌^◌, get_or, if◌then◌else◌, is_some, replicate, set}
+use Rattle.std.specs.Prelude.{◌^◌, get_or, if◌then◌else◌, is_some, replicate, set}
 use Rattle.std.specs.declared.cmp.Ordering.{Ordering}
 use Rattle.std.specs.declared.cmp.Ordering.TheVariants.{Less, Greater}
 use Rattle.std.specs.Cmp.{IsTotalOrder}
-use Rattle.std.specs.Ordering.{is_gt}
 use Rattle.std.specs.List.{AllByRecursion}
 use Rattle.std.specs.Option.{option_map}
 use Rattle.std.specs.Map.{keys_of, lookup, remove_entry}
@@ -16,7 +14,7 @@ use Rattle.std.specs.BTreeMap.{is_at, insert_entry}
 use Rattle.bq_index.specs.declared.tree.Tree.{Tree}
 use Rattle.bq_index.specs.declared.tree.Tree.TheVariants.{Leaf}
 use Rattle.bq_index.specs.Digits.{binary_digits}
-use Rattle.bq_index.specs.Order.{InOrder, entry_from}
+use Rattle.bq_index.specs.Order.{InOrder}
 use Rattle.bq_index.specs.Shelf.{Seen}
 use Rattle.bq_index.specs.Shelves.{AreSpread, IsWholeOver, entries_over, key_from, of_part, seen_over}
 use Rattle.bq_index.specs.Tree.{entries, IsBalanced}
@@ -157,13 +155,11 @@ module _ {K V : Type 0} {R : K → K → Ordering} (o : IsTotalOrder R) (part : 
 
         pub tree_inserted : (v : V) → entries after ≡ insert_entry R (entries t) k v
             → entries_over last ≡ insert_entry R (entries_over trees) k v
-        tree_inserted v i = ap (λ (ts : List (Tree K V)). entries_over ts) placed ∙ insert_over k v after 0 at trees s l (omega (arith, e))
-            (i ∙ ap (λ (u : Tree K V). insert_entry R (entries u) k v) is)
+        tree_inserted v i = grind (arith, placed, insert_over)
 
         pub tree_removed : entries after ≡ remove_entry (is_at (R k)) (entries t)
             → entries_over last ≡ remove_entry (is_at (R k)) (entries_over trees)
-        tree_removed i = ap (λ (ts : List (Tree K V)). entries_over ts) placed ∙ remove_over k after 0 at trees s l (omega (arith, e))
-            (i ∙ ap (λ (u : Tree K V). remove_entry (is_at (R k)) (entries u)) is)
+        tree_removed i = grind (arith, placed, remove_over)
 
         spread_by : (es : List (K × V)) → IsBalanced after → entries after ≡ es → InOrder R es
             → AllByRecursion (λ j. part j ≡ 0 + at) (keys_of es) → AreSpread R part 0 last
@@ -189,21 +185,13 @@ module _ {K V : Type 0} {R : K → K → Ordering} (o : IsTotalOrder R) (part : 
     none_of_part : (es : List (K × V)) → AllByRecursion (λ j. part k < part j) (keys_of es)
         → of_part part (part k) (key_from (R k) es) ≡ None
     none_of_part [] a = refl
-    none_of_part (e ∷ es) a =
-        let below : R k e.0 ≡ Less = apart k e.0 a.0 in
-        let differ : (part e.0 == part k) ≡ false = grind (arith, nat_tests, a.0) in
-        rw (below, differ) refl
+    none_of_part (e ∷ es) a = grind arith
 
     of_tree : (es later : List (K × V)) → AllByRecursion (λ j. part j ≡ part k) (keys_of es)
         → AllByRecursion (λ j. part k < part j) (keys_of later)
         → of_part part (part k) (key_from (R k) (es ++ later)) ≡ key_from (R k) es
     of_tree [] later a b = none_of_part later b
-    of_tree (e ∷ es) later a b =
-        elim (is_gt (R k e.0)) as (λ d. of_part part (part k) (option_map (λ x. x.0) (cond d (entry_from (R k) (es ++ later)) (Some e)))
-        ≡ option_map (λ x. x.0) (cond d (entry_from (R k) es) (Some e))) [
-          | true ↦ of_tree es later a.1 b
-          | false ↦ let same : (part e.0 == part k) ≡ true = grind (arith, nat_tests, a.0) in rw same refl
-        ]
+    of_tree (e ∷ es) later a b = grind (arith, of_tree es later a.1 b)
 
     from_over : (rest : List (K × V)) (i at : ℕ) (ts : List (Tree K V)) → AreSpread R part i ts → at < length ts → part k ≡ i + at
         → AllByRecursion (λ j. i + length ts ≤ part j) (keys_of rest)
@@ -230,10 +218,7 @@ module _ {K V : Type 0} {R : K → K → Ordering} (o : IsTotalOrder R) (part : 
     few_of : (es : List (K × V)) {n : ℕ} → length es ≤ length m.entries
         → (rest.comparisons ≤ n) × (n ≤ rest.comparisons + 2 * binary_digits (length es + 1))
         → (m.comparisons ≤ n) × (n ≤ m.comparisons + 2 * binary_digits (length m.entries + 1))
-    few_of es h b =
-        let counted = ap (λ (x : Seen K V). x.comparisons) v in
-        let few = few_in_more es m.entries h b in
-        (omega (arith, counted, few.0), omega (arith, counted, few.1))
+    few_of es h b = grind (arith, few_in_more es m.entries h b)
 
     pub low_few : {n : ℕ} → (rest.comparisons ≤ n) × (n ≤ rest.comparisons + 2 * binary_digits (length (entries_over trees) + 1))
         → (m.comparisons ≤ n) × (n ≤ m.comparisons + 2 * binary_digits (length m.entries + 1))
@@ -244,7 +229,7 @@ module _ {K V : Type 0} {R : K → K → Ordering} (o : IsTotalOrder R) (part : 
     high_few = few_of rest.entries (omega (arith, ap length of_both, length-append (entries_over trees) rest.entries))
 
     -- after a change in the trees, or in the rest
-    low_whole : {ts : List (Tree K V)} {n : ℕ} {after : Seen K V} → AreSpread R part 0 ts → length ts ≡ length trees
+    pub low_whole : {ts : List (Tree K V)} {n : ℕ} {after : Seen K V} → AreSpread R part 0 ts → length ts ≡ length trees
         → after.entries ≡ rest.entries → n ≡ length (entries_over ts) → n + length rest.entries + after.spare < 2 ^ 64
         → IsWholeOver R part ts n after
     low_whole {ts} {n} {after} s same kept c f = record {
@@ -257,12 +242,7 @@ module _ {K V : Type 0} {R : K → K → Ordering} (o : IsTotalOrder R) (part : 
 
     high_whole : {after : Seen K V} (es : List (K × V)) → AllByRecursion (λ j. length trees ≤ part j) (keys_of es) → after.entries ≡ es
         → count + length es + after.spare < 2 ^ 64 → IsWholeOver R part trees count after
-    high_whole es a kept f = record {
-      spread = w.spread;
-      counted = w.counted;
-      high = subst (λ es. AllByRecursion (λ j. length trees ≤ part j) (keys_of es)) (sym kept) a;
-      fits = omega (arith, f, ap length kept);
-    }
+    high_whole es a kept f = grind arith
 
     module _ (k : K) where
       -- if the key's part has a tree
@@ -271,40 +251,20 @@ module _ {K V : Type 0} {R : K → K → Ordering} (o : IsTotalOrder R) (part : 
         rest_higher = higher k rest.entries (all_weaker rest.entries w.high (λ j h. omega (arith, h, l)))
 
         pub low_lookup : lookup (is_at (R k)) (entries_over trees) ≡ lookup (is_at (R k)) m.entries
-        low_lookup = sym (lookup_front _ (entries_over trees) rest.entries (none_less o k rest.entries rest_higher))
-            ∙ ap (lookup (is_at (R k))) of_both
+        low_lookup = grind (arith, lookup_front, none_less, rest_higher)
 
         pub low_inserted : (x : V) {all es : List (K × V)} → all ≡ insert_entry R (entries_over trees) k x → es ≡ rest.entries
             → all ++ es ≡ insert_entry R m.entries k x
-        low_inserted x {all} {es} i j = ap (λ z. z ++ es) i ∙ ap (λ z. insert_entry R (entries_over trees) k x ++ z) j
-            ∙ sym (insert_front R k x (entries_over trees) rest.entries rest_higher) ∙ ap (λ z. insert_entry R z k x) of_both
+        low_inserted x {all} {es} i j = grind (arith, insert_front, rest_higher)
 
         pub low_removed : {all es : List (K × V)} → all ≡ remove_entry (is_at (R k)) (entries_over trees) → es ≡ rest.entries
             → all ++ es ≡ remove_entry (is_at (R k)) m.entries
-        low_removed {all} {es} i j = ap (λ z. z ++ es) i ∙ ap (λ z. remove_entry (is_at (R k)) (entries_over trees) ++ z) j
-            ∙ sym (remove_front _ (entries_over trees) rest.entries (none_less o k rest.entries rest_higher))
-            ∙ ap (remove_entry (is_at (R k))) of_both
+        low_removed {all} {es} i j = grind (arith, remove_front, none_less, rest_higher)
 
         pub low_key : key_from (R k) (entries (get_or trees (part k) Leaf)) ≡ of_part part (part k) (key_from (R k) m.entries)
         low_key = sym (from_over k rest.entries 0 (part k) trees w.spread l (omega arith)
             (all_weaker rest.entries w.high (λ j h. omega (arith, h))))
             ∙ ap (λ es. of_part part (part k) (key_from (R k) es)) of_both
-
-        pub insert_whole : (x : V) {ts : List (Tree K V)} {n : ℕ} {after : Seen K V} → lookup (is_at (R k)) m.entries ≡ None
-            → AreSpread R part 0 ts → entries_over ts ≡ insert_entry R (entries_over trees) k x → length ts ≡ length trees
-            → after.entries ≡ rest.entries → after.spare + 1 ≡ rest.spare → n ≡ count + 1 → IsWholeOver R part ts n after
-        insert_whole x none s i same kept spare c =
-            let more = length_inserted R k x (entries_over trees) (low_lookup ∙ none) in
-            low_whole s same kept (omega (arith, w.counted, more, ap length i, c)) (omega (arith, w.fits, spare, c))
-
-        pub remove_whole : (x : Option V) {ts : List (Tree K V)} {n : ℕ} {after : Seen K V}
-            → x ≡ lookup (is_at (R k)) (entries_over trees) → AreSpread R part 0 ts
-            → entries_over ts ≡ remove_entry (is_at (R k)) (entries_over trees) → length ts ≡ length trees
-            → after.entries ≡ rest.entries → after.spare ≡ rest.spare + (if is_some x then 1 else 0)
-            → n ≡ count - (if is_some x then 1 else 0) → IsWholeOver R part ts n after
-        remove_whole x there s i same kept spare c =
-            let fewer = length_lost (is_at (R k)) (entries_over trees) x there in
-            low_whole s same kept (omega (arith, w.counted, fewer, ap length i, c)) (omega (arith, w.counted, w.fits, fewer, spare, c))
 
       -- if it has none
       module _ (l : length trees ≤ part k) where
@@ -313,24 +273,18 @@ module _ {K V : Type 0} {R : K → K → Ordering} (o : IsTotalOrder R) (part : 
             lower k (entries_over trees) (all_weaker (entries_over trees) (below_part 0 trees w.spread) (λ j h. omega (arith, h, l)))
 
         pub high_lookup : lookup (is_at (R k)) rest.entries ≡ lookup (is_at (R k)) m.entries
-        high_lookup = sym (lookup_past _ (entries_over trees) rest.entries (none_greater o k (entries_over trees) trees_lower))
-            ∙ ap (lookup (is_at (R k))) of_both
+        high_lookup = grind (arith, lookup_past, none_greater, trees_lower)
 
         pub high_inserted : (x : V) {es : List (K × V)} → es ≡ insert_entry R rest.entries k x
             → entries_over trees ++ es ≡ insert_entry R m.entries k x
-        high_inserted x i = ap (λ z. entries_over trees ++ z) i ∙ sym (insert_past R k x (entries_over trees) rest.entries trees_lower)
-            ∙ ap (λ z. insert_entry R z k x) of_both
+        high_inserted x i = grind (arith, insert_past, trees_lower)
 
         pub high_removed : {es : List (K × V)} → es ≡ remove_entry (is_at (R k)) rest.entries
             → entries_over trees ++ es ≡ remove_entry (is_at (R k)) m.entries
-        high_removed i = ap (λ z. entries_over trees ++ z) i
-            ∙ sym (remove_past _ (entries_over trees) rest.entries (none_greater o k (entries_over trees) trees_lower))
-            ∙ ap (remove_entry (is_at (R k))) of_both
+        high_removed i = grind (arith, remove_past, none_greater, trees_lower)
 
         pub high_key : of_part part (part k) (key_from (R k) rest.entries) ≡ of_part part (part k) (key_from (R k) m.entries)
-        high_key =
-            sym (ap (λ e. of_part part (part k) (option_map (λ x. x.0) e)) (from_past _ (entries_over trees) rest.entries trees_lower))
-            ∙ ap (λ es. of_part part (part k) (key_from (R k) es)) of_both
+        high_key = grind (arith, from_past, trees_lower)
 
         pub insert_high_whole : (x : V) {after : Seen K V} → lookup (is_at (R k)) m.entries ≡ None
             → after.entries ≡ insert_entry R rest.entries k x → after.spare + 1 ≡ rest.spare → IsWholeOver R part trees count after

@@ -631,6 +631,7 @@ impl<K, V> Test<K, V> for Always {
 }
 
 // Removes the key from a tree, if it is there. Returns the removed value with a spare box.
+#[tactic(auto, using(crate::proofs::Removed::all_removed, crate::proofs::Removed::all_pass))]
 pub(crate) fn remove<K: Ord, V>(
     tree: &mut Tree<K, V>,
     key: &K,

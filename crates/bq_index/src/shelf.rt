@@ -186,6 +186,7 @@ impl<K: Ord + Drop, V: Drop> Shelf<K, V> {
 
     /// Removes the entry of a key and returns its value, or `None` if there is no such entry. Its
     /// box becomes spare.
+    #[tactic(auto, using(crate::proofs::Removed::all_removed, crate::proofs::Removed::all_pass))]
     pub fn remove(&mut self, key: &K) -> Option<V>
         ensures value { result ≡ lookup (is_at (K.cmp key.now)) self.old.entries }
         ensures entries { self.new.entries ≡ remove_entry (is_at (K.cmp key.now)) self.old.entries }
@@ -314,6 +315,7 @@ impl<K: Ord + Drop, V: Drop> Shelf<K, V> {
 
     // From here to `lowest_from`: what the trees of `Shelves` need, which have the boxes and the count
     // of comparisons of a shelf in common. Adds an entry to a tree; it takes a spare box.
+    #[tactic(auto, using(crate::proofs::Bound::height_small, crate::proofs::Bound::height_bound))]
     pub(crate) fn insert_into(&mut self, tree: &mut Tree<K, V>, key: K, value: V)
         requires spare { 0 < self.old.spare }
         requires balanced { IsBalanced tree.old }
@@ -355,6 +357,7 @@ impl<K: Ord + Drop, V: Drop> Shelf<K, V> {
     }
 
     // Returns the lowest key in a tree that is `key` or above.
+    #[tactic(auto, using(crate::proofs::Bound::height_bound))]
     pub(crate) fn lowest_in(&mut self, tree: &Tree<K, V>, key: &K) -> Option<K>
     where
         K: Copy,

@@ -183,6 +183,7 @@ impl<K: Parted + Drop + Copy, V: Drop> Shelves<K, V> {
     /// # Errors
     ///
     /// `NoMemory` if the allocation of the table of the trees fails.
+    #[tactic(auto, using(crate::proofs::Spread::none_over, crate::proofs::Spread::none_spread))]
     pub fn new(alloc: Global, parts: usize) -> Result<Self, NoMemory>
         ensures { IfOk result (λ s. s ≡ record { entries = []; spare = 0; comparisons = 0 }) }
     {

@@ -1,19 +1,20 @@
 -- What a command leaves: everything that each part of a step keeps, and at most one more client
 -- that waits or is answered.
-use Rattle.std.proofs.Common.{◌⊎◌, ℕ, zero, suc, ◌≡◌, ◌≤◌, ◌+◌, Bool, true, not, cond, List}
+use Rattle.bq_job.proofs.KeptLemmas.{Keeps, has_holder, kept_of_close, kept_of_drain, kept_of_filter, ids_of_push}
+use Rattle.std.proofs.lemmas.Bool.{leb-false, or_parts}
+use Rattle.bq_job.proofs.ListLemmas.{all_always, all_weaker, count_cons, count_of_map, list_any_with, all_of_append}
+use Rattle.std.proofs.Common.{◌⊎◌, ℕ, zero, suc, ◌≡◌, ◌≤◌, ◌+◌, Bool, true, cond, List}
 use Rattle.std.proofs.Common.{[], ◌∷◌, map, arith, refl, ap, ◌∙◌, inl, inr, Option, Some, None}
 use Rattle.std.proofs.lemmas.{Bool.{and_from, cases_Bool, cond_both, eqb-true, or_right}, Grind.common_steps}
 use Rattle.std.specs.{List.{AllByRecursion as All, Contains}, Prelude.{◌==◌, count_by}}
-use Rattle.bq_job.specs.machine.{Effect, Machine.Machine, SeatRecord, after_close, after_connect, after_delete, effect}
+use Rattle.bq_job.specs.machine.{Effect, Machine.Machine, SeatRecord, after_close, after_connect, effect}
 use Rattle.bq_job.specs.{beside.waiting_count, machine.{empty_seat, is_held_by, is_waiting, numbers, raised}}
-use Rattle.bq_job.specs.machine.{reserve_effect, silent, state_once_left, telling, waiting_from, with_end}
+use Rattle.bq_job.specs.machine.{reserve_effect, silent, state_once_left, telling, waiting_from}
 use Rattle.bq_job.specs.{machine.{with_seat}, Types.{Answer, Job, Request, Step}}
 use Rattle.bq_job.specs.declared.answer.Answer.TheVariants as answers
-use Rattle.bq_job.proofs.KeptLemmas.{Keeps, has_holder, kept_of_close, kept_of_drain, kept_of_filter}
-use Rattle.bq_job.proofs.KeptLemmas.{kept_of_jobs, kept_of_push, kept_of_seat, numbers_above, only_seat}
+use Rattle.bq_job.proofs.KeptLemmas.{kept_of_jobs, kept_of_seat, numbers_above, only_seat}
 use Rattle.bq_job.proofs.EffectKinds.{IsFreeOrOwn, Kind, adds, changes_jobs, changes_seat, changes_tube, deletes, passes, tells, waits}
 use Rattle.bq_job.proofs.{BecomeLemmas.free_by_delay, CommandKinds.kind_of, EachEvent.{IsSeat, each_event}}
-use Rattle.bq_job.proofs.ListLemmas.{all_always, all_weaker, count_cons, count_of_map, list_any_with}
 
 abbrev pub answer_count : Option Answer → ℕ
 answer_count None = 0
@@ -51,9 +52,7 @@ holder_stays m s j k there c h held = grind (arith, common_steps, held_here)
 -- A seat changes, and its client waits as before.
 pub kept_of_quiet_seat : (number : ℕ) (f : SeatRecord → SeatRecord) (m : Machine) → Keeps m → ((s : SeatRecord) → (f s).number ≡ s.number)
     → ((s : SeatRecord) → (f s).connected ≡ s.connected) → ((s : SeatRecord) → (f s).wait ≡ s.wait) → Keeps (with_seat number f m)
-kept_of_quiet_seat number f m h same stays waits_as =
-    kept_of_seat number f h
-    (all_always _ m.seats (λ s e. record { number = same s; stays = λ c. stays s ∙ c; waits = λ w. rw (waits_as s, stays s) w }))
+kept_of_quiet_seat number f m h same stays waits_as = grind (arith, all_always, kept_of_seat number f h)
 
 -- A change of one seat that makes no client wait does not add a waiting client.
 no_more_wait : (number : ℕ) (f : SeatRecord → SeatRecord) (m : Machine) → ((s : SeatRecord) → is_waiting (f s) ≡ true → is_waiting s ≡ true)
@@ -110,14 +109,12 @@ leaves_kind request m s (passes none) h there c = leaves_silent m m h (omega ari
 leaves_kind request m s (tells answer one common unclosed) h there c = leaves_jobs m m answer h refl
 leaves_kind request m s (waits until one waiting) h there c = leaves_reserve until m s h there c
 leaves_kind request m s (adds pri delay ttr body one accepts free) h there c =
-    grind (arith, common_steps, leaves_jobs, kept_of_push, free_by_delay)
-leaves_kind request m s (deletes id j asks found free) h there c =
-    leaves_jobs m (after_delete m j) answers.Deleted (kept_of_filter (λ k. not (k.id == j.id)) h) refl
+    grind (arith, common_steps, leaves_jobs, free_by_delay, ids_of_push, or_parts, leb-false, all_of_append)
+leaves_kind request m s (deletes id j asks found free) h there c = search (leaves_jobs, kept_of_filter)
 leaves_kind request m s (changes_jobs answer f burials says changes) h there c =
     leaves_jobs m (record m { jobs = map f m.jobs; burials = burials }) answer
     (kept_of_jobs f h changes.same (λ j held. holder_stays m s j (f j) there.seated c (changes.holder j) held)) refl
-leaves_kind request m s (changes_seat answer f says changes) h there c =
-    leaves_seat s.number f m answer h changes.number changes.connected changes.wait
+leaves_kind request m s (changes_seat answer f says changes) h there c = search leaves_seat
 leaves_kind request m s (changes_tube tube seconds one) h there c = grind (arith, common_steps, leaves_jobs)
 
 leaves_connect : (m : Machine) (seat : ℕ) → Keeps m → Leaves m (silent (after_connect m seat))
@@ -134,11 +131,7 @@ leaves_close m seat h =
     (no_more_wait seat (λ s. empty_seat s.number) m (λ s w. absurd cc))
 
 there_of : (m : Machine) (seat : ℕ) (s : SeatRecord) → Keeps m → IsSeat m seat s → IsThere m s
-there_of m seat s h is = record {
-  alone = all_weaker _ _ m.seats (λ t only i. only (i ∙ is.number))
-      (only_seat 0 m.settings.seats seat m.seats s h.seated is.found);
-  seated = is.there;
-}
+there_of m seat s h is = grind (arith, all_weaker, only_seat 0 m.settings.seats seat m.seats s h.seated is.found)
 
 -- every event
 pub leaves_effect : (m : Machine) (seat : ℕ) (what : Step) → Keeps m → Leaves m (effect m seat what)
@@ -146,8 +139,7 @@ leaves_effect m seat what h = each_event m seat (λ what e. Leaves m e) (record 
   nothing = λ what. (leaves_silent m m h (omega arith));
   connects = λ s is. leaves_connect m s.number h;
   asks = λ request s is c w. leaves_kind request m s (kind_of request m s) h (there_of m seat s h is) c;
-  ends = λ s is. leaves_silent m (with_seat s.number with_end m)
-      (kept_of_quiet_seat s.number with_end m h (λ t. refl) (λ t. refl) (λ t. refl)) (no_more_wait s.number with_end m (λ t w. w));
+  ends = search (leaves_silent, kept_of_quiet_seat, no_more_wait);
   closes = λ s is. leaves_close m s.number h;
   drains = leaves_silent m (record m { draining = true }) (kept_of_drain h) (omega arith);
 }) what

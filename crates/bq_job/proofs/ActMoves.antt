@@ -1,11 +1,11 @@
 -- The command's own effect, as a move: what each request and each other event does to jobs.
-use Rattle.std.proofs.{Common.{◌∙◌, ◌≡◌, ℕ, ap, arith, inr, refl, subst, sym, true}, lemmas.Bool.{cond_both, eq-eqb}}
+use Rattle.std.proofs.{Common.{◌∙◌, ◌≡◌, ℕ, ap, arith, refl, subst, sym, true}, lemmas.Bool.{cond_both, eq-eqb}}
 use Rattle.bq_job.specs.machine.{Effect, Machine.Machine, Memory, SeatRecord, acted, after_close, delayed_by, given_back, in_state}
 use Rattle.bq_job.specs.{beside.AreIdsWithin, laws.removed, machine.{is_held_by, is_ready_state, new_job}}
 use Rattle.bq_job.specs.{machine.state_once_left, Types.{Request, Step}}
 use Rattle.bq_job.specs.declared.step.Step.TheVariants as steps
 use Rattle.bq_job.proofs.EffectKinds.{Kind, adds, changes_jobs, changes_seat, changes_tube, deletes, passes, tells, waits}
-use Rattle.bq_job.proofs.BecomeLemmas.{free_by_delay, held_not_ready, itself_told, told_if_given_up}
+use Rattle.bq_job.proofs.BecomeLemmas.{held_not_ready}
 use Rattle.bq_job.proofs.ChangeLemmas.{Becomes, JobsAfter, added, becomes_itself, changed, removed_one, unchanged}
 use Rattle.bq_job.proofs.{CommandKinds.kind_of, EachEvent.each_acted, LookupLemmas.found_job}
 
@@ -46,8 +46,7 @@ after_closed m seat =
       tube = refl;
       body = refl;
       ready = λ h. absurd (held_not_ready seat j e h);
-      held = λ h.
-          inr (told_if_given_up steps.Close j.id j.state left h (free_by_delay m.settings.requeue_delay m.moment) (itself_told j.id));
+      held = grind arith;
     })
     (λ e. becomes_itself steps.Close j))
 

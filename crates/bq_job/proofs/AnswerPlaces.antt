@@ -3,17 +3,17 @@ use Rattle.std.proofs.Common.{ℕ, ◌≡◌, Bool, true, false, not, List, [], 
 use Rattle.std.proofs.Common.{sym, ap, ◌∙◌, subst, inl, inr, ◌⊎◌, Option, Some, None, append-nil}
 use Rattle.std.proofs.lemmas.{Bool.{both_ways, cases_Bool, or_from}, Grind.common_steps}
 use Rattle.std.proofs.lemmas.List.{Elements.{All-contains, Contains-append_cases, filter_passes}, Folds.list_any-append}
-use Rattle.std.specs.{List.{AllByRecursion as All, Contains}, Prelude.{◌==◌, IsTrue, filter, flat_map}}
+use Rattle.std.specs.{List.{AllByRecursion as All, Contains}, Prelude.{◌==◌, filter, flat_map}}
 use Rattle.bq_job.specs.machine.{Chain, DispatchTurn, Dispatches, Effect, EndsWaits, GivenAnswer, IsStep, Machine.Machine}
-use Rattle.bq_job.specs.machine.{Memory, WaitEndTurn, acted, addressed, after_timers, at_moment, forgetting}
+use Rattle.bq_job.specs.machine.{WaitEndTurn, acted, addressed, after_timers, at_moment, forgetting}
 use Rattle.bq_job.specs.laws.{GivesLeast, IsDeletion, IsDispatchedLeast, has_inserted, is_inserted}
-use Rattle.bq_job.specs.machine.{is_held_by, is_possible, is_reserved, job_with, last_id}
-use Rattle.bq_job.specs.{promise.{GoesBy, IsTransition, Parts, Transition, parts_of}, Types.{Answer, Job, Step}}
+use Rattle.bq_job.specs.machine.{is_held_by, is_reserved, job_with, last_id}
+use Rattle.bq_job.specs.{promise.{GoesBy, IsTransition, Transition, parts_of}, Types.{Answer, Job, Step}}
 use Rattle.bq_job.specs.declared.answer.Answer.TheVariants as answers
 use Rattle.bq_job.specs.declared.request.Request.TheVariants as requests
 use Rattle.bq_job.specs.declared.step.Step.TheVariants as steps
 use Rattle.bq_job.proofs.Trace.{IsServing, IsTrace, of_serves, of_turns, steady}
-use Rattle.bq_job.proofs.{DispatchLemmas.{reserved_is_least, turn_of}, EffectKinds.is_common, LawfulLemmas.end_of}
+use Rattle.bq_job.proofs.{DispatchLemmas.{reserved_is_least}, EffectKinds.is_common, LawfulLemmas.end_of}
 use Rattle.bq_job.proofs.{ListLemmas.{all_at, all_of_append}, LookupLemmas.found_job, OwnAnswerLemmas.Tells}
 use Rattle.bq_job.proofs.OwnAnswerLemmas.{drains_acted, tells_acted}
 
@@ -45,16 +45,10 @@ all_in_place {X = X} P xs early x more e h = go early (subst (All P) e h)
 module _ {X : Type 0} (P : X → Type 0) (xs ys early : List X) (x : X) (more : List X) (e : xs ++ ys ≡ early ++ x ∷ more)
     (differs : P x → ⊥) where
   in_first : All P ys → InFirst xs ys early x more
-  in_first all = elim (split_at xs ys early x more e) [
-    | inl i ↦ i
-    | inr i ↦ absurd (differs (all_in_place P ys i.begin x more i.second_is all))
-  ]
+  in_first all = grind (arith, split_at, all_in_place)
 
   in_second : All P xs → InSecond xs ys early x more
-  in_second all = elim (split_at xs ys early x more e) [
-    | inl i ↦ absurd (differs (all_in_place P xs early x i.rest i.first_is all))
-    | inr i ↦ i
-  ]
+  in_second all = grind (arith, all_in_place, split_at xs ys early x more e)
 
 contains_own : {X : Type 0} (P : X → Type 0) (xs own ys : List X) (x : X) → (P x → ⊥) → All P xs → All P ys
     → Contains ((xs ++ own) ++ ys) x → Contains own x
@@ -83,12 +77,7 @@ all_trace : (P : GivenAnswer → Type 0) → IsTrace (λ m given n. All P given)
 all_trace P = record { none = λ m. tt; joins = λ a b c xs ys f g. all_of_append P xs ys f g }
 
 serving : IsServing (λ m given n. All IsServed given)
-serving = record {
-  trace = all_trace IsServed;
-  dispatch = λ m g n turn. grind (arith, common_steps, turn_of);
-  wait_end = λ m g n turn. grind (arith, common_steps, end_of);
-  forgets = λ m. tt;
-}
+serving = grind (arith, common_steps)
 
 ends_common : (m : Machine) (given : List GivenAnswer) (n : Machine) → EndsWaits m given n → All IsCommon given
 ends_common m given n e =
@@ -106,15 +95,7 @@ dispatched_least : (first : Machine) (before handed given more early : List Give
 dispatched_least first before handed given more early seat id body last d is place =
     let t = turn_in_chain first given (seat, answers.Reserved id body) more d.end
     (rw is at d.turns) in
-    record {
-      given = given;
-      more = more;
-      place = place;
-      handed_is = is;
-      moment = t.0;
-      turns = t.2;
-      least = reserved_is_least t.0 t.1 seat id body t.3;
-    }
+    grind (arith, reserved_is_least t.0 t.1 seat id body t.3)
 
 -- the command's own answer
 own_place : (seat : ℕ) (o : Option Answer) (early : List GivenAnswer) (g : GivenAnswer) (more : List GivenAnswer)
@@ -124,10 +105,6 @@ own_place seat None (x ∷ early) g more e = absurd cc
 own_place seat (Some answer) (x ∷ []) g more e = absurd cc
 own_place seat (Some answer) (x ∷ y ∷ early) g more e = absurd cc
 
-reserves_by_id : (m : Machine) (seat : ℕ) (what : Step) (e : Effect) (id : ℕ) (body : List ℕ) → Tells m seat what e
-    → e.answer ≡ Some (answers.Reserved id body) → what ≡ steps.Ask (requests.ReserveJob id)
-reserves_by_id m seat what e id body h is = grind (arith, common_steps)
-
 none_served : (given : List GivenAnswer) → All IsServed given → has_inserted given ≡ false
 none_served [] h = refl
 none_served (g ∷ given) h = grind (arith, common_steps, or_from, cases_Bool, none_served given h.1)
@@ -135,22 +112,10 @@ none_served (g ∷ given) h = grind (arith, common_steps, or_from, cases_Bool, n
 none_joined : (xs ys : List GivenAnswer) → has_inserted xs ≡ false → has_inserted ys ≡ false → has_inserted (xs ++ ys) ≡ false
 none_joined xs ys h i = list_any-append (λ (g : GivenAnswer). is_inserted g.1) xs ys ∙ or_from (has_inserted xs) (has_inserted ys) h i
 
-own_none : (m : Machine) (seat : ℕ) (what : Step) (e : Effect) → Tells m seat what e → m.draining ≡ true
-    → has_inserted (addressed seat e.answer) ≡ false
-own_none m seat what e tells d = grind (arith, common_steps, or_from, both_ways)
-
-drains_at_last : (m : Machine) (seat : ℕ) (what : Step) (e : Effect) → Tells m seat what e → e.answer ≡ Some (answers.Inserted last_id)
-    → e.machine.draining ≡ true
-drains_at_last m seat what e tells is = grind (arith, common_steps)
-
 -- what holds of a step that begins while draining, and of one whose command begins draining
 pub record StaysDraining (given : List GivenAnswer) (last : Machine) : Type 0 where
   pub draining : last.draining ≡ true
   pub none : has_inserted given ≡ false
-
-drain_acts : (memory : Memory) (m : Machine) (seat : ℕ) → IsTrue (is_possible memory m seat steps.Drain)
-    → ((acted memory m seat steps.Drain).machine.draining ≡ true) × ((acted memory m seat steps.Drain).answer ≡ None)
-drain_acts memory m seat p = grind (arith, common_steps)
 
 -- a job that its client may delete, and does
 record Deletes (m : Machine) (seat : ℕ) (what : Step) (e : Effect) : Type 0 where
@@ -161,7 +126,6 @@ record Deletes (m : Machine) (seat : ℕ) (what : Step) (e : Effect) : Type 0 wh
   free : (is_reserved job.state ≡ false) ⊎ (is_held_by seat job ≡ true)
   jobs : e.machine.jobs ≡ filter (λ k. not (k.id == job.id)) m.jobs
 
--- DELETED answers a delete.
 deletes : (m : Machine) (seat : ℕ) (what : Step) (e : Effect) → Tells m seat what e → e.answer ≡ Some answers.Deleted
     → Deletes m seat what e
 deletes m seat what e h is = grind (arith, common_steps)
@@ -207,13 +171,7 @@ module _ (t : Transition) (s : IsStep t.first t.entry.moment t.entry.seat t.entr
               (ends_common _ _ _ s.serves.ends_waits) in
               inr (inl (dispatched_least timed [] s.handed early k.rest early seat id body s.serves.between s.serves.dispatches
               k.first_is refl))
-          | inr j ↦
-              let o = own_place t.entry.seat act.answer j.begin x i.rest j.second_is in
-              inl (record {
-                asks = reserves_by_id s.before t.entry.seat t.entry.what act id body tells o.3;
-                by = sym o.2;
-                place = j.early_is ∙ ap (λ xs. s.handed ++ s.ended ++ xs) o.0 ∙ append-nil (s.handed ++ s.ended);
-              })
+          | inr j ↦ grind (arith, own_place, tells, append-nil)
         ]
         | inr i ↦ inr (inr (dispatched_least s.after (s.handed ++ s.ended ++ own) s.handed_then i.begin a.rest early seat id body
             s.serves_then.between s.serves_then.dispatches i.second_is i.early_is))
@@ -224,24 +182,12 @@ module _ (t : Transition) (s : IsStep t.first t.entry.moment t.entry.seat t.entr
       ∙ ap (λ (l : Machine). l.draining) s.acts ∙ drains
 
   drained_step : act.machine.draining ≡ true → has_inserted own ≡ false → StaysDraining t.given t.last
-  drained_step drains none = record {
-    draining = drains_then drains;
-    none = ap has_inserted given_is ∙ none_joined (s.handed ++ s.ended ++ own) (s.handed_then ++ s.ended_then)
-        (none_joined (s.handed ++ s.ended) own (none_served (s.handed ++ s.ended) served) none)
-        (none_served (s.handed_then ++ s.ended_then) served_then);
-  }
+  drained_step drains none = grind (arith, drains_then, given_is, none_joined, none_served, served, served_then)
 
   stays_draining : t.first.draining ≡ true → StaysDraining t.given t.last
   stays_draining d =
       let before : s.before.draining ≡ true = (of_serves steady timed s.handed s.ended s.before s.serves).draining ∙ d in
-      drained_step (drains_acted s.memory s.before t.entry.seat t.entry.what before)
-      (own_none s.before t.entry.seat t.entry.what act tells before)
-
-  begins_draining : t.entry.what ≡ steps.Drain → StaysDraining t.given t.last
-  begins_draining drains =
-      let so : (act.machine.draining ≡ true) × (act.answer ≡ None) =
-      rw drains (drain_acts s.memory s.before t.entry.seat (rw drains at s.possible)) in
-      drained_step so.0 (ap (λ (o : Option Answer). has_inserted (addressed t.entry.seat o)) so.1)
+      search (drained_step, drains_acted, tells, arith, common_steps, or_from, both_ways)
 
   -- after the answer to the put of the last id
   after_last_at : (early : List GivenAnswer) (by : ℕ) (more : List GivenAnswer) → t.given ≡ early ++ (by, answers.Inserted last_id) ∷ more
@@ -251,12 +197,7 @@ module _ (t : Transition) (s : IsStep t.first t.entry.moment t.entry.seat t.entr
       let a = in_first IsServed (s.handed ++ s.ended ++ own) (s.handed_then ++ s.ended_then) early x more (sym given_is ∙ split)
       (λ e. absurd cc) served_then in
       let b = in_second IsServed (s.handed ++ s.ended) own early x a.rest a.first_is (λ e. absurd cc) served in
-      let o = own_place t.entry.seat act.answer b.begin x a.rest b.second_is in
-      record {
-        draining = drains_then (drains_at_last s.before t.entry.seat t.entry.what act tells o.3);
-        none = ap has_inserted (a.more_is ∙ ap (λ xs. xs ++ (s.handed_then ++ s.ended_then)) o.1)
-            ∙ none_served (s.handed_then ++ s.ended_then) served_then;
-      }
+      grind (arith, own_place, drains_then, tells, none_served, served_then)
 
   deletion_at : (seat : ℕ) → Contains t.given (seat, answers.Deleted) → IsDeletion (record t { parts = parts_of s }) seat
   deletion_at seat i =
@@ -285,8 +226,7 @@ step_of_run first [] last goes = tt
 step_of_run first (t ∷ taken) last goes = (goes.1, step_of_run t.last taken last goes.2)
 
 pub transition_gives_least : (t : Transition) → IsTransition t → GivesLeast t
-transition_gives_least t is =
-    subst (λ (ps : Parts). GivesLeast (record t { parts = ps })) (sym is.parts_are) (step_gives_least t is.step)
+transition_gives_least t is = grind (arith, step_gives_least)
 
 pub run_gives_least : (first : Machine) (taken : List Transition) (last : Machine) (t : Transition) → GoesBy first taken last
     → Contains taken t → GivesLeast t
@@ -307,9 +247,7 @@ none_while_draining first (t ∷ taken) last goes d =
 pub none_after_drain : (first : Machine) (early : List Transition) (t : Transition) (more : List Transition) (last : Machine)
     → GoesBy first (early ++ t ∷ more) last → t.entry.what ≡ steps.Drain
     → has_inserted (flat_map (λ (t : Transition). t.given) (t ∷ more)) ≡ false
-none_after_drain first [] t more last goes drains =
-    let s = begins_draining t goes.1.step drains in
-    none_joined t.given (flat_map (λ (t : Transition). t.given) more) s.none (none_while_draining t.last more last goes.2 s.draining)
+none_after_drain first [] t more last goes drains = grind (arith, none_joined, none_while_draining, drained_step)
 none_after_drain first (u ∷ early) t more last goes drains = none_after_drain u.last early t more last goes.2 drains
 
 pub none_after_last_id : (first : Machine) (taken : List Transition) (last : Machine) (early : List GivenAnswer) (seat : ℕ)

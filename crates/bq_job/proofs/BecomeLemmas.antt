@@ -1,6 +1,6 @@
 -- What a command makes of a job: who held it, and which happening is recorded.
-use Rattle.std.proofs.Common.{ℕ, zero, suc, ◌≡◌, Bool, true, false, ◌||◌, cond, List, [], ◌∷◌, refl, Some, arith}
-use Rattle.std.proofs.lemmas.Bool.{and_parts, or_cases, or_left, or_right, cond_both, eqb-true, eq-eqb, cases_Bool}
+use Rattle.std.proofs.Common.{ℕ, zero, suc, ◌≡◌, Bool, true, false, ◌||◌, cond, List, [], ◌∷◌, Some, arith}
+use Rattle.std.proofs.lemmas.Bool.{and_parts, or_cases, or_left, or_right, cond_both, eqb-true, cases_Bool}
 use Rattle.std.proofs.lemmas.Grind.{common_steps}
 use Rattle.std.specs.{List.{AllByRecursion as All, Contains, list_any}, Prelude.{◌==◌, filter, take}}
 use Rattle.bq_job.specs.machine.{delayed_by, in_order, is_buried, is_buried_before, is_buried_in, is_delayed}
@@ -24,9 +24,6 @@ put_aside_not_held s h i = grind (arith, common_steps, cases_Bool)
 pub told_if_given_up : (what : Step) (id : ℕ) (before after : JobState) → is_reserved before ≡ true → is_reserved after ≡ false
     → list_any (disturbs id) (given_up what id) ≡ true → list_any (disturbs id) (change what id before after) ≡ true
 told_if_given_up what id before after held free told = grind (arith, common_steps, cases_Bool)
-
-pub itself_told : (id : ℕ) → ((id == id) || false) ≡ true
-itself_told id = or_left (id == id) false (eq-eqb id id refl)
 
 -- what holds of all elements holds of them in order, and of the first of them
 all_put_in_order : (P : Job → Type 0) (before : Job → Job → Bool) (j : Job) (jobs : List Job) → P j → All P jobs

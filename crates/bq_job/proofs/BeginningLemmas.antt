@@ -1,9 +1,8 @@
 -- First parts of the texts of answers.
 use Rattle.std.proofs.Common.{◌≡◌, List, [], ◌∷◌, ◌++◌, ℕ, sym, ap, ◌∙◌, subst, inl, inr, append-nil, append_assoc, arith}
-use Rattle.std.proofs.lemmas.Grind.{common_steps}
-use Rattle.std.proofs.lemmas.Grind.{flat_map-append}
-use Rattle.bq_job.specs.promise.{IsBeginning, IsLineOwed, IsLineOwedSoFar, IsWritten, LineOver, LineSeen, answers_text}
-use Rattle.bq_job.specs.{texts.AnswerText.answer_text, Types.{Answer, LineEnd, Request, Step}}
+use Rattle.std.proofs.lemmas.Grind.{flat_map-append, common_steps}
+use Rattle.bq_job.specs.promise.{IsBeginning, IsWritten, answers_text}
+use Rattle.bq_job.specs.{texts.AnswerText.answer_text, Types.{Answer, LineEnd, Request}}
 use Rattle.bq_job.specs.declared.line_end.LineEnd.TheVariants as ends
 
 pub begins_whole : (bytes text : List ℕ) → bytes ≡ text → IsBeginning bytes text
@@ -27,7 +26,7 @@ pub texts_cut : (bytes cut : List ℕ) (first : List Answer) (last : Answer) →
 texts_cut bytes cut first last is b = grind (arith, common_steps, flat_map-append, append-nil, append_assoc)
 
 -- What was written to a connection that has ended is a first part of its answers' texts.
-ended_begins : (over : LineEnd) (asked : List Request) (answers : List Answer) (written : List ℕ) → IsWritten over asked answers written
+pub ended_begins : (over : LineEnd) (asked : List Request) (answers : List Answer) (written : List ℕ) → IsWritten over asked answers written
     → IsBeginning written (answers_text answers)
 ended_begins ends.Quit asked answers written w = begins_whole written (answers_text answers) w
 ended_begins ends.EndOfInput asked answers written w = begins_whole written (answers_text answers) w
@@ -36,11 +35,3 @@ ended_begins ends.ReadFault asked answers written w = elim w [
   | inr u ↦ rw u.answers_are (texts_more written u.first (u.last ∷ []) (begins_whole written (answers_text u.first) u.written_is))
 ]
 ended_begins ends.WriteFault asked answers written w = grind (arith, common_steps, texts_cut)
-
-pub line_begins : (size : ℕ) (line : LineOver) (taken : List Step) (answers : List Answer) (early : List ℕ)
-    → IsLineOwed size line taken answers → IsBeginning early line.seen.written → IsBeginning early (answers_text answers)
-line_begins size line taken answers early o b = grind (arith, common_steps, begins_in, ended_begins)
-
-pub open_line_begins : (size : ℕ) (line : LineSeen) (taken : List Step) (answers more : List Answer) (early : List ℕ)
-    → IsLineOwedSoFar size line taken answers → IsBeginning early line.written → IsBeginning early (answers_text (answers ++ more))
-open_line_begins size line taken answers more early o b = grind (arith, common_steps, texts_more, begins_in)

@@ -8,7 +8,7 @@ use Rattle.std.specs.List.{AllByRecursion as All, Contains, list_any}
 use Rattle.bq_job.specs.{beside.AreIdsWithin, laws.{change, change_or_removal, changes, deleted, disturbs}}
 use Rattle.bq_job.specs.{laws.removed, machine.{is_full, is_ready, is_reserved}}
 use Rattle.bq_job.specs.{machine.{job_with, Machine.Machine}, Types.{Job, Step}}
-use Rattle.bq_job.proofs.JobMoves.{Fate, Move, quiet, putting, is_plain}
+use Rattle.bq_job.proofs.JobMoves.{Fate, Move, quiet, is_plain}
 use Rattle.bq_job.proofs.ListLemmas.{all_from_members, all_of_append, all_of_filter, all_of_map, all_weaker, list_any_with}
 use Rattle.bq_job.proofs.LookupLemmas.{found_job, job_found, job_in_map, job_in_more, job_in_rest}
 
@@ -77,8 +77,7 @@ none_at : (low next : ℕ) (jobs : List Job) → AreIdsWithin low jobs next → 
 none_at low next [] h = refl
 none_at low next (j ∷ jobs) h =
     let less = (job_found low next (j ∷ jobs) j h (0, omega arith, refl)).1 in
-    let other : (j.id == next) ≡ false = false_from_ne_true (j.id == next) (λ t. let at = eqb-true j.id next t in absurd (omega arith)) in
-    rw other (none_at (suc j.id) next jobs h.1)
+    grind (arith, none_at (suc j.id) next jobs h.1)
 
 -- the fate of a job that a command changed
 changed_fate : (what : Step) (before after : List Job) (f : Job → Job) (id : ℕ) (o : Option Job) → job_with id before ≡ o
@@ -100,10 +99,7 @@ changed_fate what before after f id (Some j) e g becomes =
         | inl r ↦ r
         | inr r ↦ absurd (both_ways (list_any (disturbs id) (changes what before after)) still (disturbed r))
       ];
-      held = λ h still. elim (b.held h) [
-        | inl r ↦ r
-        | inr r ↦ absurd (both_ways (list_any (disturbs id) (changes what before after)) still (disturbed r))
-      ];
+      held = grind arith;
     }
 
 removed_fate : (what : Step) (before after : List Job) (gone id : ℕ) (o : Option Job) → removed what gone ≡ deleted gone ∷ []
@@ -124,8 +120,7 @@ move_of_jobs what m n ids (changed f after next same becomes) =
           (subst (All (λ j. is_none (job_with j.id m.jobs) ≡ false)) (sym after)
           (all_of_map _ f m.jobs (all_weaker _ _ m.jobs
           (λ j h. subst (λ id. is_none (job_with id m.jobs) ≡ false) (sym (same j)) h) (were_there m.jobs m.next_id ids))));
-      fates = λ id. subst (Fate id (changes what m.jobs n.jobs) (job_with id m.jobs)) (sym (lookup id))
-          (changed_fate what m.jobs n.jobs f id (job_with id m.jobs) refl (lookup id) becomes);
+      fates = grind (arith, changed_fate);
     })
 move_of_jobs what m n ids (removed_one gone told after next) =
     grind (arith, common_steps, job_in_rest, quiet, plain_changes, all_weaker, all_of_filter, were_there, removed_fate)
@@ -137,5 +132,4 @@ move_of_jobs what m n ids (added j after next is at_once free) =
     let other : (j.id == k.id) ≡ false = false_from_ne_true (j.id == k.id) (λ t. let at = eqb-true j.id k.id t in absurd (omega arith)) in
     ap (λ o. change_or_removal what k o) (ap (job_with k.id) after ∙ job_in_more k.id m.jobs j other ∙ found.0)
     ∙ (grind (arith, common_steps, cases_Bool))) in
-    let new : filter (λ k. is_none (job_with k.id m.jobs)) n.jobs ≡ j ∷ [] = grind (arith, common_steps, last_kept, were_there, none_at) in
-    putting (grind (arith, common_steps, none_of_parts))
+    grind (arith, last_kept, were_there, none_at, none_of_parts)

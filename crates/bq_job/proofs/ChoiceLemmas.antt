@@ -7,7 +7,7 @@ use Rattle.std.proofs.lemmas.{Grind.common_steps, List.Elements.{All-contains, A
 use Rattle.std.proofs.{lemmas.List.Folds.list_any-from_Any, Math.Bool.or_assoc}
 use Rattle.std.specs.{Cmp.IsStrictWeakOrder, List.{AllByRecursion, Contains, list_any}, Prelude.{IfSome, fold, is_some}}
 use Rattle.bq_job.specs.machine.{better_of, first_of, is_pair_before}
-use Rattle.bq_job.proofs.ListLemmas.{contains_head, contains_tail}
+use Rattle.bq_job.proofs.ListLemmas.{contains_tail}
 
 -- pairs of numbers, ordered by the first and then by the second
 pub pair_order : {X : Type 0} (first second : X → ℕ) → IsStrictWeakOrder (λ x y. is_pair_before (first x) (second x) (first y) (second y))
@@ -51,14 +51,7 @@ fold_contains : {X : Type 0} (passes : X → Bool) (before : X → X → Bool) (
     → fold (better_of passes before) best xs ≡ Some z → (best ≡ Some z) ⊎ Contains xs z
 fold_contains passes before best [] z h = inl h
 fold_contains passes before best (x ∷ xs) z h =
-    grind (
-      arith,
-      common_steps,
-      contains_tail,
-      cases_Bool,
-      contains_head,
-      fold_contains passes before (better_of passes before best x) xs z h,
-    )
+    grind (arith, contains_tail, fold_contains passes before (better_of passes before best x) xs z h)
 
 -- the chosen one is in the list
 pub first_of_contains : {X : Type 0} (passes : X → Bool) (before : X → X → Bool) (xs : List X) (z : X)

@@ -1,7 +1,7 @@
 -- What a step gives to one client: to the client that takes it, and to every other one.
 use Rattle.std.proofs.Common.{ℕ, ◌≡◌, ◌<◌, Bool, true, false, ◌&&◌, ◌||◌, List, [], ◌++◌}
-use Rattle.std.proofs.Common.{length, length-append, append_assoc, arith, refl, sym, ap, ◌∙◌, subst, inl, inr, Option, Some, None}
-use Rattle.std.proofs.lemmas.{Bool.{and_parts, both_ways, cases_Bool, cond_both}, Grind.common_steps}
+use Rattle.std.proofs.Common.{length, length-append, append_assoc, arith, refl, sym, ap, ◌∙◌, inl, inr, Option, Some, None}
+use Rattle.std.proofs.lemmas.{Bool.{cases_Bool, cond_both}, Grind.common_steps}
 use Rattle.std.specs.{List.{AllByRecursion as All, list_any}, Prelude.{◌==◌, IsTrue}}
 use Rattle.bq_job.specs.machine.{Effect, GivenAnswer, IsStep, Machine.Machine, Memory, Outcome, SeatRecord}
 use Rattle.bq_job.specs.machine.{at_found, at_moment, effect, empty_seat, end_effect, ends_waiting}
@@ -14,8 +14,7 @@ use Rattle.bq_job.specs.declared.answer.Answer.TheVariants as answers
 use Rattle.bq_job.specs.declared.step.Step.TheVariants as steps
 use Rattle.bq_job.proofs.Trace.{of_serves, steady}
 use Rattle.bq_job.proofs.ListLemmas.{all_at, all_both, all_pass, all_weaker, list_any_not, none_pass}
-use Rattle.bq_job.proofs.OneClientLemmas.{Found, Passes, answers_append, changed_none, changed_numbers, changed_quiet}
-use Rattle.bq_job.proofs.OneClientLemmas.{changed_some}
+use Rattle.bq_job.proofs.OneClientLemmas.{Found, Passes, answers_append, changed_none, changed_numbers, changed_quiet, changed_some}
 use Rattle.bq_job.proofs.OneClientLemmas.{connected_in, finds, one_for, passes_serves, unclosed_append, waits_in}
 use Rattle.bq_job.proofs.{ChoiceLemmas.first_of_none, KeptLemmas.is_open_wait}
 use Rattle.bq_job.proofs.{LawfulLemmas.{step_is_lawful}, ReplyLemmas.{replies_acted, replies_effect}}
@@ -41,8 +40,7 @@ parts_of client first last at seat what outcome given s = record {
   late = s.handed_then ++ s.ended_then;
   comes = passes_serves client (forgetting (after_timers (at_moment at first))) s.handed s.ended s.before s.serves;
   possible = s.possible;
-  goes = subst (λ (n : Machine). Passes client n.seats last.seats (s.handed_then ++ s.ended_then)) s.acts
-      (passes_serves client s.after s.handed_then s.ended_then last s.serves_then);
+  goes = grind (arith, passes_serves client s.after s.handed_then s.ended_then last s.serves_then);
   given_is = grind (arith, common_steps, append_assoc);
 }
 
@@ -68,9 +66,6 @@ end_quiet client q same m (Some s) =
     (λ e. list_any (λ s. s.number == client && q s) (e.machine).seats ≡ list_any (λ s. s.number == client && q s) m.seats)
     (λ e. changed_quiet client s.number with_end q m.seats (λ t. refl) same) (λ e. refl)
 
-no_length : (xs : List Answer) → length xs ≡ 0 → xs ≡ []
-no_length xs h = grind (arith, common_steps, cases_Bool)
-
 -- the answers to the client that takes the step
 pub answers_of_parts : (seat : ℕ) (o : Option Answer) (early late given : List GivenAnswer) → given ≡ early ++ (addressed seat o ++ late)
     → answers_to seat given ≡ answers_to seat early ++ (told o ++ answers_to seat late)
@@ -92,9 +87,7 @@ found_before first last seat what given h there p = finds first.settings.seats s
 own_effect : (seat : ℕ) (first last : Machine) (what : Step) (given : List GivenAnswer) (p : Parts seat first last seat what given)
     (e : Effect) → step_takes_memory what ≡ false → shares_body e.answer ≡ false → effect p.before seat what ≡ e
     → (acted p.memory p.before seat what ≡ e) × Passes seat (e.machine).seats last.seats p.late
-own_effect seat first last what given p e takes shares is =
-    let acts : acted p.memory p.before seat what ≡ e = grind (arith, common_steps, both_ways, and_parts) in
-    (acts, subst (λ (x : Effect). Passes seat (x.machine).seats last.seats p.late) acts p.goes)
+own_effect seat first last what given p e takes shares is = grind arith
 
 abbrev seated : SeatRecord → SeatRecord
 seated s = record (empty_seat s.number) { connected = true }
@@ -113,7 +106,7 @@ gives_connect first last seat given h there p c =
     let e = own_effect seat first last steps.Connect given p (silent (after_connect m s.number)) refl refl (grind (arith, common_steps)) in
     let waits_after = changed_none seat s.number seated is_waiting m.seats f.number (λ t. refl) in
     let connected_after = changed_some seat seated (λ t. t.connected) m.seats s f.number f.there (λ t. refl) (λ t. refl) in
-    grind (arith, common_steps, no_length, answers_of_parts)
+    grind (arith, common_steps, answers_of_parts)
 
 gives_answer : (first last : Machine) (seat : ℕ) (request : Request) (given : List GivenAnswer) → IsLawful first
     → seat < first.settings.seats → Parts seat first last seat (steps.Ask request) given → connected_in seat first.seats ≡ true
@@ -124,7 +117,7 @@ gives_answer first last seat request given h there p c none =
     let begin : ((length (answers_to seat p.early)) ≡ 0) × ((waits_in seat m.seats) ≡ false) = grind (arith, common_steps, cases_Bool) in
     let reply = replies_acted p.memory m seat request begin.1 p.possible
     (replies_effect m seat request f (p.comes.connected ∙ c) begin.1) in
-    grind (arith, common_steps, answers_of_parts, no_length, unclosed_append)
+    grind (arith, common_steps, answers_of_parts, unclosed_append)
 
 gives_closed : (first last : Machine) (seat : ℕ) (given : List GivenAnswer) → IsLawful first → seat < first.settings.seats
     → Parts seat first last seat steps.Close given → connected_in seat first.seats ≡ true
@@ -138,7 +131,7 @@ gives_closed first last seat given h there p c =
     (grind (arith, common_steps)) in
     let waits_after = changed_none seat s.number (λ t. empty_seat t.number) is_waiting m.seats f.number (λ t. refl) in
     let connected_after = changed_none seat s.number (λ t. empty_seat t.number) (λ t. t.connected) m.seats f.number (λ t. refl) in
-    grind (arith, common_steps, answers_of_parts, no_length)
+    grind (arith, common_steps, answers_of_parts)
 
 -- A tick at any seat gives to any client what it waits for.
 pub tick_gives_client : (first last : Machine) (at seat client : ℕ) (outcome : Outcome) (given : List GivenAnswer)
@@ -174,11 +167,8 @@ pub step_gives_client : (first last : Machine) (at seat : ℕ) (what : Step) (ou
     → seat < first.settings.seats → IsStep first at seat what outcome given last → GivesClient seat first what given last
 step_gives_client first last at seat steps.Connect outcome given h there s =
     λ c. gives_connect first last seat given h there (parts_of seat first last at seat steps.Connect outcome given s) c
-step_gives_client first last at seat (steps.Ask request) outcome given h there s =
-    λ c none. gives_answer first last seat request given h there
-    (parts_of seat first last at seat (steps.Ask request) outcome given s) c none
-step_gives_client first last at seat steps.Close outcome given h there s =
-    λ c. gives_closed first last seat given h there (parts_of seat first last at seat steps.Close outcome given s) c
+step_gives_client first last at seat (steps.Ask request) outcome given h there s = search (gives_answer, parts_of)
+step_gives_client first last at seat steps.Close outcome given h there s = search (gives_closed, parts_of)
 step_gives_client first last at seat steps.End outcome given h there s =
     let p = parts_of seat first last at seat steps.End outcome given s in (
       gets_quiet seat first last seat steps.End given p refl

@@ -1,17 +1,16 @@
 -- A run answers `Closed` at most once to each close.
 use Rattle.std.proofs.Common.{ℕ, ◌≡◌, ◌+◌, ◌≤◌, false, ◌&&◌, not, List, [], ◌∷◌, ◌++◌}
-use Rattle.std.proofs.Common.{map, length, refl, ap, ◌∙◌, arith, subst, inl, inr, Option}
+use Rattle.std.proofs.Common.{map, length, refl, ap, ◌∙◌, arith, subst, inl, inr}
 use Rattle.std.proofs.lemmas.{Bool.{and_parts, cases_Bool, eqb-true}, Grind.common_steps}
 use Rattle.std.specs.Prelude.{◌==◌}
 use Rattle.bq_job.specs.beside.{AreLinesServed, closes, closings}
-use Rattle.bq_job.specs.machine.{Effect, GivenAnswer, IsStep, Machine.Machine, Memory, Outcome, SeatRecord, acted, has_closed}
-use Rattle.bq_job.specs.promise.{Entry, IsStepsOfLine, LineHeard, LineOver, MayTellEnd, Run, answers_to, heard, is_tick, steps_at}
+use Rattle.bq_job.specs.machine.{GivenAnswer, IsStep, Machine.Machine, Memory, Outcome, acted, has_closed}
+use Rattle.bq_job.specs.promise.{Entry, IsStepsOfLine, LineHeard, LineOver, Run, answers_to, heard, is_tick, steps_at}
 use Rattle.bq_job.specs.Types.{Answer, LineEnd, Request, Step}
 use Rattle.bq_job.specs.declared.answer.Answer.TheVariants as answers
 use Rattle.bq_job.specs.declared.step.Step.TheVariants as steps
 use Rattle.bq_job.proofs.ClientStepLemmas.{answers_of_parts, others_give, parts_of, tick_gives_client}
 use Rattle.bq_job.proofs.{CommandKinds.kind_of, CutLemmas.{closes_append, unclosed_closes}, EachEvent.each_acted}
-use Rattle.bq_job.proofs.EffectKinds.{Kind}
 use Rattle.bq_job.proofs.{GivenLemmas.{first_here, is_here}, OneClientLemmas.answers_append, ReplyLemmas.told}
 use Rattle.bq_job.proofs.RunLemmas.{run_first, run_of_none}
 
@@ -22,28 +21,19 @@ closings_append (x ∷ xs) ys = closings_append xs ys
 
 -- ---- one step
 
-asked_unclosed : (request : Request) (m : Machine) (s : SeatRecord) {e : Effect} → Kind m s request e → has_closed (told e.answer) ≡ false
-asked_unclosed request m s k = grind (arith, common_steps, cases_Bool)
-
 -- Only a close is itself answered `Closed`.
 own_unclosed : (memory : Memory) (m : Machine) (seat : ℕ) (what : Step) → closings (what ∷ []) ≡ 0
     → has_closed (told (acted memory m seat what).answer) ≡ false
-own_unclosed memory m seat what = grind (arith, common_steps, cases_Bool, each_acted, told, asked_unclosed, kind_of)
+own_unclosed memory m seat what = grind (arith, common_steps, cases_Bool, each_acted, told, kind_of)
 
 closes_most : (xs : List Answer) → closes xs ≤ length xs
 closes_most [] = omega arith
 closes_most (answers.Closed ∷ xs) = omega (arith, closes_most xs)
 closes_most (x ∷ xs) = omega (arith, closes_most xs)
 
-told_one : (o : Option Answer) → length (told o) ≤ 1
-told_one o = grind (arith, common_steps)
-
 own_closes : (memory : Memory) (m : Machine) (seat : ℕ) (what : Step)
     → closes (told (acted memory m seat what).answer) ≤ closings (what ∷ [])
-own_closes memory m seat steps.Close =
-    let o = (acted memory m seat steps.Close).answer in omega (arith, closes_most (told o), told_one o)
-own_closes memory m seat what =
-    let o = (acted memory m seat what).answer in omega (arith, unclosed_closes (told o) (own_unclosed memory m seat what refl))
+own_closes memory m seat what = grind (arith, closes_most, told, own_unclosed)
 
 -- a step at the seat
 here_closes : (first last : Machine) (at t : ℕ) (what : Step) (outcome : Outcome) (given : List GivenAnswer)
@@ -56,9 +46,7 @@ here_closes first last at t what outcome given step =
     let all : closes (answers_to t given) ≡ closes early + (closes (told o) + closes late) =
     ap closes (answers_of_parts t o p.early p.late given p.given_is) ∙ closes_append early (told o ++ late)
     ∙ ap (λ n. closes early + n) (closes_append (told o) late) in
-    let none_early = unclosed_closes early p.comes.unclosed in
-    let none_late = unclosed_closes late p.goes.unclosed in
-    omega (arith, own_closes p.memory p.before t what)
+    grind (arith, unclosed_closes, own_closes)
 
 -- a step at another seat, or a tick
 elsewhere_closes : (t : ℕ) (m next : Machine) (at seat : ℕ) (what : Step) (outcome : Outcome) (given : List GivenAnswer)
@@ -75,8 +63,7 @@ closings_first what taken = closings_append (what ∷ []) taken
 
 pub run_closes : (t : ℕ) (m last : Machine) (history : List Entry) (given : List GivenAnswer) → Run m history given last
     → closes (answers_to t given) ≤ closings (steps_at t history)
-run_closes t m last [] given r =
-    let e : closes (answers_to t given) ≡ 0 = ap (λ gs. closes (answers_to t gs)) (run_of_none m last given r).0 in omega arith
+run_closes t m last [] given r = grind (arith, run_of_none m last given r)
 run_closes t m last (e ∷ history) given r =
     let b = run_first m last e history given r in
     let more = run_closes t b.next last history b.more b.rest in
@@ -104,9 +91,6 @@ asked_closings : (asked : List Request) → closings (map steps.Ask asked) ≡ 0
 asked_closings [] = refl
 asked_closings (request ∷ asked) = asked_closings asked
 
-end_closings : (line : LineHeard) (asked : List Request) (end_steps : List Step) → MayTellEnd line asked end_steps → closings end_steps ≡ 0
-end_closings line asked end_steps h = grind (arith, common_steps)
-
 pub asked_steps_closings : (asked : List Request) (end_steps : List Step) → closings end_steps ≡ 0
     → closings (steps.Connect ∷ [] ++ map steps.Ask asked ++ end_steps) ≡ 0
 asked_steps_closings asked end_steps none = grind (arith, common_steps, cases_Bool, closings_append, asked_closings)
@@ -114,7 +98,7 @@ asked_steps_closings asked end_steps none = grind (arith, common_steps, cases_Bo
 -- A connection that has ended was closed once.
 pub line_closings : (size : ℕ) (line : LineHeard) (over : LineEnd) (taken : List Step) → IsStepsOfLine size line over taken
     → closings taken ≡ 1
-line_closings size line over taken l = grind (arith, common_steps, cases_Bool, closings_append, asked_steps_closings, end_closings)
+line_closings size line over taken l = grind (arith, common_steps, cases_Bool, closings_append, asked_steps_closings)
 
 pub lines_closings : (size : ℕ) (lines : List LineOver) (own : List Step) (taken : List Answer) → AreLinesServed size lines own taken
     → closings own ≡ length lines

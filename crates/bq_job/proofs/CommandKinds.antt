@@ -1,5 +1,5 @@
 -- The kind of each command: the only case split over all requests.
-use Rattle.std.proofs.Common.{◌||◌, ◌≡◌, ◌≤◌, ◌⊎◌, Bool, List, None, Some, ℕ, ap, arith, cond, false, inl, inr, not, refl, true}
+use Rattle.std.proofs.Common.{◌||◌, ◌≡◌, ◌≤◌, Bool, List, None, Some, ℕ, ap, arith, cond, false, inl, inr, not, refl, true}
 use Rattle.std.proofs.lemmas.{Bool.{and_parts, cond_both, eq-eqb}, Grind.common_steps}
 use Rattle.std.specs.{List.list_any, Prelude.{◌==◌, filter, length, take}}
 use Rattle.bq_job.specs.machine.{is_buried, is_closed_answer, is_delayed}
@@ -67,8 +67,7 @@ kick_kind bound m s =
     (says (answers.KickedCount (length chosen)) refl refl refl refl) (record {
       counts = λ h. h;
       same = λ j. cond_both (list_any (λ k. k.id == j.id) chosen) (kicked j) j (λ k. k.id ≡ j.id) (λ e. refl) (λ e. refl);
-      holder = λ j. cond_both (list_any (λ k. k.id == j.id) chosen) (kicked j) j (λ k. (k ≡ j) ⊎ IsFreeOrOwn s k)
-          (λ e. inr (inl refl)) (λ e. inl refl);
+      holder = grind arith;
       becomes = λ ids j i. cond_both (list_any (λ k. k.id == j.id) chosen) (kicked j) j (Becomes (steps.Ask (requests.Kick bound)) j)
           (λ e. record {
             id = refl;

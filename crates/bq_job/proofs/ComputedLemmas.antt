@@ -3,7 +3,7 @@ use Rattle.std.proofs.Common.{ℕ, zero, suc, ◌≡◌, ◌≤◌, ◌<◌, tru
 use Rattle.std.proofs.lemmas.{Bool.{and_left, and_parts, cases_Bool}, Grind.common_steps}
 use Rattle.std.specs.List.{Contains, list_any}
 use Rattle.bq_job.specs.Types.{Job, Step}
-use Rattle.bq_job.specs.machine.{Chain, DispatchTurn, Dispatches, EndsWaits, IsStep, Machine.Machine, SeatRecord, Serves, WaitEndTurn}
+use Rattle.bq_job.specs.machine.{Chain, DispatchTurn, EndsWaits, IsStep, Machine.Machine, SeatRecord, Serves, WaitEndTurn}
 use Rattle.bq_job.specs.machine.{after_timers, at_moment, effect, ends_waiting, forgetting}
 use Rattle.bq_job.specs.machine.{has_refused_share, is_deadline_soon, is_job_before, is_timed_out, is_wait_before, is_waiting}
 use Rattle.bq_job.specs.machine.{is_waiting_for, may_have, next_end, next_job, next_seat, with_seat, without_wait}
@@ -71,8 +71,7 @@ dispatched_all (suc turns) m w = handed_out_all (λ next. dispatched turns next)
 ended_at_turns : (rest : Machine → Served) (m : Machine) (o : Option SeatRecord)
     → ((n : Machine) → Chain WaitEndTurn n (rest n).given (rest n).machine) → next_end m ≡ o
     → Chain WaitEndTurn m (ended_at rest m o).given (ended_at rest m o).machine
-ended_at_turns rest m None goes e = refl
-ended_at_turns rest m (Some s) goes e = (with_seat s.number without_wait m, (rw e (refl, refl)), goes (with_seat s.number without_wait m))
+ended_at_turns rest m o h3 h4 = grind arith
 
 -- Every computed end of a wait is one.
 pub wait_ended_turns : (turns : ℕ) (m : Machine) → Chain WaitEndTurn m (wait_ended turns m).given (wait_ended turns m).machine
@@ -100,15 +99,12 @@ pub wait_ended_all : (turns : ℕ) (m : Machine) → waiting_count m ≤ turns �
 wait_ended_all zero m w = none_ends m w
 wait_ended_all (suc turns) m w = ended_at_all (λ next. wait_ended turns next) turns m (next_end m) (λ n. wait_ended_all turns n) w refl
 
-pub computed_dispatches : (m : Machine) → Dispatches m (after_dispatch m).given (after_dispatch m).machine
-computed_dispatches m = grind (arith, common_steps, dispatched_turns, dispatched_all)
-
 pub computed_ends_waits : (m : Machine) → EndsWaits m (after_wait_ends m).given (after_wait_ends m).machine
 computed_ends_waits m = grind (arith, common_steps, wait_ended_turns, wait_ended_all)
 
 pub computed_serves : (m : Machine) → Serves m (after_dispatch m).given (after_wait_ends (after_dispatch m).machine).given
     (after_serving m).machine
-computed_serves m = grind (arith, common_steps, computed_dispatches m, computed_ends_waits (after_dispatch m).machine)
+computed_serves m = grind (arith, common_steps, computed_ends_waits (after_dispatch m).machine, dispatched_turns, dispatched_all)
 
 -- What is computed is a step.
 pub stepped_is_step : (m : Machine) (at seat : ℕ) (what : Step)

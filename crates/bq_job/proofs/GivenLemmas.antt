@@ -6,7 +6,7 @@ use Rattle.std.proofs.lemmas.{Bool.{and_parts, both_ways, cases_Bool}, Grind.com
 use Rattle.std.specs.Prelude.{◌==◌}
 use Rattle.bq_job.specs.promise.{Entry, LineHeard, LineOver, MayTellEnd, Run, answered_count, answers_to, answers_wanted}
 use Rattle.bq_job.specs.beside.{AreLinesServed, GetsAtMost, GetsClosed, GetsWhatWaits, IsLawful, owing}
-use Rattle.bq_job.specs.machine.{GivenAnswer, IsStep, Outcome, Settings, has_closed, is_connected_at, Machine.Machine}
+use Rattle.bq_job.specs.machine.{GivenAnswer, IsStep, Outcome, has_closed, is_connected_at, Machine.Machine}
 use Rattle.bq_job.specs.{promise.{heard, is_gone, is_tick, steps_at, wanted}, Types.{Answer, Request, Step}}
 use Rattle.bq_job.specs.declared.answer.Answer.TheVariants as answers
 use Rattle.bq_job.specs.declared.step.Step.TheVariants as steps
@@ -28,10 +28,8 @@ pub record Serves (t : ℕ) (m : Machine) : Type 0 where
 
 serves_on : (t : ℕ) (m next : Machine) (at seat : ℕ) (what : Step) (outcome : Outcome) (given : List GivenAnswer) → Serves t m
     → IsStep m at seat what outcome given next → Serves t next
-serves_on t m next at seat what outcome given s step = record {
-  lawful = step_is_lawful m next at seat what outcome given s.lawful step;
-  within = subst (λ (settings : Settings). t < settings.seats) (sym (step_settings m next at seat what outcome given step)) s.within;
-}
+serves_on t m next at seat what outcome given s step =
+    grind (arith, step_is_lawful m next at seat what outcome given s.lawful step, step_settings m next at seat what outcome given step)
 
 elsewhere : (t : ℕ) (m next : Machine) (at seat : ℕ) (what : Step) (outcome : Outcome) (given : List GivenAnswer) → Serves t m
     → (not (is_tick what) && seat == t) ≡ false → IsStep m at seat what outcome given next → GetsWhatWaits m next t (answers_to t given)
@@ -74,17 +72,8 @@ pub record LineEnds (t : ℕ) (most : ℕ) (more : List Step) (given : List Answ
 ends_after : {t less : ℕ} {more : List Step} {given : List Answer} {last : Machine} (most : ℕ) (now all : List Answer)
     → has_closed now ≡ false → length now + less ≤ most → all ≡ now ++ given → LineEnds t less more given last
     → LineEnds t most more all last
-ends_after most now all unclosed few is r = record {
-  part = now ++ r.part;
-  later = r.later;
-  given_is = is ∙ ap (λ (xs : List Answer). now ++ xs) r.given_is ∙ sym (append_assoc now r.part (answers.Closed ∷ r.later));
-  unclosed = unclosed_append now r.part unclosed r.unclosed;
-  few = let a = r.few in omega (arith, length-append now r.part);
-  goes = r.goes;
-}
-
-at_most : {a b : ℕ} → a ≡ b → a ≤ b
-at_most e = omega arith
+ends_after most now all unclosed few is r =
+    grind (arith, append_assoc, unclosed_append now r.part unclosed r.unclosed, length-append now r.part)
 
 at_least : {a : ℕ} (b : ℕ) → a ≤ b → a ≤ b + 0
 at_least b e = omega arith
@@ -139,7 +128,7 @@ line_ends t m last (e ∷ history) given ss more s c w r is =
     line_ends t o.next last history o.rest ss' more o.serves c' w' o.runs tail in
     elim o.whose [
       | inl h ↦ own o behind ss w (sym h.0 ∙ is) h.1
-      | inr h ↦ grind (arith, common_steps, at_most, ends_after)
+      | inr h ↦ grind (arith, common_steps, ends_after)
     ]
   where
     own : (o : OneEntry t m last e history (answers_to t given))
@@ -293,8 +282,7 @@ pub gives_parts : (P : List Answer → Type 0) (t : ℕ) (size : ℕ) (lines : L
     → (m last : Machine) (history : List Entry) (given : List GivenAnswer) → Serves t m → is_connected_at t m ≡ false → owing t m ≡ 0
     → (tail : List Step) → GivesAfter P t tail last → Run m history given last → steps_at t history ≡ own ++ tail
     → ArePartsBefore P (most_of_lines size lines own taken h) (answers_to t given)
-gives_parts P t size [] own taken h m last history given s free none tail after r is =
-    after m history given s none r (is ∙ ap (λ (xs : List Step). xs ++ tail) h.0)
+gives_parts P t size [] own taken h m last history given s free none tail after r is = grind arith
 gives_parts P t size (line ∷ lines) own taken h m last history given s free none tail after r is =
     let l = h.4.line_owed.steps in
     let ss = map steps.Ask l.asked ++ l.end_steps in

@@ -1,10 +1,10 @@
 -- What the seats did fits what the core did.
 use Rattle.std.proofs.Common.{Option, ◌≡◌, ℕ, suc, ◌+◌, ◌≤◌, ◌<◌, Bool, true, false, ◌&&◌, List, [], ◌∷◌}
-use Rattle.std.proofs.Common.{◌++◌, map, length, refl, sym, ap, ◌∙◌, arith, subst, inl, inr, append-nil, append_assoc}
+use Rattle.std.proofs.Common.{◌++◌, map, length, refl, sym, ap, ◌∙◌, arith, subst, append-nil, append_assoc}
 use Rattle.std.proofs.lemmas.{Bool.{and_right}, Grind.common_steps, List.{length-append}}
 use Rattle.std.specs.{List.list_any, Prelude.{◌==◌, IsTrue}}
 use Rattle.bq_job.specs.machine.{GivenAnswer, Machine.Machine, SeatRecord, Settings, empty_seat}
-use Rattle.bq_job.specs.machine.{has_closed, is_closed_answer, is_connected_at, is_waiting}
+use Rattle.bq_job.specs.machine.{has_closed, is_connected_at, is_waiting}
 use Rattle.bq_job.specs.promise.{AreAllAnswered, AreDoorsOwed, AreLinesOwed, Entry, IsHistoryOf, IsHistoryOfLine, IsLineOwed, IsWritten}
 use Rattle.bq_job.specs.beside.{AreLinesServed, AreTied, IsJoined, IsLineJoined, IsLineServed, IsNoneUnwritten, closes, owing}
 use Rattle.bq_job.specs.{machine.{new_machine, numbers}, promise.{LineOver, Run, answered_count, answers_text}}
@@ -18,10 +18,6 @@ use Rattle.bq_job.proofs.ListLemmas.{none_in_parts}
 use Rattle.bq_job.proofs.{LawfulLemmas.new_is_lawful, OneClientLemmas.unclosed_append}
 use Rattle.std.proofs.lemmas.Bool.{cases_Bool}
 
--- if everything is answered, no answer follows
-nothing_after : (own others : List Answer) (n : ℕ) → length own ≡ n → length (own ++ others) ≤ n → own ≡ own ++ others
-nothing_after own others n h i = grind (arith, common_steps, length-append)
-
 -- the answers and the bytes written agree with the requests
 pub record IsDone (over : LineEnd) (asked : List Request) (given : List Answer) (written : List ℕ) : Type 0 where
   pub answered : AreAllAnswered over asked given
@@ -31,8 +27,7 @@ pub record IsDone (over : LineEnd) (asked : List Request) (given : List Answer) 
 late_one : (asked : List Request) (own others : List Answer) (written : List ℕ) → IsTrue (ends_by_wait asked)
     → length own + 1 ≡ answered_count asked → length (own ++ others) ≤ answered_count asked → written ≡ answers_text own
     → IsDone ends.ReadFault asked (own ++ others) written
-late_one asked own [] written waits h i w =
-    rw (append-nil own) (record { answered = inr (waits, h); written_is = inl w })
+late_one asked own [] written waits h i w = grind (arith, common_steps)
 late_one asked own (a ∷ []) written waits h i w = grind (arith, common_steps, length-append)
 late_one asked own (a ∷ b ∷ others) written waits h i w = absurd (omega (arith, length-append own (a ∷ b ∷ others)))
 
@@ -40,7 +35,7 @@ is_done : (over : LineEnd) (asked : List Request) (own others : List Answer) (wr
     → length (own ++ others) ≤ answered_count asked → IsWritten over asked own written → IsNoneUnwritten over own written
     → IsDone over asked (own ++ others) written
 is_done v1 asked own others written a i w none =
-    grind (arith, common_steps, cases_Bool, nothing_after, late_one)
+    grind (arith, common_steps, cases_Bool, late_one)
 
 -- A connection that was given at most as many answers as it wanted is owed exactly those that it
 -- took and wrote.
@@ -103,9 +98,7 @@ module _ (settings : Settings) (size t : ℕ) (lines : List LineOver) (own tail 
     (answers_are : answers_to t all ≡ taken ++ more) where
   parts_given : (P : List Answer → Type 0) → GivesAfter P t tail last → (served : AreLinesServed size lines own taken)
       → ArePartsBefore P (most_of_lines size lines own taken served) (answers_to t all)
-  parts_given P after served = gives_parts P t size lines own taken served (new_machine settings) last history all
-      (record { lawful = new_is_lawful settings; within = within }) (starts_free t settings) (starts_quiet t settings) tail after runs
-      steps_are
+  parts_given P after served = search (gives_parts, new_is_lawful, starts_free, starts_quiet)
 
   -- If no more connections come, all that the seat was given is what they are owed.
   pub seat_owed : are_gone tail ≡ true → AreLinesServed size lines own taken → AreLinesOwed size lines own (answers_to t all)
@@ -142,16 +135,8 @@ doors_owed settings size seat (lines ∷ doors) submitted taken waiting history 
 pub joined : (settings : Settings) (doors : List (List LineOver)) (control : List ℕ) (failed : Bool) (readings : List (Option ℕ))
     (history : List Entry) (given : List GivenAnswer) (last : Machine)
     → IsJoined settings doors control failed readings history given last → IsHistoryOf settings doors control failed readings last
-joined settings doors control failed readings history given last j = record {
-  history = history;
-  given = given;
-  run = j.run;
-  many = j.many;
-  of_doors = doors_owed settings settings.max_job_size 0 doors j.submitted j.taken j.waiting history given last
-      (let a = j.many in omega arith) j.run.runs j.tied;
-  of_control = j.control_tied ∙ j.control_done;
-  of_nobody_else = j.of_nobody_else;
-}
+joined settings doors control failed readings history given last j =
+    grind (arith, doors_owed settings settings.max_job_size 0 doors j.submitted j.taken j.waiting history given last)
 
 pub line_joined : (settings : Settings) (seat : ℕ) (line : LineOver) (readings : List (Option ℕ)) (history : List Entry)
     (given : List GivenAnswer) (last : Machine)
@@ -172,16 +157,8 @@ pub lines_more : (size : ℕ) (lines : List LineOver) (line : LineOver) (submitt
     → AreLinesServed size lines submitted taken → IsLineServed size line more got
     → AreLinesServed size (lines ++ line ∷ []) (submitted ++ more) (taken ++ got)
 lines_more size [] line submitted more taken got h l = grind (arith, common_steps, append-nil)
-lines_more size (first ∷ lines) line submitted more taken got h l = (
-  h.0,
-  h.1 ++ more,
-  h.2,
-  h.3 ++ got,
-  h.4,
-  ap (λ (xs : List Step). xs ++ more) h.5 ∙ append_assoc h.0 h.1 more,
-  ap (λ (xs : List Answer). xs ++ got) h.6 ∙ append_assoc h.2 h.3 got,
-  lines_more size lines line h.1 more h.3 got h.7 l,
-)
+lines_more size (first ∷ lines) line submitted more taken got h l =
+    grind (arith, append_assoc h.0 h.1 more, append_assoc h.2 h.3 got, lines_more size lines line h.1 more h.3 got h.7 l)
 
 -- ---- what is owed was served
 
@@ -197,34 +174,11 @@ record WroteOwn (over : LineEnd) (asked : List Request) (given : List Answer) (w
 
 wrote_all : (over : LineEnd) (asked : List Request) (given : List Answer) (written : List ℕ) → AreAllAnswered over asked given
     → IsWritten over asked given written → IsNoneUnwritten over given written → WroteOwn over asked given written
-wrote_all over asked given written a w none = record {
-  own = given;
-  others = [];
-  answered = a;
-  written_is = w;
-  none_unwritten = none;
-  given_is = sym (append-nil given);
-  none_closed = refl;
-}
+wrote_all over asked given written a w none = grind (arith, common_steps)
 
 wrote_own : (over : LineEnd) (asked : List Request) (given : List Answer) (written : List ℕ) → AreAllAnswered over asked given
     → IsWritten over asked given written → has_closed given ≡ false → WroteOwn over asked given written
-wrote_own ends.Quit asked given written a w unclosed = wrote_all ends.Quit asked given written a w tt
-wrote_own ends.EndOfInput asked given written a w unclosed = wrote_all ends.EndOfInput asked given written a w tt
-wrote_own ends.WriteFault asked given written a w unclosed = wrote_all ends.WriteFault asked given written a w tt
-wrote_own ends.ReadFault asked given written a (inl w) unclosed = wrote_all ends.ReadFault asked given written a (inl w) w
-wrote_own ends.ReadFault asked given written a (inr w) unclosed = record {
-  own = w.first;
-  others = w.last ∷ [];
-  answered = inr (
-    w.waits,
-    (let n = w.all in let e = ap length w.answers_are ∙ length-append w.first (w.last ∷ []) in omega arith),
-  );
-  written_is = inl w.written_is;
-  none_unwritten = w.written_is;
-  given_is = w.answers_are;
-  none_closed = (none_in_parts is_closed_answer w.first (w.last ∷ []) (ap has_closed (sym w.answers_are) ∙ unclosed)).1;
-}
+wrote_own over asked given written h4 h5 h6 = grind (arith, common_steps, wrote_all, none_in_parts)
 
 line_served : (size : ℕ) (line : LineOver) (own : List Step) (got : List Answer) → IsLineOwed size line own got → has_closed got ≡ false
     → IsLineServed size line own (got ++ answers.Closed ∷ [])
@@ -243,13 +197,5 @@ line_served size line own got o unclosed =
 pub lines_served : (size : ℕ) (lines : List LineOver) (own : List Step) (got : List Answer) → AreLinesOwed size lines own got
     → AreLinesServed size lines own got
 lines_served size [] own got h = h
-lines_served size (line ∷ lines) own got h = (
-  h.0,
-  h.1,
-  h.2 ++ answers.Closed ∷ [],
-  h.3,
-  line_served size line h.0 h.2 h.4 h.5,
-  h.6,
-  h.7 ∙ sym (append_assoc h.2 (answers.Closed ∷ []) h.3),
-  lines_served size lines h.1 h.3 h.8,
-)
+lines_served size (line ∷ lines) own got h =
+    grind (arith, append_assoc, line_served size line h.0 h.2 h.4 h.5, lines_served size lines h.1 h.3 h.8)

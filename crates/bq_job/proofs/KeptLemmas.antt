@@ -1,13 +1,13 @@
 -- What every part of a step keeps, and the changes of jobs and of seats that keep it.
 use Rattle.std.proofs.Common.{ℕ, zero, suc, ◌≡◌, ◌≤◌, ◌+◌, Bool, true, false, ◌&&◌, ◌||◌, not, cond, List}
 use Rattle.std.proofs.Common.{[], ◌∷◌, ◌++◌, map, arith, refl, ◌∙◌, inl, inr, Some, rules}
-use Rattle.std.proofs.lemmas.Bool.{cases_Bool, and_parts, and_from, or_parts, or_left, or_right}
-use Rattle.std.proofs.lemmas.Bool.{or_cases, both_ways, cond_both, eqb-true, eqb-false, leb-false}
+use Rattle.std.proofs.lemmas.Bool.{cases_Bool, or_left, or_right}
+use Rattle.std.proofs.lemmas.Bool.{or_cases, cond_both, eqb-true, eqb-false}
 use Rattle.std.proofs.lemmas.Grind.{common_steps}
-use Rattle.std.specs.{List.{AllByRecursion as All, list_any}, Prelude.{◌==◌, filter, find, nat_le}}
+use Rattle.std.specs.{List.{AllByRecursion as All, list_any}, Prelude.{◌==◌, filter, find}}
 use Rattle.bq_job.specs.machine.{Machine.Machine, SeatRecord, empty_seat, given_back, is_held_by, is_reserved, is_waiting}
 use Rattle.bq_job.specs.{beside.{AreIdsWithin, IsLawful}, machine.{last_id, numbers}, Types.{Job, JobState}}
-use Rattle.bq_job.proofs.ListLemmas.{all_always, all_both, all_of_append, all_of_filter, all_of_map}
+use Rattle.bq_job.proofs.ListLemmas.{all_always, all_both, all_of_filter, all_of_map}
 use Rattle.bq_job.proofs.ListLemmas.{all_pass, all_weaker, keys_of_map, list_any_of_map}
 
 -- The job's holder is connected.
@@ -45,15 +45,7 @@ ids_from_below low high next (j ∷ jobs) less h = (omega (arith, h.0), h.1)
 
 pub ids_of_filter : (p : Job → Bool) (low next : ℕ) (jobs : List Job) → AreIdsWithin low jobs next → AreIdsWithin low (filter p jobs) next
 ids_of_filter p low next [] h = h
-ids_of_filter p low next (j ∷ jobs) h =
-    grind (
-      arith,
-      common_steps,
-      cases_Bool,
-      ids_from_below,
-      ids_of_filter p (suc j.id) next jobs h.1,
-      ids_of_filter p low next jobs (ids_from_below low (suc j.id) next jobs (omega (arith, h.0)) h.1),
-    )
+ids_of_filter p low next (j ∷ jobs) h = grind (arith, ids_from_below, ids_of_filter p (suc j.id) next jobs h.1)
 
 pub ids_of_push : (low next : ℕ) (jobs : List Job) (j : Job) → j.id ≡ next → AreIdsWithin low jobs next
     → AreIdsWithin low (jobs ++ j ∷ []) (next + 1)
@@ -97,9 +89,7 @@ held_through f seats j stays h =
 
 still_held : (f : SeatRecord → SeatRecord) (seats : List SeatRecord) (j : Job) → All (λ s. IsMild s (f s)) seats → has_holder seats j ≡ true
     → has_holder (map f seats) j ≡ true
-still_held f seats j mild = held_through f seats j
-    (all_weaker (λ s. IsMild s (f s)) _ seats (λ s c p. let parts = and_parts s.connected (is_held_by s.number j) p in
-    and_from (f s).connected (is_held_by (f s).number j) (c.stays parts.0) (rw c.number parts.1)) mild)
+still_held f seats j mild = grind (arith, held_through, all_weaker)
 
 -- Seats change mildly.
 pub kept_of_seats : {places next : ℕ} {jobs : List Job} {seats : List SeatRecord} {draining : Bool} (f : SeatRecord → SeatRecord)
@@ -151,14 +141,9 @@ only_seat low (suc n) number (t ∷ seats) s e f =
 abbrev emptied : ℕ → SeatRecord → SeatRecord
 emptied seat s = cond (s.number == seat) (empty_seat s.number) s
 
--- If the job's holder does not disconnect, it stays connected.
-holder_stays : (seat : ℕ) (j : Job) (s : SeatRecord) → is_held_by seat j ≡ false → (s.connected && is_held_by s.number j) ≡ true
-    → ((emptied seat s).connected && is_held_by (emptied seat s).number j) ≡ true
-holder_stays seat j s e h = grind (arith, common_steps, cond_both, and_parts, both_ways, eqb-true)
-
 held_elsewhere : (seat : ℕ) (seats : List SeatRecord) (j : Job) → is_held_by seat j ≡ false → has_holder seats j ≡ true
     → has_holder (map (emptied seat) seats) j ≡ true
-held_elsewhere seat seats j e = held_through (emptied seat) seats j (all_always _ seats (λ s. holder_stays seat j s e))
+held_elsewhere seat seats j e = grind (arith, held_through, all_always)
 
 -- A client disconnects: no client holds its jobs, and its seat is empty.
 pub kept_of_close : {places next : ℕ} {jobs : List Job} {seats : List SeatRecord} {draining : Bool} (state : JobState) (seat : ℕ)
@@ -166,13 +151,6 @@ pub kept_of_close : {places next : ℕ} {jobs : List Job} {seats : List SeatReco
     → Kept places (map (given_back state seat) jobs) (map (λ s. cond (s.number == seat) (empty_seat s.number) s) seats) next draining
 kept_of_close {next = next} {jobs = jobs} {seats = seats} state seat free h = grind
     (arith, common_steps, ids_of_map, cond_both, all_of_map, all_weaker, held_elsewhere, keys_of_map, all_always)
-
--- A job that no client holds is added.
-pub kept_of_push : {places next : ℕ} {jobs : List Job} {seats : List SeatRecord} {draining : Bool} (j : Job)
-    → Kept places jobs seats next draining → draining ≡ false → j.id ≡ next → is_reserved j.state ≡ false
-    → Kept places (jobs ++ j ∷ []) seats (next + 1) (draining || nat_le last_id next)
-kept_of_push {next = next} {jobs = jobs} {seats = seats} {draining = draining} j h opens is free = grind
-    (arith, common_steps, ids_of_push, or_parts, leb-false, all_of_append)
 
 -- Jobs are removed.
 pub kept_of_filter : {places next : ℕ} {jobs : List Job} {seats : List SeatRecord} {draining : Bool} (p : Job → Bool)

@@ -37,9 +37,7 @@ kept_of_timers at m h =
 
 -- A wait that ends keeps the invariant.
 kept_without_wait : (number : ℕ) (m : Machine) → Keeps m → Keeps (with_seat number without_wait m)
-kept_without_wait number m h =
-    kept_of_seat number without_wait h
-    (all_always _ m.seats (λ s e. record { number = refl; stays = λ c. c; waits = λ w. refl }))
+kept_without_wait number m h = grind (arith, all_always, kept_of_seat number without_wait h)
 
 -- A turn keeps the invariant, and one client fewer waits.
 pub record IsTurn (m n : Machine) : Type 0 where
@@ -61,9 +59,7 @@ turn_of_hand_out m j s given next h f (inl i) =
           (λ k. held_here m s (reserved_by m.moment s.number k) w.0 c (eq-eqb s.number s.number refl)));
       waiting = waiting_falls (with_job j.id (reserved_by m.moment s.number) m) s w.0 w.1;
     })
-turn_of_hand_out m j s given next h f (inr i) =
-    let w = next_seat_waits m j s f in
-    subst (IsTurn m) (sym i.1) (record { keeps = kept_without_wait s.number m h; waiting = waiting_falls m s w.0 w.1 })
+turn_of_hand_out m j s given next h f (inr i) = grind (arith, waiting_falls, next_seat_waits m j s f, kept_without_wait s.number m h)
 
 turn_of_dispatch : (m : Machine) (given : GivenAnswer) (next : Machine) → Keeps m → DispatchTurn m given next → IsTurn m next
 turn_of_dispatch m given next h turn =
@@ -146,8 +142,7 @@ still_unwanted number m j h =
     (λ t. is_waiting_for (with_seat number without_wait m) j t ≡ false) (λ e. refl) (λ e. i)) (none_pass (is_waiting_for m j) m.seats h)))
 
 still_dispatched : (number : ℕ) (m : Machine) → next_job m ≡ None → next_job (with_seat number without_wait m) ≡ None
-still_dispatched number m h =
-    search (rules, first_of_none_passes, list_any_not, all_weaker, still_unwanted, none_pass, first_of_none)
+still_dispatched number m h = search (first_of_none_passes, list_any_not, all_weaker, still_unwanted, none_pass, first_of_none)
 
 dispatched_through_ends : (first : Machine) (given : List GivenAnswer) (last : Machine) → next_job first ≡ None
     → Chain WaitEndTurn first given last → next_job last ≡ None

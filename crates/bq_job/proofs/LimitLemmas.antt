@@ -1,5 +1,5 @@
 -- There are never more jobs than the job limit.
-use Rattle.std.proofs.Common.{◌∙◌, ◌∷◌, ◌≡◌, ◌≤◌, List, Some, [], ℕ, ap, arith, length, refl, subst, sym}
+use Rattle.std.proofs.Common.{◌∙◌, ◌∷◌, ◌≡◌, ◌≤◌, List, Some, [], ℕ, arith, length, refl, subst, sym}
 use Rattle.std.proofs.lemmas.{Bool.cases_Bool, Grind.common_steps, List.length-map}
 use Rattle.std.specs.List.{AllByRecursion as All, Contains}
 use Rattle.bq_job.specs.{beside.IsLawful, laws.{Part, parts_in, parts_of_run}}
@@ -22,19 +22,14 @@ record AddsNone (m n : Machine) : Type 0 where
   fewer : length n.jobs ≤ length m.jobs
 
 adds_none : (m n l : Machine) → n ≡ l → l.settings ≡ m.settings → length l.jobs ≡ length m.jobs → AddsNone m n
-adds_none m n l e same jobs = record {
-  same = ap (λ (k : Machine). k.settings) e
-      ∙ same;
-  fewer = let many : length n.jobs ≡ length m.jobs = ap (λ (k : Machine). length k.jobs) e ∙ jobs in omega arith;
-}
+adds_none m n l e same jobs = grind arith
 
 within_then : (settings : Settings) (m n : Machine) → IsWithin settings m → AddsNone m n → IsWithin settings n
 within_then settings m n w a = record { chosen = a.same ∙ w.chosen; few = λ most e. let x = w.few most e in let y = a.fewer in omega arith }
 
 -- Serving the clients adds none.
 within_steady : (settings : Settings) (m n : Machine) → IsWithin settings m → IsSteady m n → IsWithin settings n
-within_steady settings m n w s =
-    within_then settings m n w (record { same = s.settings; fewer = let many = s.many in omega arith })
+within_steady settings m n w s = grind arith
 
 -- A command adds a job only within the limit.
 by_command : (settings : Settings) (what : Step) (m n : Machine) → n.settings ≡ m.settings → After what m n → IsWithin settings m

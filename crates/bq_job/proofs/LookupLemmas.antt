@@ -1,8 +1,7 @@
 -- Looking up jobs by id in a list of increasing ids: after a change of each job, a removal and an
 -- addition.
 use Rattle.std.proofs.Common.{ℕ, zero, suc, ◌≡◌, ◌≤◌, ◌<◌, false, not, cond, List, [], ◌∷◌, ◌++◌, map, arith, refl, Some, None}
-use Rattle.std.proofs.Common.{rules}
-use Rattle.std.proofs.lemmas.{Bool.{both_ways, cases_Bool, eq-eqb, eqb-true, false_from_ne_true}, Grind.common_steps}
+use Rattle.std.proofs.lemmas.{Bool.{both_ways, cases_Bool, eq-eqb, eqb-true}, Grind.common_steps}
 use Rattle.std.specs.{List.{Contains}, Prelude.{◌==◌, filter, option_map}}
 use Rattle.bq_job.specs.{beside.AreIdsWithin, declared.job.Job.Job, machine.job_with}
 use Rattle.bq_job.proofs.ListLemmas.{found_passes, contains_head}
@@ -23,14 +22,10 @@ ids_up low next (j ∷ jobs) h = let a = h.0 in let b = ids_up (suc j.id) next j
 job_found_above : (low next : ℕ) (jobs : List Job) (j : Job) → AreIdsWithin low jobs next → Contains jobs j
     → (low ≤ j.id) × (job_with j.id jobs ≡ Some j) × (j.id < next)
 job_found_above low next [] j h (n, less, is) = absurd (omega arith)
-job_found_above low next (k ∷ jobs) j h (zero, less, is) =
-    let same : k ≡ j = is in
-    let up = ids_up (suc k.id) next jobs h.1 in
-    rw (← same) (h.0, rw (eq-eqb k.id k.id refl) refl, omega arith)
+job_found_above low next (k ∷ jobs) j h (zero, less, is) = grind (arith, ids_up)
 job_found_above low next (k ∷ jobs) j h (suc n, less, is) =
     let rest = job_found_above (suc k.id) next jobs j h.1 (n, omega arith, is) in
-    let other : (k.id == j.id) ≡ false = false_from_ne_true (k.id == j.id) (λ t. let at = eqb-true k.id j.id t in absurd (omega arith)) in
-    (let a = h.0 in omega arith, rw other rest.1, rest.2)
+    grind arith
 
 -- each job of the list is found by its id
 pub job_found : (low next : ℕ) (jobs : List Job) (j : Job) → AreIdsWithin low jobs next → Contains jobs j
@@ -41,8 +36,7 @@ job_found low next jobs j h i = let f = job_found_above low next jobs j h i in (
 pub job_in_rest : (removed id : ℕ) (jobs : List Job)
     → job_with id (filter (λ k. not (k.id == removed)) jobs) ≡ cond (id == removed) None (job_with id jobs)
 job_in_rest removed id [] = grind (arith, common_steps, cases_Bool)
-job_in_rest removed id (j ∷ jobs) =
-    search (rules, cases_Bool, false_from_ne_true, eqb-true, both_ways, eq-eqb, job_in_rest removed id jobs)
+job_in_rest removed id (j ∷ jobs) = grind (arith, cases_Bool, eqb-true, both_ways, eq-eqb, job_in_rest removed id jobs)
 
 -- one more job at the end
 pub job_in_more : (id : ℕ) (jobs : List Job) (j : Job) → (j.id == id) ≡ false → job_with id (jobs ++ j ∷ []) ≡ job_with id jobs
@@ -53,5 +47,4 @@ pub job_at_end : (low : ℕ) (jobs : List Job) (j : Job) → AreIdsWithin low jo
 job_at_end low [] j h = rw (eq-eqb j.id j.id refl) refl
 job_at_end low (k ∷ jobs) j h =
     let found = job_found low j.id (k ∷ jobs) k h (contains_head k jobs) in
-    let other : (k.id == j.id) ≡ false = false_from_ne_true (k.id == j.id) (λ t. let is = eqb-true k.id j.id t in absurd (omega arith)) in
-    rw other (job_at_end (suc k.id) jobs j h.1)
+    grind (arith, job_at_end (suc k.id) jobs j h.1)

@@ -86,13 +86,10 @@ any-jobs : (p : List ℕ → Bool) (jobs : List Job) → list_any p (map (λ j. 
 any-jobs p [] = refl
 any-jobs p (j ∷ jobs) = ap (λ b. p j.tube || b) (any-jobs p jobs)
 
-seated : (name : List ℕ) (s : SeatRecord) → list_any (is_same_name name) (seated_tubes s) ≡ is_seated_at name s
-seated name s = grind (arith, common_steps)
-
 any-seats : (name : List ℕ) (seats : List SeatRecord)
     → list_any (is_same_name name) (flat_map seated_tubes seats) ≡ list_any (is_seated_at name) seats
 any-seats name [] = refl
-any-seats name (s ∷ seats) = grind (arith, common_steps, seated, any-seats name seats)
+any-seats name (s ∷ seats) = grind (arith, common_steps, any-seats name seats)
 
 -- a tube is listed if it exists
 pub listed : (name : List ℕ) (m : Machine) → list_any (is_same_name name) (tubes m) ≡ is_tube name m

@@ -17,19 +17,12 @@ less_is a b h = grind (arith, nat_tests)
 more_is : (a b : ℕ) → b < a → nat_cmp a b ≡ Greater
 more_is a b h = grind (arith, nat_tests)
 
-same_is : (a : ℕ) → nat_cmp a a ≡ Equal
-same_is a = grind (arith, nat_tests)
-
--- the same number added to both
-both_more : (k x y : ℕ) → nat_cmp (k + x) (k + y) ≡ nat_cmp x y
-both_more k x y = grind (arith, common_steps, cases_order, same_is, less_is, more_is)
-
 one_more_times : (a b p : ℕ) → a < b → a * p + p ≤ b * p
 one_more_times a b p h = grind (arith, common_steps, mul-le)
 
 -- The leading digit decides the order of two numbers; if it is equal, the rest does.
 digit : (p a b x y : ℕ) → x < p → y < p → nat_cmp (a * p + x) (b * p + y) ≡ ordering_then (nat_cmp a b) (nat_cmp x y)
-digit p a b x y small others = grind (arith, common_steps, cases_order, both_more, same_is, less_is, one_more_times, more_is)
+digit p a b x y small others = grind (arith, common_steps, cases_order, less_is, one_more_times, more_is)
 
 -- eight digits, one after another
 abbrev worth_of : ℕ → ℕ → ℕ → ℕ → ℕ → ℕ → ℕ → ℕ → ℕ
@@ -45,16 +38,13 @@ digits : (a b c d e f g h i j k l m n o p : ℕ) → a < 256 → b < 256 → c <
     (i ∷ j ∷ k ∷ l ∷ m ∷ n ∷ o ∷ p ∷ [])
 digits a b c d e f g h i j k l m n o p sa sb sc sd se sf sg sh si sj sk sl sm sn so sp = grind (arith, common_steps, cases_Bool, digit)
 
-then_assoc : (p q r : Ordering) → ordering_then p (ordering_then q r) ≡ ordering_then (ordering_then p q) r
-then_assoc p q r = grind (arith, common_steps, cases_order)
-
 -- two lists that begin with equally many elements
 seam : (xs ys rest others : List ℕ) → length xs ≡ length ys
     → slice_cmp nat_cmp (xs ++ rest) (ys ++ others) ≡ ordering_then (slice_cmp nat_cmp xs ys) (slice_cmp nat_cmp rest others)
 seam [] [] rest others e = refl
 seam [] (y ∷ ys) rest others e = absurd (omega arith)
 seam (x ∷ xs) [] rest others e = absurd (omega arith)
-seam (x ∷ xs) (y ∷ ys) rest others e = grind (arith, common_steps, then_assoc, seam xs ys rest others (omega arith))
+seam (x ∷ xs) (y ∷ ys) rest others e = grind (arith, common_steps, seam xs ys rest others (omega arith))
 
 -- the order of two lists: by their first eight bytes as numbers, and if these are equal, by the
 -- rest
@@ -71,17 +61,13 @@ by_words a b c d e f g h i j k l m n o p rest others sa sb sc sd se sf sg sh si 
     ∙ ap (nat_cmp (from_be_bytes w64 (a ∷ b ∷ c ∷ d ∷ e ∷ f ∷ g ∷ h ∷ []))) (sym (word_is i j k l m n o p))
     )
 
-words_same : (w v : ℕ) (o : Ordering) → w ≡ v → ordering_then (nat_cmp w v) o ≡ o
-words_same w v o e = ap (λ r. ordering_then r o) (ap (nat_cmp w) (sym e) ∙ same_is w)
-
-words_differ : (w v : ℕ) (o : Ordering) → (w ≡ v → ⊥) → ordering_then (nat_cmp w v) o ≡ nat_cmp w v
-words_differ w v o apart = grind (arith, common_steps, cases_order, less_is, more_is)
+pub words_same : (w v : ℕ) (o : Ordering) → w ≡ v → ordering_then (nat_cmp w v) o ≡ o
+words_same w v o e = grind arith
 
 -- the first eight bytes of a list, and the rest
 front_8 : (xs : List ℕ) → 8 ≤ length xs → xs ≡ get_or xs 0 0 ∷ get_or xs 1 0 ∷ get_or xs 2 0 ∷ get_or xs 3 0 ∷ get_or xs 4 0 ∷ get_or xs 5 0
     ∷ get_or xs 6 0 ∷ get_or xs 7 0 ∷ drop 8 xs
-front_8 (a ∷ b ∷ c ∷ d ∷ f ∷ g ∷ h ∷ i ∷ rest) e = refl
-front_8 xs e = absurd (omega arith)
+front_8 xs h1 = grind arith
 
 abbrev front_of : List ℕ → List ℕ
 front_of xs = get_or xs 0 0 ∷ get_or xs 1 0 ∷ get_or xs 2 0 ∷ get_or xs 3 0 ∷ get_or xs 4 0 ∷ get_or xs 5 0 ∷ get_or xs 6 0
@@ -106,17 +92,12 @@ module _ (xs ys : List ℕ) (long : 8 ≤ length xs) (other_long : 8 ≤ length 
       (other_small 0) (other_small 1) (other_small 2) (other_small 3) (other_small 4) (other_small 5) (other_small 6) (other_small 7)
 
   module _ (w v : ℕ) (r : Ordering) (word : w ≡ word_of xs) (other : v ≡ word_of ys) where
-    words : slice_cmp nat_cmp xs ys ≡ ordering_then (nat_cmp w v) (slice_cmp nat_cmp (drop 8 xs) (drop 8 ys))
+    pub words : slice_cmp nat_cmp xs ys ≡ ordering_then (nat_cmp w v) (slice_cmp nat_cmp (drop 8 xs) (drop 8 ys))
     words = grind (arith, common_steps, split)
-
-    -- if the words are equal, the rest decides,
-    pub rest_decides : w ≡ v → (more others : List ℕ) → more ≡ drop 8 xs → others ≡ drop 8 ys → r ≡ slice_cmp nat_cmp more others
-        → r ≡ slice_cmp nat_cmp xs ys
-    rest_decides same more others after other_after rest = grind (arith, common_steps, words_same, words)
 
     -- and otherwise they do
     pub words_decide : (w ≡ v → ⊥) → r ≡ nat_cmp w v → r ≡ slice_cmp nat_cmp xs ys
-    words_decide apart is = is ∙ sym (words_differ w v (slice_cmp nat_cmp (drop 8 xs) (drop 8 ys)) apart) ∙ sym words
+    words_decide apart is = grind (arith, words)
 
 -- Zeros after two names do not change their order, since no byte of a name is 0.
 zeros : (n : ℕ) → slice_cmp nat_cmp (replicate n 0) (replicate n 0) ≡ Equal
@@ -124,8 +105,7 @@ zeros zero = refl
 zeros (suc n) = zeros n
 
 byte_pos : (b : ℕ) → name_byte b ≡ true → 0 < b
-byte_pos zero e = absurd cc
-byte_pos (suc b) e = omega arith
+byte_pos b h1 = grind (arith, common_steps)
 
 padded : (m n : ℕ) (a b : List ℕ) → length a + m ≡ length b + n → list_all name_byte a ≡ true → list_all name_byte b ≡ true
     → slice_cmp nat_cmp (a ++ replicate m 0) (b ++ replicate n 0) ≡ slice_cmp nat_cmp a b
@@ -140,23 +120,17 @@ padded m n (x ∷ a) (y ∷ b) e p q = ap (ordering_then (nat_cmp x y))
 
 -- the front of the array of a name
 front_is : (name : List ℕ) (k : ℕ) → length name ≤ k → k ≤ 200 → take k (filled_up name) ≡ name ++ replicate (k - length name) 0
-front_is name k long fits =
-    ap (λ i. take i (filled_up name)) (let whole : k ≡ length name + (k - length name) = omega arith in whole)
-    ∙ take-append-add name (replicate (200 - length name) 0) (k - length name)
-    ∙ ap (λ r. name ++ r) (take-replicate (k - length name) (200 - length name) 0 (omega arith))
-
-bytes_of : (name : List ℕ) → is_tube_name name ≡ true → list_all name_byte name ≡ true
-bytes_of name is = grind (arith, common_steps, and_parts)
+front_is name k long fits = grind (arith, take-replicate, take-append-add name (replicate (200 - length name) 0) (k - length name))
 
 -- The arrays of two names are in the order of the names,
 pub wholes_compare : (a b bytes others : List ℕ) → bytes ≡ filled_up a → others ≡ filled_up b → is_tube_name a ≡ true
     → is_tube_name b ≡ true → length a ≤ 200 → length b ≤ 200
     → slice_cmp nat_cmp bytes others ≡ slice_cmp nat_cmp a b
-wholes_compare a b bytes others is other_is named other_named long other_long = grind (arith, common_steps, padded, bytes_of)
+wholes_compare a b bytes others is other_is named other_named long other_long = grind (arith, common_steps, padded, and_parts)
 
 -- and so are their fronts, as far as both names go.
 pub fronts_compare : (a b bytes others : List ℕ) (k : ℕ) → bytes ≡ filled_up a → others ≡ filled_up b → is_tube_name a ≡ true
     → is_tube_name b ≡ true → length a ≤ k → length b ≤ k → k ≤ 200
     → slice_cmp nat_cmp (take k bytes) (take k others) ≡ slice_cmp nat_cmp a b
 fronts_compare a b bytes others k is other_is named other_named long other_long fits =
-    grind (arith, common_steps, front_is, padded, bytes_of)
+    grind (arith, common_steps, front_is, padded, and_parts)

@@ -1,7 +1,7 @@
 -- Before the next due moment a tick changes nothing but the moment.
 use Rattle.std.proofs.Common.{◌&&◌, ◌++◌, ◌<◌, ◌||◌, ◌∙◌, ◌∷◌, ◌≡◌, List, None, Option}
 use Rattle.std.proofs.Common.{[], ℕ, ap, arith, false, inl, inr, refl, true}
-use Rattle.std.proofs.lemmas.Bool.{and_from, cases_Bool, eq-eqb, le-leb, leb-true, lt-leb, or_parts}
+use Rattle.std.proofs.lemmas.Bool.{and_from, cases_Bool, eq-eqb, le-leb, leb-true, or_parts}
 use Rattle.std.proofs.{lemmas.Grind.common_steps, Math.Nat.min-eq_left}
 use Rattle.std.specs.{List.{AllByRecursion as All, Contains}, Prelude.{◌==◌, IsTrue, count_by, flat_map, nat_lt}}
 use Rattle.bq_job.specs.machine.{GivenAnswer, IsStep, Machine.Machine, Memory, Outcome, SeatRecord, Serves, Wait, acted}
@@ -9,7 +9,7 @@ use Rattle.bq_job.specs.machine.{addressed, after_timers, at_moment, ends_waitin
 use Rattle.bq_job.specs.machine.{is_deadline_soon, is_expired, is_possible, is_timed_out, is_until_over}
 use Rattle.bq_job.specs.machine.{is_wait_before, is_waiting, is_waiting_at, next_end}
 use Rattle.bq_job.specs.beside.{IsLawful, dues, dues_of_pause, dues_of_state, dues_of_wait, earlier, earliest, is_before}
-use Rattle.bq_job.specs.{beside.next_due, Types.JobState}
+use Rattle.bq_job.specs.{beside.next_due}
 use Rattle.bq_job.specs.declared.step.Step.TheVariants as steps
 use Rattle.bq_job.proofs.ListLemmas.{all_at, all_from_members, all_of_flat_map, all_parts, all_weaker}
 use Rattle.bq_job.proofs.ListLemmas.{count_all_not, list_any_not, list_any_with, map_all_same, none_pass}
@@ -28,9 +28,6 @@ before_all moment [] h = tt
 before_all moment (due ∷ others) h = let both = before_both moment due (earliest others) h in (both.0, before_all moment others both.1)
 
 module _ (m : Machine) (now : ℕ) where
-  not_expired : (state : JobState) → All (IsLater now) (dues_of_state m state) → is_expired now state ≡ false
-  not_expired state h = grind (arith, common_steps, lt-leb)
-
   not_over : (o : Option Wait) → All (IsLater now) (dues_of_wait o) → is_until_over now o ≡ false
   not_over o h = grind (arith, common_steps)
 
@@ -63,7 +60,7 @@ module _ (m : Machine) (at : ℕ) (h : IsLawful m) (early : IsTrue (is_before (a
 
   timeouts_same : grown (count_by (λ j. is_expired now j.state) m.jobs) m.timeouts ≡ m.timeouts
   timeouts_same =
-      grind (arith, common_steps, count_all_not, all_weaker, not_expired, jobs_later, min-eq_left, booked_of_lawful)
+      grind (arith, common_steps, count_all_not, all_weaker, jobs_later, min-eq_left, booked_of_lawful)
 
   fired_same : after_timers (at_moment at m) ≡ at_moment at m
   fired_same = grind (arith, common_steps, map_all_same, all_weaker, jobs_later, tubes_later, timeouts_same)
@@ -93,10 +90,7 @@ module _ (m : Machine) (at : ℕ) (h : IsLawful m) (early : IsTrue (is_before (a
       ]
 
   no_wait_ends : next_end (at_moment at m) ≡ None
-  no_wait_ends =
-      first_of_none_passes (ends_waiting (at_moment at m)) is_wait_before m.seats
-      (list_any_not (ends_waiting (at_moment at m)) m.seats
-      (all_from_members (λ s. ends_waiting (at_moment at m) s ≡ false) m.seats wait_stays))
+  no_wait_ends = search (first_of_none_passes, list_any_not, all_from_members, wait_stays)
 
   serves_none : (first : Machine) (handed ended : List GivenAnswer) (last : Machine) → first ≡ at_moment at m
       → Serves first handed ended last → (handed ≡ []) × (ended ≡ []) × (last ≡ at_moment at m)

@@ -91,15 +91,13 @@ passes_turn seat seats s answer there waits stays =
     let others = changed_elsewhere seat s.number without_wait is_waiting seats in
     let connected = changed_quiet seat s.number without_wait (λ t. t.connected) seats (λ t. refl) (λ t. refl) in
     let ended = changed_quiet seat s.number without_wait (λ t. t.ended) seats (λ t. refl) (λ t. refl) in
-    let numbers = changed_numbers s.number without_wait seats (λ t. refl) in
-    grind (arith, common_steps, cases_Bool, eqb-true, list_any_with, and_from)
+    grind (arith, common_steps, changed_numbers, cases_Bool, eqb-true, and_from)
 
 -- the same if the turn is known by equations
 passes_turn_to : (seat : ℕ) (m next : Machine) (s : SeatRecord) (answer : Answer) (given : GivenAnswer) → Contains m.seats s
     → is_waiting s ≡ true → is_closed_answer answer ≡ false → given ≡ (s.number, answer)
     → next.seats ≡ changed s.number without_wait m.seats → Passes seat m.seats next.seats (given ∷ [])
-passes_turn_to seat m next s answer given there waits stays told is =
-    rw (is, told) (passes_turn seat m.seats s answer there waits stays)
+passes_turn_to seat m next s answer given there waits stays told is = grind (arith, passes_turn seat m.seats s answer there waits stays)
 
 passes_hand_out : (seat : ℕ) (m : Machine) (j : Job) (s : SeatRecord) (given : GivenAnswer) (next : Machine) → next_seat m j ≡ Some s
     → IsHandOut m j s given next → Passes seat m.seats next.seats (given ∷ [])
@@ -126,15 +124,7 @@ passes_wait_end seat m given next turn =
     (ap (λ (n : Machine). n.seats) e.next_is)
 
 passes : (seat : ℕ) → IsServing (λ m given n. Passes seat m.seats n.seats given)
-passes seat = record {
-  trace = record {
-    none = λ m. passes_itself seat m.seats;
-    joins = λ a b c xs ys f g. passes_then seat a.seats b.seats c.seats xs ys f g;
-  };
-  dispatch = passes_dispatch seat;
-  wait_end = passes_wait_end seat;
-  forgets = λ m. passes_itself seat m.seats;
-}
+passes seat = search (passes_itself, passes_then, passes_dispatch, passes_wait_end)
 
 -- dispatch and the ends of waits
 pub passes_serves : (seat : ℕ) (first : Machine) (handed ended : List GivenAnswer) (last : Machine) → Serves first handed ended last

@@ -8,7 +8,7 @@ use Rattle.bq_job.specs.machine.{GivenAnswer, Machine.Machine, Settings, new_mac
 use Rattle.bq_job.specs.promise.{AreAllGone, AreDoorsOwed, AreDoorsOwedSoFar, AreLinesOwed, ArePickedFrom, DoorSoFar, Entry}
 use Rattle.bq_job.specs.promise.{IsControlDone, IsControlSoFar, IsDoorOwedSoFar, IsHistoryOf, IsHistorySoFar, IsOutOwed, IsRun}
 use Rattle.bq_job.specs.promise.{LineHeard, LineOver, LineSeen, MayTellEnd, Run, answers_to, heard, is_gone, steps_at}
-use Rattle.bq_job.specs.{laws.LawsOfRuns.RunBegins, promise.moments_heard, Types.{Answer, Request, Step}}
+use Rattle.bq_job.specs.{laws.LawsOfRuns.RunBegins, Types.{Answer, Request, Step}}
 use Rattle.bq_job.specs.declared.step.Step.TheVariants as steps
 use Rattle.bq_job.proofs.{GivenLemmas.are_gone, JoinLemmas.{lines_served, seat_owed}, ListLemmas.{heads, none_in_parts}}
 use Rattle.bq_job.proofs.RunLemmas.{run_first, run_from, run_none}
@@ -19,16 +19,12 @@ asks_go_on : (asked : List Request) → list_any is_gone (map steps.Ask asked) �
 asks_go_on [] = refl
 asks_go_on (request ∷ asked) = asks_go_on asked
 
-end_goes_on : (line : LineHeard) (asked : List Request) (end_steps : List Step) → MayTellEnd line asked end_steps
-    → list_any is_gone end_steps ≡ false
-end_goes_on line asked end_steps h = grind (arith, common_steps)
-
 both_go_on : (xs ys : List Step) → list_any is_gone xs ≡ false → list_any is_gone ys ≡ false → list_any is_gone (xs ++ ys) ≡ false
 both_go_on xs ys h i = list_any-append is_gone xs ys ∙ or_from (list_any is_gone xs) (list_any is_gone ys) h i
 
 line_goes_on : (line : LineHeard) (asked : List Request) (end_steps : List Step) → MayTellEnd line asked end_steps
     → list_any is_gone (steps.Connect ∷ [] ++ map steps.Ask asked ++ end_steps ++ steps.Close ∷ []) ≡ false
-line_goes_on line asked end_steps h = grind (arith, common_steps, both_go_on, asks_go_on, end_goes_on)
+line_goes_on line asked end_steps h = grind (arith, common_steps, both_go_on, asks_go_on)
 
 lines_go_on : (size : ℕ) (lines : List LineOver) (own : List Step) (got : List Answer) → AreLinesOwed size lines own got
     → list_any is_gone own ≡ false
@@ -61,23 +57,12 @@ module _ (settings : Settings) (history : List Entry) (all : List GivenAnswer) (
   door_owed : (seat : ℕ) (door : DoorSoFar) → seat < settings.seats
       → (d : IsDoorOwedSoFar settings.max_job_size door (steps_at seat history) (answers_to seat all)) → are_gone d.current ≡ true
       → AreLinesOwed settings.max_job_size door.over d.own (answers_to seat all)
-  door_owed seat door within d gone =
-      seat_owed settings settings.max_job_size seat door.over d.own d.current d.got d.later history all last within runs d.taken_is
-      d.answers_are gone (lines_served settings.max_job_size door.over d.own d.got d.of_lines)
+  door_owed seat door within d gone = search (seat_owed, lines_served)
 
   pub idle_door_owed : (seat : ℕ) (door : DoorSoFar) → seat < settings.seats
       → IsDoorOwedSoFar settings.max_job_size door (steps_at seat history) (answers_to seat all) → door.out ≡ None
       → (own : List Step) × AreLinesOwed settings.max_job_size door.over own (answers_to seat all)
-  idle_door_owed seat door within d idle =
-      (d.own, door_owed seat door within d (is_idle door.out d.current d.later d.of_out idle))
-    where
-      is_idle : (out : Option LineSeen) (taken : List Step) (answers : List Answer) → IsOutOwed settings.max_job_size out taken answers
-          → out ≡ None → are_gone taken ≡ true
-      is_idle None taken answers h e = elim h [
-        | inl e ↦ ap are_gone e
-        | inr e ↦ ap are_gone e
-      ]
-      is_idle (Some line) taken answers h e = absurd cc
+  idle_door_owed seat door within d idle = grind (arith, door_owed)
 
   doors_final : (seat : ℕ) (doors : List DoorSoFar) → seat + length doors ≤ settings.seats
       → AreDoorsOwedSoFar settings.max_job_size seat doors history all → AreAllGone settings.seats history
@@ -136,8 +121,7 @@ record Cut (first : Machine) (early late : List Entry) (given : List GivenAnswer
 
 run_cut : (first last : Machine) (early late : List Entry) (given : List GivenAnswer) → Run first (early ++ late) given last
     → Cut first early late given last
-run_cut first last [] late given r =
-    record { now = []; later = given; machine = first; runs = run_none first; given_is = refl }
+run_cut first last [] late given r = grind (arith, run_none first)
 run_cut first last (e ∷ early) late given r =
     let b = run_first first last e (early ++ late) given r in
     let c = run_cut b.next last early late b.more b.rest in
@@ -160,15 +144,4 @@ picked_first (x ∷ xs) ys (moment ∷ moments) h = elim h [
 pub run_begins : (settings : Settings) (readings : List (Option ℕ)) (early late : List Entry) (given : List GivenAnswer) (last : Machine)
     → IsRun settings readings (early ++ late) given last → RunBegins settings readings early given
 run_begins settings readings early late given last r =
-    let c = run_cut (new_machine settings) last early late given r.runs in
-    record {
-      early_given = c.now;
-      later_given = c.later;
-      machine = c.machine;
-      run = record {
-        runs = c.runs;
-        timed = picked_first (map (λ (e : Entry). e.moment) early) (map (λ (e : Entry). e.moment) late) (moments_heard 0 readings)
-            (rw (map-append (λ (e : Entry). e.moment) early late) at r.timed);
-      };
-      given_is = c.given_is;
-    }
+    grind (arith, picked_first, map-append, run_cut (new_machine settings) last early late given r.runs)

@@ -1,11 +1,11 @@
 -- Undisturbed jobs of one tube and priority are handed out in the order of their puts.
-use Rattle.std.proofs.Common.{ℕ, ◌≡◌, ◌≤◌, ◌<◌, Bool, true, false, ◌||◌, cond, List, [], ◌∷◌}
+use Rattle.std.proofs.Common.{ℕ, ◌≡◌, ◌≤◌, ◌<◌, Bool, true, false, List, [], ◌∷◌}
 use Rattle.std.proofs.Common.{◌++◌, arith, refl, sym, ap, ◌∙◌, inl, inr, ◌⊎◌, Some}
 use Rattle.std.proofs.lemmas.Bool.{both_ways, cases_Bool, eq-eqb, eqb-true, or_from, or_parts}
-use Rattle.std.proofs.lemmas.{Grind.common_steps, List.{Elements.Contains-append_cases, Folds.list_any-append}}
+use Rattle.std.proofs.lemmas.{Grind.common_steps, List.{Elements.Contains-append_cases}}
 use Rattle.std.specs.{List.{AllByRecursion as All, Contains, list_any}, Prelude.{◌==◌}}
 use Rattle.bq_job.specs.{declared.job.Job.Job, laws.{Happening, Part, comes_first, disturbs, happenings, is_hand_out}}
-use Rattle.bq_job.specs.{laws.{is_put, put}, machine.{is_ready, job_with, reserved_by, Machine.Machine}}
+use Rattle.bq_job.specs.{laws.{is_put, put}, machine.{is_ready, job_with, Machine.Machine}}
 use Rattle.bq_job.proofs.JobMoves.{IsHandOutMove, IsPutMove, IsQuiet, Move, Moves, quiet, putting, handing, is_plain}
 use Rattle.bq_job.proofs.{ListLemmas.{all_at, none_in_parts}, LookupLemmas.{found_job, job_at_end}, SpentLemmas.{IsSpent, handed_lookup}}
 use Rattle.bq_job.proofs.SpentLemmas.{none_handed, none_more, put_lookup, spent_after}
@@ -81,10 +81,6 @@ pub data Stands (j : Job) (m : Machine) (more : List Happening) : Type 0 where
   waits : IsReadyAs j m → Stands j m more
   unborn : m.next_id ≤ j.id → Contains more (put j) → Stands j m more
 
-ready_mapped : (j : Job) (m n : Machine) (more : List Happening) (r : IsReadyAs j m) (id moment seat : ℕ) → n.next_id ≡ m.next_id
-    → job_with j.id n.jobs ≡ Some (cond (r.job.id == id) (reserved_by moment seat r.job) r.job) → Stands j n more
-ready_mapped j m n more r id moment seat next e = grind (arith, common_steps, cases_Bool)
-
 -- where it is after a move
 stands_after : (j : Job) (m n k : Machine) (happened : List Happening) (parts : List Part) → Move m happened n → Moves n parts k
     → j.delay ≡ 0 → list_any (disturbs j.id) happened ≡ false → Stands j m (happened ++ happenings parts) → Stands j n (happenings parts)
@@ -102,10 +98,9 @@ stands_after j m n k happened parts (putting p) moves now still (waits r) =
       tube = r.tube;
     })
 stands_after j m n k happened parts (handing h) moves now still (waits r) =
-    grind (arith, common_steps, ready_mapped, handed_lookup j.id m n happened h)
+    grind (arith, common_steps, handed_lookup j.id m n happened h)
 stands_after j m n k happened parts (quiet q) moves now still (unborn above i) = grind (arith, common_steps, unborn, put_behind)
-stands_after j m n k happened parts (handing h) moves now still (unborn above i) =
-    unborn (omega arith) (put_behind j m n happened (happenings parts) (inr h) i)
+stands_after j m n k happened parts (handing h) moves now still (unborn above i) = grind arith
 stands_after j m n k happened parts (putting p) moves now still (unborn above i) =
     elim (put_now_or_behind j m n happened (happenings parts) p i) [
       | inl e ↦ grind (arith, common_steps, job_at_end)
@@ -143,8 +138,7 @@ handed_in_order a b m n (p ∷ parts) moves now_a now_b pri tube less still_a st
       where
         behind : (f : Happening → Bool) → list_any f p.happened ≡ false → list_any f (p.happened ++ happenings parts) ≡ true
             → list_any f (happenings parts) ≡ true
-        behind f none all = let both : (list_any f p.happened || list_any f (happenings parts)) ≡ true = sym
-            (list_any-append f p.happened (happenings parts)) ∙ all in rw none at both
+        behind f none all = grind (arith, common_steps)
 
     of_second : (h : IsHandOutMove m p.happened p.machine) → h.job.id ≡ b.id → Stands a m (p.happened ++ happenings parts) → ⊥
     of_second h is (spent s) = both_ways (list_any (is_hand_out a.id) (p.happened ++ happenings parts))

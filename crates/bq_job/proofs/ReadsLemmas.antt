@@ -1,14 +1,11 @@
 -- Every text has one reading.
 use Rattle.std.proofs.Common.{◌≡◌, ℕ, zero, suc, ◌≤◌, Bool, true, false, List, [], ◌∷◌, ◌++◌, Option, Some, None}
-use Rattle.std.proofs.Common.{◌⊎◌, inl, inr, refl, sym, ap, ◌∙◌, arith, length, length-append, append_assoc, IsTrue}
-use Rattle.std.proofs.lemmas.{Bool.cases_Bool, Grind.common_steps}
+use Rattle.std.proofs.Common.{◌⊎◌, inl, inr, refl, ap, arith, length, length-append, append_assoc, IsTrue}
+use Rattle.std.proofs.lemmas.{Grind.common_steps}
 use Rattle.bq_job.specs.reading.Reading.{Reads, AreUnits, IsUnit, BeginsNoUnit, is_quit, quits_last, ends_by_quit}
 use Rattle.bq_job.specs.beside.{AreSameRequests, IsSameRequest, first_unit, onto_reading, reading, reading_within}
 use Rattle.bq_job.specs.declared.request.Request.{Request}
-use Rattle.bq_job.proofs.UnitLemmas.{first_unit-append, first_unit-unit, no_first_unit, some_pair}
-
-none_read : (n : ℕ) (size : ℕ) (text : List ℕ) → first_unit size text ≡ None → reading_within (suc n) size text ≡ ([], text)
-none_read n size text e = rw (e, reading_within) refl
+use Rattle.bq_job.proofs.UnitLemmas.{first_unit-append, first_unit-unit, no_first_unit}
 
 quit_read : (n : ℕ) (size : ℕ) (text after : List ℕ) (r : Request) → first_unit size text ≡ Some (r, after) → is_quit r ≡ true
     → reading_within (suc n) size text ≡ (r ∷ [], after)
@@ -26,13 +23,7 @@ Reads-quit size text unit after r is u q = grind (arith, common_steps)
 -- a unit in front of a text that is read
 pub Reads-onto : (size : ℕ) (text unit after rest : List ℕ) (r : Request) (requests : List Request)
     → text ≡ unit ++ after → IsUnit size unit r → is_quit r ≡ false → Reads size after requests rest → Reads size text (r ∷ requests) rest
-Reads-onto size text unit after rest r requests is u q more = record {
-  units = unit ++ more.units;
-  text_is = rw (is, more.text_is) (sym (append_assoc unit more.units rest));
-  are_units = (unit, more.units, refl, u, more.are_units);
-  last_quits = let last = more.last_quits in grind (arith, common_steps);
-  ended = let ended = more.ended in grind (arith, common_steps);
-}
+Reads-onto size text unit after rest r requests is u q more = grind (arith, append_assoc unit more.units rest)
 
 reading_within-Reads : (n : ℕ) (size : ℕ) (text : List ℕ) → length text ≤ n
     → Reads size text (reading_within n size text).0 (reading_within n size text).1
@@ -62,8 +53,7 @@ reading_within-Reads (suc n) size text short = go (reading_within-Reads n size) 
     go : ((after : List ℕ) → length after ≤ n → Reads size after (reading_within n size after).0 (reading_within n size after).1)
         → (o : Option (Request × List ℕ)) → first_unit size text ≡ o
         → Reads size text (reading_within (suc n) size text).0 (reading_within (suc n) size text).1
-    go next None e = rw (none_read n size text e)
-        (record { units = []; text_is = refl; are_units = refl; last_quits = refl; ended = inr (no_first_unit size text e) })
+    go next None e = grind (arith, no_first_unit)
     go next (Some (r, after)) e = read_on next after r e (is_quit r) refl
 
 pub reading-Reads : (size : ℕ) (text : List ℕ) → Reads size text (reading size text).0 (reading size text).1
@@ -82,9 +72,7 @@ IsEnded size requests rest = IsTrue (ends_by_quit requests) ⊎ BeginsNoUnit siz
 first_same : (size : ℕ) (r s : Request) (rs ss : List Request) (u v rest other : List ℕ) → u ++ rest ≡ v ++ other
     → (a : AreUnits size u (r ∷ rs)) (b : AreUnits size v (s ∷ ss)) → (a.1 ++ rest ≡ b.1 ++ other) × IsSameRequest r s
 first_same size r s rs ss u v rest other e a b =
-    let whole : a.0 ++ (a.1 ++ rest) ≡ b.0 ++ (b.1 ++ other) = grind (arith, common_steps, append_assoc) in
-    let one = first_unit-append size a.0 (a.1 ++ rest) r a.3 in let two = first_unit-append size b.0 (b.1 ++ other) s b.3 in
-    grind (arith, common_steps, some_pair)
+    grind (arith, append_assoc, first_unit-append size a.0 (a.1 ++ rest) r a.3, first_unit-append size b.0 (b.1 ++ other) s b.3)
 
 units_unique : (size : ℕ) (firsts seconds : List Request) (u v rest other : List ℕ) → u ++ rest ≡ v ++ other
     → AreUnits size u firsts → AreUnits size v seconds → IsTrue (quits_last firsts) → IsTrue (quits_last seconds)
@@ -99,20 +87,16 @@ units_unique size (r ∷ []) (s ∷ []) u v rest other e a b fq sq fe se =
     (cc, (same.1, tt))
 units_unique size (r ∷ []) (s ∷ t ∷ ss) u v rest other e a b fq sq (inl quit) se =
     let same = first_same size r s [] (t ∷ ss) u v rest other e a b in
-    let is_quit_s : is_quit s ≡ true = sym (grind (arith, common_steps, cases_Bool)) ∙ quit in
-    cc
+    grind arith
 units_unique size (r ∷ []) (s ∷ t ∷ ss) u v rest other e a b fq sq (inr none) se =
     let same = first_same size r s [] (t ∷ ss) u v rest other e a b in
-    let rest_is : rest ≡ b.1 ++ other = cc in
-    absurd (grind (arith, common_steps, append_assoc))
+    grind (arith, common_steps)
 units_unique size (r ∷ t ∷ rs) (s ∷ []) u v rest other e a b fq sq fe (inl quit) =
     let same = first_same size r s (t ∷ rs) [] u v rest other e a b in
-    let is_quit_r : is_quit r ≡ true = (grind (arith, common_steps, cases_Bool)) ∙ quit in
-    cc
+    grind arith
 units_unique size (r ∷ t ∷ rs) (s ∷ []) u v rest other e a b fq sq fe (inr none) =
     let same = first_same size r s (t ∷ rs) [] u v rest other e a b in
-    let rest_is : other ≡ a.1 ++ rest = cc in
-    absurd (grind (arith, common_steps, append_assoc))
+    grind (arith, common_steps)
 units_unique size (r ∷ r2 ∷ rs) (s ∷ s2 ∷ ss) u v rest other e a b fq sq fe se =
     let same = first_same size r s (r2 ∷ rs) (s2 ∷ ss) u v rest other e a b in
     let more = units_unique size (r2 ∷ rs) (s2 ∷ ss) a.1 b.1 rest other same.0 a.4 b.4
@@ -121,6 +105,4 @@ units_unique size (r ∷ r2 ∷ rs) (s ∷ s2 ∷ ss) u v rest other e a b fq sq
 
 pub Reads-unique : (size : ℕ) (text : List ℕ) (firsts seconds : List Request) (rest other : List ℕ)
     → Reads size text firsts rest → Reads size text seconds other → (rest ≡ other) × AreSameRequests firsts seconds
-Reads-unique size text firsts seconds rest other a b =
-    units_unique size firsts seconds a.units b.units rest other
-    (sym a.text_is ∙ b.text_is) a.are_units b.are_units a.last_quits b.last_quits a.ended b.ended
+Reads-unique size text firsts seconds rest other a b = grind (arith, units_unique size firsts seconds a.units b.units rest other)

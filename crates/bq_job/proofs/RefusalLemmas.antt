@@ -1,6 +1,6 @@
 -- A refused command changes nothing.
-use Rattle.std.proofs.Common.{◌∙◌, ◌≡◌, IsTrue, List, Some, ℕ, ap, append-nil, arith, false, refl, subst}
-use Rattle.std.proofs.{Common.true, lemmas.{Bool.{both_ways, cases_Bool}, Grind.common_steps}}
+use Rattle.std.proofs.Common.{◌∙◌, ◌≡◌, IsTrue, List, Some, ℕ, ap, append-nil, arith, refl}
+use Rattle.std.proofs.{Common.true, lemmas.{Bool.{cases_Bool}, Grind.common_steps}}
 use Rattle.bq_job.specs.machine.{Effect, GivenAnswer, IsStep, Machine.Machine, Memory, Outcome, SeatRecord, acted, after_timers}
 use Rattle.bq_job.specs.{beside.{ChangesNothing, IsLawful, is_refusal}, machine.{at_moment, forgetting, silent}}
 use Rattle.bq_job.specs.{machine.telling, promise.parts_of, Types.{Answer, Request, Step}}
@@ -30,9 +30,7 @@ honest_acted memory m seat what = each_acted m seat (λ what e. Honest m e) (rec
   connects = λ s is. unanswered m _;
   asks = λ request s is c w. honest_kind request m s (kind_of request m s);
   ends = λ s is. unanswered m _;
-  closes =
-      λ s is. (λ a e r. absurd (let same : answers.Closed ≡ a = (cc) in
-      both_ways (is_refusal a) (subst (λ x. is_refusal x ≡ false) same refl) r));
+  closes = grind arith;
   drains = unanswered m _;
 }) (λ what. unchanged m answers.OutOfMemory) memory what
 

@@ -1,8 +1,8 @@
 -- Replays: how one begins and goes on, and that a journal has at most one.
-use Rattle.std.proofs.Common.{◌++◌, ◌∙◌, ◌∷◌, ◌≡◌, List, [], ap, append-nil, arith, flat_map, map, refl, sym}
-use Rattle.std.proofs.lemmas.{Grind.{common_steps, flat_map-append}, List.map-append}
+use Rattle.std.proofs.Common.{◌++◌, ◌∙◌, ◌∷◌, ◌≡◌, List, [], ap, arith, flat_map, map, refl, sym}
+use Rattle.std.proofs.lemmas.{Grind.{common_steps}}
 use Rattle.bq_job.specs.{beside.{entry_of, outcome_of, Replay.Replay}, declared.journal.Entry.Entry as JournalEntry}
-use Rattle.bq_job.specs.{machine.{GivenAnswer, IsStep, Outcome, Settings, new_machine, Machine.Machine}, promise.Entry}
+use Rattle.bq_job.specs.{machine.{GivenAnswer, IsStep, Settings, new_machine, Machine.Machine}}
 use Rattle.bq_job.specs.promise.{GoesBy, IsTransition, Transition}
 use Rattle.bq_job.proofs.{ListLemmas.heads, OutcomeLemmas.one_result, RunLemmas.taken_as}
 
@@ -24,18 +24,9 @@ replay_more settings journal entry given more next last r step =
     record {
       taken = r.taken ++ t ∷ [];
       goes = goes_more (new_machine settings) next last r.taken t r.goes refl (record { step = step; parts_are = refl }) refl;
-      history_is =
-          map-append (λ (u : Transition). u.entry) r.taken (t ∷ [])
-          ∙ ap (λ (xs : List Entry). xs ++ entry_of entry ∷ []) r.history_is
-          ∙ sym (map-append entry_of journal (entry ∷ []));
-      outcomes_are =
-          map-append (λ (u : Transition). u.outcome) r.taken (t ∷ [])
-          ∙ ap (λ (xs : List Outcome). xs ++ outcome_of entry ∷ []) r.outcomes_are
-          ∙ sym (map-append outcome_of journal (entry ∷ []));
-      given_is =
-          flat_map-append (λ (u : Transition). u.given) r.taken (t ∷ [])
-          ∙ ap (λ (xs : List GivenAnswer). xs ++ (more ++ [])) r.given_is
-          ∙ ap (λ (xs : List GivenAnswer). given ++ xs) (append-nil more);
+      history_is = grind (arith, common_steps);
+      outcomes_are = grind (arith, common_steps);
+      given_is = grind (arith, common_steps);
     }
 
 -- Two runs from one model over one journal give the same answers and end in the same model.

@@ -31,11 +31,6 @@ replies_telling : {b : Bool} (seat : ℕ) (m n : Machine) (answer : Answer) → 
     → connected_in seat n.seats ≡ connected_in seat m.seats → Replies seat 1 b m.seats (telling answer n)
 replies_telling seat m n answer stays w c = record { count = rw w refl; at_once = λ e. w; unclosed = rw stays refl; connected = c }
 
--- the same model with other jobs
-replies_jobs : {b : Bool} (seat : ℕ) (m n : Machine) (answer : Answer) → waits_in seat m.seats ≡ false → is_closed_answer answer ≡ false
-    → n.seats ≡ m.seats → Replies seat 1 b m.seats (telling answer n)
-replies_jobs seat m n answer w stays same = grind (arith, common_steps, replies_telling, waits_in, connected_in)
-
 -- A seat changes, and its client waits as before.
 replies_seat : {b : Bool} (seat number : ℕ) (f : SeatRecord → SeatRecord) (m : Machine) (answer : Answer) → waits_in seat m.seats ≡ false
     → is_closed_answer answer ≡ false → ((s : SeatRecord) → (f s).number ≡ s.number) → ((s : SeatRecord) → (f s).connected ≡ s.connected)
@@ -64,15 +59,15 @@ replies_reserve until m s there = record {
 replies_kind : (request : Request) (m : Machine) (s : SeatRecord) {e : Effect} → Kind m s request e → Contains m.seats s
     → waits_in s.number m.seats ≡ false → Replies s.number (answers_wanted request) (is_waiting_request request) m.seats e
 replies_kind request m s (passes none) there w = record { count = rw (w, none) refl; at_once = λ e. w; unclosed = refl; connected = refl }
-replies_kind request m s (tells answer one common unclosed) there w = grind (arith, common_steps, answered, replies_jobs, unclosed)
+replies_kind request m s (tells answer one common unclosed) there w = grind (arith, common_steps, answered, unclosed)
 replies_kind request m s (waits until one waiting) there w = rw (one, waiting) (replies_reserve until m s there)
-replies_kind request m s (adds pri delay ttr body one accepts free) there w = grind (arith, common_steps, answered, replies_jobs)
-replies_kind request m s (deletes id j asks found free) there w = grind (arith, common_steps, answered, replies_jobs)
-replies_kind request m s (changes_jobs answer f burials says changes) there w = grind (arith, common_steps, answered, replies_jobs)
+replies_kind request m s (adds pri delay ttr body one accepts free) there w = grind (arith, common_steps, answered)
+replies_kind request m s (deletes id j asks found free) there w = grind (arith, common_steps, answered)
+replies_kind request m s (changes_jobs answer f burials says changes) there w = grind (arith, common_steps, answered)
 replies_kind request m s (changes_seat answer f says changes) there w =
     answered request says.wanted (replies_seat s.number s.number f m answer w says.unclosed changes.number changes.connected
     (λ t. ap is_some (changes.wait t)))
-replies_kind request m s (changes_tube tube seconds one) there w = grind (arith, common_steps, answered, replies_jobs)
+replies_kind request m s (changes_tube tube seconds one) there w = grind (arith, common_steps, answered)
 
 -- a connected client that doesn't wait makes a request
 pub replies_effect : (m : Machine) (seat : ℕ) (request : Request) (f : Found seat m.seats) → connected_in seat m.seats ≡ true
@@ -94,7 +89,7 @@ pub replies_acted : (memory : Memory) (m : Machine) (seat : ℕ) (request : Requ
     → IsTrue (is_possible memory m seat (steps.Ask request))
     → Replies seat (answers_wanted request) (is_waiting_request request) m.seats (effect m seat (steps.Ask request))
     → Replies seat (answers_wanted request) (is_waiting_request request) m.seats (acted memory m seat (steps.Ask request))
-replies_acted memory m seat request w p h = grind (arith, common_steps, and_parts, replies_jobs)
+replies_acted memory m seat request w p h = grind (arith, common_steps, and_parts)
 
 -- What a command at a seat leaves unchanged for the client of another seat.
 pub record Stays (client number : ℕ) (m : Machine) (e : Effect) : Type 0 where
@@ -104,12 +99,7 @@ pub record Stays (client number : ℕ) (m : Machine) (e : Effect) : Type 0 where
 
 stays_same : (client number : ℕ) (m : Machine) (e : Effect) → (e.machine).settings ≡ m.settings → (e.machine).seats ≡ m.seats
     → Stays client number m e
-stays_same client number m e same seats = record {
-  settings = same;
-  waits = λ d. ap (waits_in client) seats;
-  connected = λ d.
-      ap (connected_in client) seats;
-}
+stays_same client number m e same seats = grind arith
 
 stays_seat : (client number : ℕ) (f : SeatRecord → SeatRecord) (m : Machine) (e : Effect) → ((s : SeatRecord) → (f s).number ≡ s.number)
     → (e.machine).settings ≡ m.settings → (e.machine).seats ≡ changed number f m.seats → Stays client number m e

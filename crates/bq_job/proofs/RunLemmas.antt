@@ -64,9 +64,7 @@ run_first first last e history given (outcomes, r) = of_taken r.taken r.goes r.h
 
 pub run_append : (first next last : Machine) (history more : List Entry) (given later : List GivenAnswer) → Run first history given next
     → Run next more later last → Run first (history ++ more) (given ++ later) last
-run_append first next last [] more given later r s =
-    let ends = run_of_none first next given r in
-    rw ends.0 (rw ends.1 at s)
+run_append first next last [] more given later r s = grind (arith, run_of_none first next given r)
 run_append first next last (e ∷ history) more given later r s =
     let b = run_first first next e history given r in
     rw (b.given_is, append_assoc b.now b.more later)

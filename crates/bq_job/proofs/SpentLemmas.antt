@@ -18,12 +18,9 @@ IsNotFree (Some j) = is_reserved j.state ≡ true
 abbrev pub IsSpent : ℕ → Machine → Type 0
 IsSpent id m = (id < m.next_id) × IsNotFree (job_with id m.jobs)
 
-plain_hands_none : (id : ℕ) (h : Happening) → is_plain h ≡ true → is_hand_out id h ≡ false
-plain_hands_none id h e = grind (arith, common_steps, cases_Bool)
-
 pub none_handed : (id : ℕ) (happened : List Happening) → All (λ h. is_plain h ≡ true) happened → list_any (is_hand_out id) happened ≡ false
 none_handed id [] plain = refl
-none_handed id (h ∷ happened) plain = grind (arith, common_steps, or_from, plain_hands_none, none_handed id happened plain.1)
+none_handed id (h ∷ happened) plain = grind (arith, common_steps, or_from, none_handed id happened plain.1)
 
 -- lookup after a hand-out
 pub handed_lookup : (id : ℕ) (m n : Machine) (happened : List Happening) (h : IsHandOutMove m happened n)
@@ -41,8 +38,7 @@ spent_after id m n happened (quiet q) still spent = grind (arith, common_steps)
 spent_after id m n happened (putting p) still spent =
     let less = spent.0 in
     (omega arith, subst IsNotFree (sym (put_lookup id m n happened p less)) spent.1)
-spent_after id m n happened (handing h) still spent =
-    (omega arith, subst IsNotFree (sym (handed_lookup id m n happened h)) (grind (arith, common_steps, cases_Bool, cond_both)))
+spent_after id m n happened (handing h) still spent = grind (arith, handed_lookup id m n happened h)
 
 pub spent_not_handed : (id : ℕ) (m n : Machine) (happened : List Happening) → Move m happened n → IsSpent id m
     → list_any (is_hand_out id) happened ≡ false

@@ -1,12 +1,12 @@
 -- Each part of a step, as moves: timers, turns of dispatch, ends of waits, and the command's own effect.
 use Rattle.std.proofs.Common.{◌&&◌, ◌++◌, ◌∷◌, ◌≡◌, List, None, Option, Some, [], ℕ, ap, append-nil}
-use Rattle.std.proofs.Common.{arith, cond, false, inl, inr, map, not, refl, subst, sym, true}
+use Rattle.std.proofs.Common.{arith, cond, false, inl, inr, map, refl, subst, sym, true}
 use Rattle.std.proofs.lemmas.Bool.{cases_Bool, and_parts, and_from, or_left, or_right, both_ways, cond_both, eq-eqb}
 use Rattle.std.proofs.lemmas.Grind.{common_steps}
 use Rattle.std.specs.{List.{AllByRecursion as All, list_any}, Prelude.{◌==◌, option_map}}
 use Rattle.bq_job.specs.machine.{Chain, DispatchTurn, Dispatches, GivenAnswer, IsHandOut, Machine.Machine, SeatRecord}
-use Rattle.bq_job.specs.machine.{WaitEndTurn, acted, after_timers, at_moment, forgetting, is_due, is_expired, is_paused, is_ready}
-use Rattle.bq_job.specs.machine.{job_after_timers, job_with, next_job, next_seat, reserved_by, watches}
+use Rattle.bq_job.specs.machine.{WaitEndTurn, acted, after_timers, at_moment, forgetting, is_due, is_expired, is_ready}
+use Rattle.bq_job.specs.machine.{job_after_timers, job_with, next_job, next_seat, reserved_by}
 use Rattle.bq_job.specs.laws.{Happening, Part, changes, disturbs, expirations, hand_out, hand_outs, happenings, parts_in}
 use Rattle.bq_job.specs.{beside.{AreIdsWithin, IsLawful}, laws.parts_of_run, promise.{GoesBy, IsTransition, Parts}}
 use Rattle.bq_job.specs.{promise.{Transition, parts_of}, Types.Job}
@@ -85,8 +85,7 @@ hand_out_move m n j s given ids e f (inl h) =
         jobs = jobs;
         there = found.0;
         below = found.1;
-        ready = (and_parts (is_ready j) (watches j.tube s)
-            (and_parts (is_ready j && watches j.tube s) (not (is_paused j.tube m)) least.allowed).0).0;
+        ready = grind arith;
         least = λ k i ready tube. least.least k i (grind (arith, common_steps, and_parts, and_from));
       }),
       subst (λ l. AreIdsWithin 1 l n.next_id) (sym jobs)

@@ -1,6 +1,6 @@
 -- What holds of turns one after another, and of all that serves the clients, if it holds of each turn.
-use Rattle.std.proofs.Common.{◌++◌, ◌∙◌, ◌∷◌, ◌≡◌, List, [], append-nil, arith, length, refl, subst, sym}
-use Rattle.std.proofs.lemmas.{Grind.common_steps, List.length-map}
+use Rattle.std.proofs.Common.{◌++◌, ◌∷◌, ◌≡◌, List, [], append-nil, arith, length, subst, sym}
+use Rattle.std.proofs.lemmas.{Grind.common_steps}
 use Rattle.bq_job.specs.machine.{Chain, DispatchTurn, Dispatches, EndsWaits, GivenAnswer, Machine.Machine, Serves, WaitEndTurn, forgetting}
 
 -- A relation between a model, the answers that are given from there on, and the model after them.
@@ -26,16 +26,13 @@ pub record IsServing (So : Machine → List GivenAnswer → Machine → Type 0) 
 
 module _ {So : Machine → List GivenAnswer → Machine → Type 0} (s : IsServing So) where
   forgotten : (first end last : Machine) (given : List GivenAnswer) → So first given end → last ≡ forgetting end → So first given last
-  forgotten first end last given so is = subst (So first given) (sym is)
-      (rw (append-nil given) at (s.trace.joins first end (forgetting end) given [] so (s.forgets end)))
+  forgotten first end last given so is = grind (arith, append-nil given)
 
   pub of_dispatches : (first : Machine) (given : List GivenAnswer) (last : Machine) → Dispatches first given last → So first given last
-  of_dispatches first given last d =
-      forgotten first d.end last given (of_turns DispatchTurn s.trace s.dispatch first given d.end d.turns) d.forgets
+  of_dispatches first given last d = grind (arith, forgotten, of_turns)
 
   pub of_ends : (first : Machine) (given : List GivenAnswer) (last : Machine) → EndsWaits first given last → So first given last
-  of_ends first given last e =
-      forgotten first e.end last given (of_turns WaitEndTurn s.trace s.wait_end first given e.end e.turns) e.forgets
+  of_ends first given last e = grind (arith, forgotten, of_turns)
 
   pub of_serves : (first : Machine) (handed ended : List GivenAnswer) (last : Machine) → Serves first handed ended last
       → So first (handed ++ ended) last
@@ -49,16 +46,4 @@ pub record IsSteady (m n : Machine) : Type 0 where
   pub many : length n.jobs ≡ length m.jobs
 
 pub steady : IsServing (λ m given n. IsSteady m n)
-steady = record {
-  trace = record {
-    none = λ m. record { settings = refl; draining = refl; many = refl };
-    joins = λ a b c xs ys f g. record {
-      settings = g.settings ∙ f.settings;
-      draining = g.draining ∙ f.draining;
-      many = g.many ∙ f.many;
-    };
-  };
-  dispatch = λ m g n turn. grind (arith, common_steps, length-map);
-  wait_end = λ m g n turn. grind (arith, common_steps, length-map);
-  forgets = λ m. record { settings = refl; draining = refl; many = refl };
-}
+steady = grind (arith, common_steps)

@@ -1,5 +1,5 @@
 -- The tubes that a seat watches, at least one and none twice, after a watch and an ignore.
-use Rattle.std.proofs.lemmas.Bool.{cases_Bool, and_parts, and_from, both_ways, cond_both, false_from_ne_true, or_from, or_parts}
+use Rattle.std.proofs.lemmas.Bool.{and_parts, and_from, both_ways, cond_both, false_from_ne_true, or_from, or_parts}
 use Rattle.std.proofs.Common.{◌++◌, ◌∷◌, ◌≡◌, Bool, List, [], ℕ, arith, false, refl, sym, true}
 use Rattle.std.proofs.lemmas.{Bool.not-true, Grind.common_steps, List.Folds.list_any-append}
 use Rattle.std.specs.{Cmp.Lexicographic.bytes_decides, List.list_any, Prelude.filter}
@@ -23,15 +23,4 @@ watched_still tube s h = grind (arith, common_steps, and_parts, cond_both, and_f
 pub none_twice_filter : (p : List ℕ → Bool) (names : List (List ℕ)) → none_twice names ≡ true → none_twice (filter p names) ≡ true
 none_twice_filter p [] h = refl
 none_twice_filter p (name ∷ names) h =
-    grind (
-      arith,
-      common_steps,
-      and_parts,
-      list_any_not,
-      all_weaker,
-      all_of_filter,
-      none_pass,
-      not-true,
-      cases_Bool,
-      none_twice_filter p names,
-    )
+    grind (arith, and_parts, list_any_not, all_weaker, all_of_filter, none_pass, not-true, none_twice_filter p names)

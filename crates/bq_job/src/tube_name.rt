@@ -178,6 +178,7 @@ fn cmp_words(bytes: &[u8], others: &[u8]) -> Ordering
 // Compares two names up to the end of the longer one. It is not inlined, so that a lookup that
 // needs only the first eight bytes has their comparison in its own code.
 #[inline(never)]
+#[tactic(auto, using(std::proofs::lemmas::Grind::common_steps, crate::proofs::NameWords::fronts_compare))]
 fn cmp_whole(name: &TubeName, other: &TubeName) -> Ordering
     ensures { result ≡ slice_cmp nat_cmp name.now other.now }
 {

@@ -1,12 +1,11 @@
 -- The jobs by their ids.
-use Rattle.std.proofs.Common.{◌≡◌, ℕ, suc, true, false, cond, List, [], ◌∷◌, Some, None, map, arith, refl, sym, ap, ◌∙◌, subst, inl, inr}
+use Rattle.std.proofs.Common.{◌≡◌, ℕ, suc, true, false, cond, List, [], ◌∷◌, Some, None, map, arith, refl, ap, ◌∙◌, inl, inr}
 use Rattle.std.specs.Prelude.{◌==◌, nat_lt}
 use Rattle.std.specs.Cmp.{unsigned_tied}
 use Rattle.std.specs.Ordering.{is_eq, nat_cmp}
-use Rattle.std.specs.List.{AllByRecursion as All}
 use Rattle.std.specs.Map.{lookup, remove_entry, set_value}
 use Rattle.std.specs.BTreeMap.{is_at, insert_entry}
-use Rattle.std.proofs.lemmas.Bool.{cases_Bool, eqb-true}
+use Rattle.std.proofs.lemmas.Bool.{cases_Bool}
 use Rattle.std.proofs.lemmas.Bool.Decides.{nat_tests}
 use Rattle.bq_job.specs.declared.job.Job.{Job}
 use Rattle.bq_job.specs.machine.Changes.{job_with}
@@ -37,9 +36,7 @@ insert_by_id j (k ∷ jobs) free =
       | inr other ↦
           let rest : job_with j.id jobs ≡ None = rw other at free in
           elim (cases_Bool (nat_lt j.id k.id)) [
-            | inl before ↦
-                let after : nat_lt k.id j.id ≡ false = grind (arith, nat_tests) in
-                rw (before, after) refl
+            | inl before ↦ grind arith
             | inr e ↦
                 let apart : (j.id == k.id) ≡ false = grind (arith, nat_tests) in
                 let above : nat_lt k.id j.id ≡ true = grind (arith, nat_tests) in
@@ -52,10 +49,7 @@ pub remove_by_id : (low next id : ℕ) (jobs : List Job) → AreIdsWithin low jo
 remove_by_id low next id [] h = refl
 remove_by_id low next id (k ∷ jobs) h =
     elim (cases_Bool (k.id == id)) [
-      | inl out ↦
-          let at : k.id ≡ id = grind (arith, nat_tests) in
-          let rest : without id jobs ≡ jobs = subst (λ n. without n jobs ≡ jobs) at (without_first low next k jobs h) in
-          rw (is_eq_nat id k.id, out) (ap (map with_id) (sym rest))
+      | inl out ↦ grind (arith, without_first low next k jobs h)
       | inr kept ↦ rw (is_eq_nat id k.id, kept) (ap (λ es. with_id k ∷ es) (remove_by_id (suc k.id) next id jobs h.1))
     ]
 
@@ -66,14 +60,7 @@ pub set_by_id : (low next id : ℕ) (f : Job → Job) (j : Job) (jobs : List Job
 set_by_id low next id f j [] h found same = refl
 set_by_id low next id f j (k ∷ jobs) h found same =
     elim (cases_Bool (k.id == id)) [
-      | inl out ↦
-          let is : k ≡ j = (let e : Some k ≡ Some j = rw out at found in cc) in
-          let at : k.id ≡ id = eqb-true k.id id out in
-          let rest = none_changed id f jobs (subst (λ n. All (λ i. (i.id == n) ≡ false) jobs) at
-          (others_above k.id (suc k.id) next jobs (omega arith) h.1)) in
-          let own : (f j).id ≡ k.id = same ∙ sym at in
-          rw (is_eq_nat id k.id, out) (ap (λ n. (n, f j) ∷ map with_id jobs) (sym own) ∙ ap (λ z. with_id (f z) ∷ map with_id jobs) (sym is)
-          ∙ ap (λ ks. with_id (f k) ∷ map with_id ks) (sym rest))
+      | inl out ↦ grind (arith, none_changed, others_above)
       | inr kept ↦ rw (is_eq_nat id k.id, kept)
           (ap (λ es. with_id k ∷ es) (set_by_id (suc k.id) next id f j jobs h.1 (rw kept at found) same))
     ]

@@ -1,9 +1,10 @@
 -- Additions to and removals from lists of jobs in the order of their ids.
+use Rattle.std.proofs.lemmas.Grind.{common_steps}
 use Rattle.std.proofs.Common.{◌≡◌, ℕ, suc, ◌+◌, ◌<◌, ◌≤◌, Bool, true, false, cond, List, [], ◌∷◌}
-use Rattle.std.proofs.Common.{◌++◌, Some, None, map, length, arith, refl, sym, ap, ◌∙◌, subst, inl, inr}
+use Rattle.std.proofs.Common.{◌++◌, Some, None, map, length, arith, refl, ap, ◌∙◌, inl, inr}
 use Rattle.std.specs.Prelude.{◌==◌, nat_lt, count_by, if◌then◌else◌, not}
 use Rattle.std.specs.List.{AllByRecursion as All, Contains}
-use Rattle.std.proofs.lemmas.Bool.{cases_Bool, eqb-true}
+use Rattle.std.proofs.lemmas.Bool.{cases_Bool}
 use Rattle.std.proofs.lemmas.Bool.Decides.{nat_tests}
 use Rattle.std.proofs.lemmas.Cmp.{nat_eq_equiv}
 use Rattle.bq_job.specs.declared.job.Job.{Job}
@@ -29,11 +30,7 @@ low_below low next (j ∷ jobs) h = let i = low_below (suc j.id) next jobs h.1 i
 -- all ids are at least the lowest, and below the next one
 pub all_from_low : (low next : ℕ) (jobs : List Job) → AreIdsWithin low jobs next → All (λ j. low ≤ j.id) jobs
 all_from_low low next [] h = tt
-all_from_low low next (j ∷ jobs) h = (
-  h.0,
-  all_weaker (λ k. suc j.id ≤ k.id) (λ k. low ≤ k.id) jobs (λ k l. let g = h.0 in omega arith)
-      (all_from_low (suc j.id) next jobs h.1),
-)
+all_from_low low next (j ∷ jobs) h = grind (arith, all_weaker, all_from_low (suc j.id) next jobs h.1)
 
 pub all_below_next : (low next : ℕ) (jobs : List Job) → AreIdsWithin low jobs next → All (λ j. j.id < next) jobs
 all_below_next low next jobs h = all_from_members (λ j. j.id < next) jobs (λ j i. (job_found low next jobs j h i).1)
@@ -53,13 +50,10 @@ none_changed id f [] h = refl
 none_changed id f (j ∷ jobs) h = rw h.0 (ap (λ ks. j ∷ ks) (none_changed id f jobs h.1))
 
 pub others_above : (id low next : ℕ) (jobs : List Job) → id < low → AreIdsWithin low jobs next → All (λ j. (j.id == id) ≡ false) jobs
-others_above id low next jobs l h = all_weaker (λ j. low ≤ j.id) (λ j. (j.id == id) ≡ false) jobs (λ j m. grind (arith, nat_tests))
-    (all_from_low low next jobs h)
+others_above id low next jobs l h = grind (arith, all_weaker, all_from_low)
 
 pub next_is_free : NextIsFree
-next_is_free low next jobs h =
-    not_found next jobs (all_weaker (λ j. j.id < next) (λ j. (j.id == next) ≡ false) jobs (λ j m. grind (arith, nat_tests))
-    (all_below_next low next jobs h))
+next_is_free low next jobs h = grind (arith, not_found, all_weaker, all_below_next)
 
 -- a job that an id finds has this id
 pub found_id : (id : ℕ) (jobs : List Job) (j : Job) → job_with id jobs ≡ Some j → j.id ≡ id
@@ -82,9 +76,7 @@ chosen_has_its_id low next jobs passes before j h chosen = found_by_id low next 
 -- additions
 added_at_end : (jobs : List Job) (j : Job) → All (λ k. k.id < j.id) jobs → with_added j jobs ≡ jobs ++ j ∷ []
 added_at_end [] j h = refl
-added_at_end (k ∷ jobs) j h =
-    let before : nat_lt k.id j.id ≡ true = (let l = h.0 in grind (arith, nat_tests)) in
-    rw before (ap (λ ks. k ∷ ks) (added_at_end jobs j h.1))
+added_at_end (k ∷ jobs) j h = grind (arith, added_at_end jobs j h.1)
 
 pub adds_at_the_end : AddsAtTheEnd
 adds_at_the_end low jobs j h = added_at_end jobs j (all_below_next low j.id jobs h)
@@ -95,14 +87,7 @@ added_first j low next (k ∷ jobs) l h = let after : nat_lt k.id j.id ≡ false
 
 pub found_among_added : (q : ℕ) (j : Job) (jobs : List Job) → job_with q (with_added j jobs) ≡ cond (j.id == q) (Some j) (job_with q jobs)
 found_among_added q j [] = refl
-found_among_added q j (k ∷ jobs) =
-    elim (cases_Bool (nat_lt k.id j.id)) [
-      | inr after ↦ rw after refl
-      | inl before ↦ rw before (elim (cases_Bool (k.id == q)) [
-        | inl here ↦ let other : (j.id == q) ≡ false = grind (arith, nat_tests) in rw (here, other) refl
-        | inr there ↦ rw there (found_among_added q j jobs)
-      ])
-    ]
+found_among_added q j (k ∷ jobs) = grind (arith, found_among_added q j jobs)
 
 pub added_within : (low next : ℕ) (j : Job) (jobs : List Job) → low ≤ j.id → j.id < next → job_with j.id jobs ≡ None
     → AreIdsWithin low jobs next → AreIdsWithin low (with_added j jobs) next
@@ -120,11 +105,7 @@ added_within low next j (k ∷ jobs) l u free h =
 
 pub count_added : (p : Job → Bool) (j : Job) (jobs : List Job) → count_by p (with_added j jobs) ≡ cond (p j) 1 0 + count_by p jobs
 count_added p j [] = count_cons p j []
-count_added p j (k ∷ jobs) =
-    elim (cases_Bool (nat_lt k.id j.id)) [
-      | inr after ↦ rw after (count_cons p j (k ∷ jobs))
-      | inl before ↦ rw before (rw (count_cons p k (with_added j jobs), count_cons p k jobs) (omega (arith, count_added p j jobs)))
-    ]
+count_added p j (k ∷ jobs) = grind (arith, common_steps, count_added p j jobs)
 
 -- all jobs are counted by a test that all pass
 count_all : (jobs : List Job) → count_by (λ k. true) jobs ≡ length jobs
@@ -132,9 +113,7 @@ count_all [] = refl
 count_all (j ∷ jobs) = omega (arith, count_cons (λ k. true) j jobs, count_all jobs)
 
 pub length_added : (j : Job) (jobs : List Job) → length (with_added j jobs) ≡ suc (length jobs)
-length_added j jobs =
-    let added : count_by (λ k. true) (with_added j jobs) ≡ 1 + count_by (λ k. true) jobs = count_added (λ k. true) j jobs in
-    omega (arith, added, count_all (with_added j jobs), count_all jobs)
+length_added j jobs = grind (arith, count_added, count_all)
 
 -- removals
 pub found_without : (q id : ℕ) (jobs : List Job) → job_with q (without id jobs) ≡ cond (id == q) None (job_with q jobs)
@@ -152,12 +131,7 @@ pub count_without : (p : Job → Bool) (low next id : ℕ) (j : Job) (jobs : Lis
 count_without p low next id j [] h found = absurd cc
 count_without p low next id j (k ∷ jobs) h found =
     elim (cases_Bool (k.id == id)) [
-      | inl out ↦
-          let same : Some k ≡ Some j = rw out at found in
-          let is : k ≡ j = (cc) in
-          let at : k.id ≡ id = eqb-true k.id id out in
-          let rest : without id jobs ≡ jobs = subst (λ n. without n jobs ≡ jobs) at (without_first low next k jobs h) in
-          rw out (rw (rest, ← is) (sym (count_cons p k jobs)))
+      | inl out ↦ grind (arith, without_first low next k jobs h, count_cons p k jobs)
       | inr kept ↦
           let i = count_without p (suc k.id) next id j jobs h.1 (rw kept at found) in
           rw kept (rw (count_cons p k (without id jobs), count_cons p k jobs) (omega (arith, i)))
@@ -188,15 +162,7 @@ pub changed : (low next id : ℕ) (f : Job → Job) (j : Job) (jobs : List Job) 
 changed low next id f j [] h found same = absurd cc
 changed low next id f j (k ∷ jobs) h found same =
     elim (cases_Bool (k.id == id)) [
-      | inl out ↦
-          let is : k ≡ j = (let e : Some k ≡ Some j = rw out at found in cc) in
-          let at : k.id ≡ id = eqb-true k.id id out in
-          let others = subst (λ n. All (λ i. (i.id == n) ≡ false) jobs) at (others_above k.id (suc k.id) next jobs (omega arith) h.1) in
-          let rest = all_kept id jobs others in
-          let below : (f j).id < suc k.id = omega (arith, same, at) in
-          let left : with_added (f j) jobs ≡ f j ∷ jobs = added_first (f j) (suc k.id) next jobs below h.1 in
-          let right = none_changed id f jobs others in
-          rw (out, rest, right, left) (ap (λ z. f z ∷ jobs) (sym is))
+      | inl out ↦ grind (arith, others_above, all_kept, added_first, none_changed)
       | inr kept ↦
           let found_then : job_with id jobs ≡ Some j = rw kept at found in
           let above : nat_lt k.id (f j).id ≡ true = is_above k id next jobs j (f j) h.1 found_then same in
@@ -205,13 +171,7 @@ changed low next id f j (k ∷ jobs) h found same =
   where
     is_above : (k : Job) (id next : ℕ) (jobs : List Job) (j new : Job) → AreIdsWithin (suc k.id) jobs next → job_with id jobs ≡ Some j
         → new.id ≡ id → nat_lt k.id new.id ≡ true
-    is_above k id next jobs j new h found same =
-        elim (cases_Bool (nat_lt k.id new.id)) [
-          | inl e ↦ e
-          | inr e ↦
-              let none = not_found id jobs (others_above id (suc k.id) next jobs (grind (arith, nat_tests)) h) in
-              absurd (cc)
-        ]
+    is_above k id next jobs j new h found same = grind (arith, not_found, others_above)
 
 -- after its removal, an id finds no job
 pub not_there : (id : ℕ) (jobs : List Job) → job_with id (without id jobs) ≡ None

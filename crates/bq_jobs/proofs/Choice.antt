@@ -1,8 +1,9 @@
 -- Entries in the order of their keys: lookups after a change, and the first entry from a key on.
-use Rattle.std.proofs.Common.{◌≡◌, ℕ, true, false, cond, List, [], ◌∷◌, Option, Some, None, arith, refl, sym, ap, ◌∙◌, subst, inl, inr}
-use Rattle.std.specs.Prelude.{is_some, ◌==◌, nat_lt}
+use Rattle.std.proofs.lemmas.Grind.{common_steps}
+use Rattle.std.proofs.Common.{◌≡◌, ℕ, true, false, cond, List, [], ◌∷◌, Some, None, arith, refl, sym, ap, ◌∙◌, inl, inr}
+use Rattle.std.specs.Prelude.{is_some}
 use Rattle.std.specs.declared.cmp.Ordering.{Ordering}
-use Rattle.std.specs.declared.cmp.Ordering.TheVariants.{Less, Equal, Greater}
+use Rattle.std.specs.declared.cmp.Ordering.TheVariants.{Less, Equal}
 use Rattle.std.specs.Cmp.{Equal-is, IsTotalOrder, eq_by_cmp_equiv, tied_then, unsigned_tied}
 use Rattle.std.specs.Ordering.{is_eq, is_gt, match_ordering, nat_cmp, ordering_then}
 use Rattle.std.specs.List.{AllByRecursion as All}
@@ -10,8 +11,7 @@ use Rattle.std.specs.List.Sorted.{IsStrictlySortedBy}
 use Rattle.std.specs.Map.{keys_of, lookup, remove_entry}
 use Rattle.std.specs.BTreeMap.{is_at, insert_entry}
 use Rattle.std.proofs.lemmas.Bool.{and_parts, cases_Bool, eqb-true}
-use Rattle.std.proofs.lemmas.Bool.Decides.{nat_tests}
-use Rattle.std.proofs.lemmas.Cmp.{alike_right, tied_back, tied_itself}
+use Rattle.std.proofs.lemmas.Cmp.{alike_right}
 use Rattle.std.proofs.lemmas.Map.{lookup-remove_entry}
 use Rattle.std.proofs.lemmas.Map.Keys.{IsDistinct-from_sorted}
 use Rattle.bq_index.specs.Order.{InOrder, entry_from}
@@ -32,58 +32,23 @@ pub numbers_tie : (a b : ℕ) → nat_cmp a b ≡ Equal → a ≡ b
 numbers_tie a b h = eqb-true a b (sym (unsigned_tied a b) ∙ ap is_eq h)
 
 pub none_below : (a : ℕ) → is_gt (nat_cmp 0 a) ≡ false
-none_below a =
-    elim (cases_Bool (nat_lt 0 a)) [
-      | inl less ↦ rw less refl
-      | inr e ↦ let same : (0 == a) ≡ true = grind (arith, nat_tests) in rw (e, same) refl
-    ]
+none_below a = grind arith
 
 pub then_not_greater : (a b : Ordering) → is_gt a ≡ false → is_gt b ≡ false → is_gt (ordering_then a b) ≡ false
-then_not_greater Less b h i = refl
-then_not_greater Equal b h i = i
-then_not_greater Greater b h i = h
+then_not_greater a b h2 h3 = grind arith
 
 -- The order of pairs agrees with the comparison of pairs.
 pub pair_not_after : (a i b j : ℕ) → is_gt (ordering_then (nat_cmp a b) (nat_cmp i j)) ≡ false → is_pair_before b j a i ≡ false
-pair_not_after a i b j h =
-    elim (cases_Bool (nat_lt a b)) [
-      | inl less ↦ grind (arith, nat_tests)
-      | inr e ↦ elim (cases_Bool (a == b)) [
-        | inr other ↦ absurd (let g = rw (e, other) at h in cc)
-        | inl same ↦ elim (cases_Bool (nat_lt i j)) [
-          | inl less ↦ grind (arith, nat_tests)
-          | inr f ↦ elim (cases_Bool (i == j)) [
-            | inl tie ↦ grind (arith, nat_tests)
-            | inr apart ↦ absurd (let g = rw (e, same, f, apart) at h in cc)
-          ]
-        ]
-      ]
-    ]
+pair_not_after a i b j h = grind (arith, common_steps)
 
 module _ {K V : Type 0} {R : K → K → Ordering} (o : IsTotalOrder R) where
-  -- the order of two tests is irrelevant if their keys differ
-  swapped : (q p x : K) (v w : V) (rest : Option V) → is_eq (R p x) ≡ false
-      → cond (is_eq (R q x)) (Some w) (cond (is_eq (R q p)) (Some v) rest) ≡ cond (is_eq (R q p)) (Some v)
-      (cond (is_eq (R q x)) (Some w) rest)
-  swapped q p x v w rest apart =
-      elim (cases_Bool (is_eq (R q p))) [
-        | inr e ↦ rw e refl
-        | inl e ↦
-            let tie = equal_from (R q p) e in
-            let f : is_eq (R q x) ≡ false = ap is_eq (o.congr q p x tie) ∙ apart in
-            rw f refl
-      ]
-
   inserted_cases : (q p : K) (v : V) (e : K × V) (es : List (K × V)) (a : Ordering) → R p e.0 ≡ a
       → (lookup (is_at (R p)) es ≡ None → lookup (is_at (R q)) (insert_entry R es p v) ≡ cond (is_eq (R q p)) (Some v)
       (lookup (is_at (R q)) es))
       → cond (is_eq a) (Some e.1) (lookup (is_at (R p)) es) ≡ None
       → lookup (is_at (R q)) (match_ordering a ((p, v) ∷ e ∷ es) ((e.0, v) ∷ es) (e ∷ insert_entry R es p v)) ≡ cond (is_eq (R q p))
       (Some v) (cond (is_eq (R q e.0)) (Some e.1) (lookup (is_at (R q)) es))
-  inserted_cases q p v e es Less h i absent = refl
-  inserted_cases q p v e es Equal h i absent = absurd cc
-  inserted_cases q p v e es Greater h i absent =
-      ap (λ z. cond (is_eq (R q e.0)) (Some e.1) z) (i absent) ∙ swapped q p e.0 v e.1 (lookup (is_at (R q)) es) (ap is_eq h)
+  inserted_cases q p v e es a h6 h7 h8 = grind arith
 
   -- lookup after an insertion
   pub lookup_inserted : (q p : K) (v : V) (es : List (K × V)) → lookup (is_at (R p)) es ≡ None
@@ -128,10 +93,7 @@ module _ {K V : Type 0} {R : K → K → Ordering} (o : IsTotalOrder R) where
   from_not_below f e (x ∷ es) h =
       elim (cases_Bool (is_gt (R f x.0))) [
         | inl g ↦ from_not_below f e es (rw g at h)
-        | inr g ↦
-            let same : Some x ≡ Some e = rw g at h in
-            let is : x ≡ e = (cc) in
-            subst (λ z. is_gt (R f z.0) ≡ false) is g
+        | inr g ↦ grind arith
       ]
 
   pub from_found : (f : K) (e : K × V) (es : List (K × V)) → entry_from (R f) es ≡ Some e → is_some (lookup (is_at (R e.0)) es) ≡ true
@@ -142,11 +104,7 @@ module _ {K V : Type 0} {R : K → K → Ordering} (o : IsTotalOrder R) where
           | inl t ↦ rw t refl
           | inr t ↦ rw t (from_found f e es (rw g at h))
         ]
-        | inr g ↦
-            let same : Some x ≡ Some e = rw g at h in
-            let is : x ≡ e = (cc) in
-            let tie : is_eq (R e.0 x.0) ≡ true = subst (λ z. is_eq (R z.0 x.0) ≡ true) is (ap is_eq (tied_itself o x.0)) in
-            rw tie refl
+        | inr g ↦ grind arith
       ]
 
   pub from_least : (f q : K) (e : K × V) (es : List (K × V)) → InOrder R es → entry_from (R f) es ≡ Some e
@@ -159,11 +117,5 @@ module _ {K V : Type 0} {R : K → K → Ordering} (o : IsTotalOrder R) where
           | inl t ↦ absurd (let same = ap is_gt (alike_right o q x.0 f (equal_from (R q x.0) t)) ∙ g in cc)
           | inr t ↦ from_least f q e es s.1 (rw g at n) (rw t at h) l
         ]
-        | inr g ↦
-            let same : Some x ≡ Some e = rw g at n in
-            let is : x ≡ e = (cc) in
-            subst (λ z. is_gt (R z.0 q) ≡ false) is (elim (cases_Bool (is_eq (R q x.0))) [
-              | inl t ↦ ap is_gt (tied_back o q x.0 (equal_from (R q x.0) t))
-              | inr t ↦ ap is_gt (found_above x.0 q es s.0 (rw t at h))
-            ])
+        | inr g ↦ grind (arith, found_above)
       ]

@@ -1,5 +1,5 @@
 -- Bounds on the number of comparisons.
-use Rattle.std.proofs.Common.{◌≡◌, ℕ, ◌+◌, ◌*◌, ◌≤◌, List, min, length, ap, arith, subst}
+use Rattle.std.proofs.Common.{◌≡◌, ℕ, ◌+◌, ◌*◌, ◌≤◌, List, min, length, arith}
 use Rattle.bq_index.specs.Digits.{binary_digits}
 use Rattle.bq_index.proofs.Bound.{digits_rise}
 use Rattle.bq_job.specs.declared.job.Job.{Job}
@@ -10,27 +10,15 @@ use Rattle.bq_jobs.specs.Searching.{Searches}
 -- the comparisons of a search among at most as many entries as there are jobs
 pub search_is_bounded : (jobs : List Job) (n : ℕ) → n ≤ length jobs → 2 * binary_digits (n + 1) ≤ search_bound jobs
 unfolding binary_digits
-search_is_bounded jobs n l =
-    omega (arith, digits_rise (n + 1) (2 * length jobs + 2) (n + 1) (2 * length jobs + 2) (omega arith) (omega arith))
-
--- A sum that stops at its maximum rises by at most the amount that is added.
-pub sum_rises : (a b by : ℕ) → a ≤ b → b ≤ a + by → (min a greatest ≤ min b greatest) × (min b greatest ≤ min a greatest + by)
-sum_rises a b by l u = (omega arith, omega arith)
+search_is_bounded jobs n l = grind (arith, digits_rise)
 
 -- a call that compares keys at most as often as n searches
 pub few_more : (n : ℕ) (seen old : Kept) (sum new : ℕ) → seen ≡ old → seen.comparisons ≡ min sum greatest → sum ≤ new
     → new ≤ sum + n * search_bound seen.jobs
     → (old.comparisons ≤ min new greatest) × (min new greatest ≤ old.comparisons + n * search_bound old.jobs)
-few_more n seen old sum new e is l u =
-    subst (λ (m : Kept). (m.comparisons ≤ min new greatest) × (min new greatest ≤ m.comparisons + n * search_bound m.jobs)) e
-    (rw is (sum_rises sum new (n * search_bound seen.jobs) l u))
+few_more n seen old sum new e is l u = grind arith
 
 -- the same for a call that changes nothing
 pub searched : (n : ℕ) (seen old : Kept) (sum new : ℕ) → seen ≡ old → seen.comparisons ≡ min sum greatest → sum ≤ new
     → new ≤ sum + n * search_bound seen.jobs → Searches n old (record seen { comparisons = min new greatest })
-searched n seen old sum new e is l u =
-    let few = few_more n seen old sum new e is l u in
-    record {
-      same = ap (λ (m : Kept). record m { comparisons = min new greatest }) e;
-      asks = record { many = ap (λ (m : Kept). length m.jobs) e; stays = few.0; rise = few.1 };
-    }
+searched n seen old sum new e is l u = grind arith

@@ -1,14 +1,15 @@
 -- How the chain of the free numbers changes.
+use Rattle.std.proofs.lemmas.Grind.{common_steps}
 use Rattle.std.proofs.Common.{◌≡◌, ◌≤◌, ◌<◌, ℕ, suc, true, false, List, [], ◌∷◌, length, get_or, set}
 use Rattle.std.proofs.Common.{Option, Some, None, is_some, arith, refl, sym, ap, ◌∙◌, subst, inl, inr}
-use Rattle.std.specs.Prelude.{◌==◌, ◌++◌, Err, IfOk, Ok, OnErr, OnOk, Result}
+use Rattle.std.specs.Prelude.{◌==◌, ◌++◌, IfOk, OnErr, OnOk, Result}
 use Rattle.std.proofs.lemmas.Bool.{cases_Bool, eq-eqb, eqb-true}
 use Rattle.std.proofs.lemmas.Bool.Decides.{nat_tests}
-use Rattle.std.proofs.lemmas.List.{get_or-map, get_or-set_other, get_or-set_same, length-map, map-set}
+use Rattle.std.proofs.lemmas.List.{get_or-set_other, get_or-set_same, length-map, map-set}
 use Rattle.bq_job.specs.declared.NoMemory.{NoMemory}
 use Rattle.bq_jobs.specs.FreeNumbers.{AreAllUsed, AreChained, AreFreeFrom, IsChain, SlotState, is_in, names_in, nexts_in}
 use Rattle.bq_jobs.specs.Numbering.{IsGiven, Numbering, name_of, put_at}
-use Rattle.bq_jobs.proofs.NumberingLemmas.{has_slot, length_put, put_is_set, put_other, put_same}
+use Rattle.bq_jobs.proofs.NumberingLemmas.{length_put, put_is_set, put_other, put_same}
 
 flip : (a b : ℕ) → (a == b) ≡ false → (b == a) ≡ false
 flip a b e = grind (arith, nat_tests)
@@ -18,10 +19,7 @@ apart a b e is = let t = eq-eqb a b is in cc
 
 -- a number that is not in a chain is none of its numbers
 not_first : (m n : ℕ) (chain : List ℕ) → is_in m (n ∷ chain) ≡ false → ((m == n) ≡ false) × (is_in m chain ≡ false)
-not_first m n chain out = elim (cases_Bool (m == n)) [
-  | inl e ↦ absurd (let t : true ≡ false = rw e at out in cc)
-  | inr e ↦ (e, rw e at out)
-]
+not_first m n chain out = grind arith
 
 later : (m n : ℕ) (chain : List ℕ) → is_in m (n ∷ chain) ≡ true → (m == n) ≡ false → is_in m chain ≡ true
 later m n chain is e = rw e at is
@@ -84,32 +82,12 @@ module _ (names : List (Option (List ℕ))) (nexts : List ℕ) (head : ℕ) (c :
             chain (get_or nexts head 0) (ap (λ (i : ℕ). is_in i chain) linked.0 ∙ linked.3)
             (subst (λ (i : ℕ). IsChain names nexts (get_or nexts i 0) chain) (sym linked.0) linked.4);
         whole = λ n less none. elim (cases_Bool (n == head)) [
-          | inl e ↦ absurd (let two : Some name ≡ None = sym (put_same (Some name) names head)
-              ∙ ap (λ i. get_or (put_at names head (Some name)) i None) (sym (eqb-true n head e)) ∙ none in cc)
+          | inl e ↦ grind (arith, put_same)
           | inr e ↦
               let was : get_or names n None ≡ None = sym (put_other (Some name) names head n (flip n head e)) ∙ none in
               later n m chain (whole n (omega (arith, less, same)) was) (ap (λ (i : ℕ). n == i) (sym linked.0) ∙ e)
         ];
       }
-
-  -- A number that was never used was given to a tube, since none is free.
-  pub next_given : (last : List (Option (List ℕ))) (after : List ℕ) (name : List ℕ) → AreAllUsed names
-      → last ≡ put_at names (length names) (Some name) → length last ≡ suc (length names) → AreChained last after head
-  next_given last after name used is many = record {
-    chain = [];
-    linked = tt;
-    whole = λ n less none. absurd (elim (cases_Bool (n == length names)) [
-      | inl e ↦
-          let two : Some name ≡ None = sym (put_same (Some name) names (length names))
-          ∙ ap (λ i. get_or (put_at names (length names) (Some name)) i None) (sym (eqb-true n (length names) e))
-          ∙ ap (λ l. get_or l n None) (sym is) ∙ none in cc
-      | inr e ↦
-          let was : get_or names n None ≡ None = sym (put_other (Some name) names (length names) n (flip n (length names) e))
-          ∙ ap (λ l. get_or l n None) (sym is) ∙ none in
-          let own : true ≡ false = sym (used n (grind (arith, nat_tests))) ∙ ap is_some was in
-          cc
-    ]);
-  }
 
   -- A number is free again, and is the first now.
   pub freed_first : (m : ℕ) (name : List ℕ) → m < length names → length nexts ≡ length names → get_or names m None ≡ Some name
@@ -138,15 +116,12 @@ module _ (names : List (Option (List ℕ))) (nexts : List ℕ) (head : ℕ) (c :
       same = length_put None names m within
 
       out : is_in m c.chain ≡ false
-      out = elim (cases_Bool (is_in m c.chain)) [
-        | inl e ↦ absurd (let free = member_free names nexts c.chain head m c.linked e in let two : Some name ≡ None = sym own ∙ free in cc)
-        | inr e ↦ e
-      ]
+      out = grind (arith, member_free)
 
 pub names_many : (slots : List SlotState) → length (names_in slots) ≡ length slots
 names_many slots = length-map slots (λ (s : SlotState). s.name)
 
-nexts_many : (slots : List SlotState) → length (nexts_in slots) ≡ length slots
+pub nexts_many : (slots : List SlotState) → length (nexts_in slots) ≡ length slots
 nexts_many slots = length-map slots (λ (s : SlotState). s.next)
 
 pub names_pushed : (slots : List SlotState) (s : SlotState) → names_in (slots ++ s ∷ []) ≡ names_in slots ++ s.name ∷ []
@@ -156,8 +131,7 @@ names_pushed (t ∷ slots) s = ap (λ (ns : List (Option (List ℕ))). t.name �
 -- A slot was replaced.
 module _ (slots : List SlotState) (n : ℕ) (s : SlotState) (within : n < length slots) where
   pub names_changed : names_in (set slots n s) ≡ put_at (names_in slots) n s.name
-  names_changed = map-set (λ (t : SlotState). t.name) slots n s
-      ∙ put_is_set s.name (names_in slots) n (omega (arith, within, names_many slots))
+  names_changed = grind (arith, map-set, put_is_set, names_many)
 
   pub nexts_changed : nexts_in (set slots n s) ≡ set (nexts_in slots) n s.next
   nexts_changed = map-set (λ (t : SlotState). t.next) slots n s
@@ -165,14 +139,12 @@ module _ (slots : List SlotState) (n : ℕ) (s : SlotState) (within : n < length
 -- the name in the slot of a number
 pub name_at : (slots : List SlotState) (n : ℕ) (s : SlotState) → n < length slots → s ≡ get_or slots n s
     → get_or (names_in slots) n None ≡ s.name
-name_at slots n s within is =
-    get_or-map (λ (t : SlotState). t.name) slots n s None within ∙ ap (λ (t : SlotState). t.name) (sym is)
+name_at slots n s within is = grind (arith, common_steps)
 
 -- A number that has a name has a slot.
 pub has_place : (k : Numbering) (slots : List SlotState) (n : ℕ) (name : List ℕ) → k.names ≡ names_in slots → name_of n k ≡ Some name
     → n < length slots
-has_place k slots n name names own =
-    let within = has_slot k n name own in let many = ap length names in omega (arith, within, many, names_many slots)
+has_place k slots n name names own = grind (arith, common_steps)
 
 -- The same of slots, as their calls promise it.
 module _ (slots : List SlotState) (head : ℕ) (c : AreFreeFrom head slots) where
@@ -180,27 +152,7 @@ module _ (slots : List SlotState) (head : ℕ) (c : AreFreeFrom head slots) wher
   slots_used used =
       all_used (names_in slots) (nexts_in slots) head c (λ less free. used (omega (arith, less, names_many slots)) free)
 
-  pub slot_given : (last : List SlotState) (name : List ℕ) (y : ℕ) → head < length slots → get_or (names_in slots) head None ≡ None
-      → names_in last ≡ put_at (names_in slots) head (Some name) → nexts_in last ≡ set (nexts_in slots) head y
-      → AreFreeFrom (get_or (nexts_in slots) head 0) last
-  slot_given last name y within free names nexts =
-      rw (names, nexts) (first_given (names_in slots) (nexts_in slots) head c name y (omega (arith, within, names_many slots)) free)
-
   pub slot_added : (last : List SlotState) (name : List ℕ) (r : Result ℕ NoMemory) → AreAllUsed (names_in slots)
       → IfOk r (λ n. IsGiven n name (names_in slots) (names_in last)) → IfOk r (λ n. n ≡ length slots)
       → OnOk r (length last ≡ suc (length slots)) → OnErr r (last ≡ slots) → AreFreeFrom head last
-  slot_added last name (Ok n) used given is many same =
-      next_given (names_in slots) (nexts_in slots) head c (names_in last) (nexts_in last) name used
-      (given.2 ∙ ap (λ i. put_at (names_in slots) i (Some name)) (is ∙ sym (names_many slots)))
-      (names_many last ∙ many ∙ ap suc (sym (names_many slots)))
-  slot_added last name (Err e) used given is many same = rw same c
-
-  pub slot_freed : (last : List SlotState) (n : ℕ) (name : List ℕ) → get_or (names_in slots) n None ≡ Some name → n < length slots
-      → names_in last ≡ put_at (names_in slots) n None → nexts_in last ≡ set (nexts_in slots) n head → AreFreeFrom n last
-  slot_freed last n name own within names nexts =
-      rw (names, nexts) (freed_first (names_in slots) (nexts_in slots) head c n name (omega (arith, within, names_many slots))
-      (nexts_many slots ∙ sym (names_many slots)) own)
-
-pub ok_then : {A B P : Type 0} (Q : A → Type 0) (r : Result A B) → P → IfOk r (λ a. Q a → P)
-ok_then Q (Ok a) p = λ q. p
-ok_then Q (Err e) p = tt
+  slot_added last name r h3 h4 h5 h6 h7 = grind (arith, names_many, put_same, eqb-true, put_other, flip, nat_tests)

@@ -1,40 +1,26 @@
 -- The first job by names of tubes is the first record by numbers.
-use Rattle.std.proofs.Common.{◌≡◌, ℕ, Bool, false, ◌&&◌, List, [], ◌∷◌, Option, Some, None, map, refl, sym, ap, ◌∙◌, inl, inr}
+use Rattle.std.proofs.Common.{◌≡◌, ℕ, Bool, false, List, [], ◌∷◌, Option, Some, None, map, refl, ap, ◌∙◌, arith}
 use Rattle.std.specs.Prelude.{fold}
 use Rattle.std.specs.List.{AllByRecursion as All}
 use Rattle.std.specs.Option.{option_map}
-use Rattle.std.proofs.lemmas.Bool.{cases_Bool}
 use Rattle.bq_job.specs.declared.job.Job.{Job}
-use Rattle.bq_job.specs.machine.Changes.{better_of, first_of, is_held_by, is_pair_before}
+use Rattle.bq_job.specs.machine.Changes.{better_of, first_of, is_pair_before}
 use Rattle.bq_jobs.specs.declared.places.JobList.{JobList}
 use Rattle.bq_jobs.specs.declared.places.Timer.{Timer}
 use Rattle.bq_jobs.specs.declared.places.Timer.TheVariants as timers
 use Rattle.bq_jobs.specs.Kept.{ranked}
-use Rattle.bq_jobs.specs.Leases.{deadline_of}
 use Rattle.bq_jobs.specs.Names.{number_in}
 use Rattle.bq_jobs.specs.Numbering.{AreNumbered, AreRegistered, IsPaired, Numbering, named, number_of}
 use Rattle.bq_jobs.specs.Places.{held_by, list_of}
-use Rattle.bq_jobs.specs.Ranks.{first_by, first_held, first_timed, is_in_list, is_listed, is_timed, list_rank, moment_of}
+use Rattle.bq_jobs.specs.Ranks.{first_by, first_held, first_timed, is_in_list, is_listed, list_rank}
 use Rattle.bq_jobs.proofs.NamedJobs.{all_told, none_told}
 
 module _ (f : Job → Job) (passes test : Job → Bool) (before : Job → Job → Bool)
     (alike : (a b : Job) → before (f a) (f b) ≡ before a b) where
-  better_named : (j : Job) → passes (f j) ≡ test j → (o : Option Job)
-      → better_of passes before (option_map f o) (f j) ≡ option_map f (better_of test before o j)
-  better_named j e None = elim (cases_Bool (test j)) [
-    | inl t ↦ rw (e ∙ t, t) refl
-    | inr t ↦ rw (e ∙ t, t) refl
-  ]
-  better_named j e (Some best) = elim (cases_Bool (test j && before j best)) [
-    | inl t ↦ rw (ap (λ b. b && before (f j) (f best)) e ∙ ap (λ b. test j && b) (alike j best) ∙ t, t) refl
-    | inr t ↦ rw (ap (λ b. b && before (f j) (f best)) e ∙ ap (λ b. test j && b) (alike j best) ∙ t, t) refl
-  ]
-
   fold_named : (rows : List Job) → All (λ j. passes (f j) ≡ test j) rows → (o : Option Job)
       → fold (better_of passes before) (option_map f o) (map f rows) ≡ option_map f (fold (better_of test before) o rows)
   fold_named [] all o = refl
-  fold_named (j ∷ rows) all o =
-      ap (λ b. fold (better_of passes before) b (map f rows)) (better_named j all.0 o) ∙ fold_named rows all.1 (better_of test before o j)
+  fold_named (j ∷ rows) all o = grind (arith, fold_named rows all.1 (better_of test before o j))
 
   first_named : (rows : List Job) → All (λ j. passes (f j) ≡ test j) rows
       → first_of passes before (map f rows) ≡ option_map f (first_of test before rows)
@@ -67,8 +53,7 @@ listed_by k h name n own list rows all =
 pub listed_told : (k : Numbering) (rows : List Job) → AreRegistered k rows → (name n : List ℕ) → number_of name k ≡ Some (number_in n)
     → n ≡ number_in n ∷ [] → (list : JobList)
     → first_held (list_of name list) (map (named k) rows) ≡ first_held (list_of n list) rows
-listed_told k rows h name n own alone list =
-    listed_by k h.paired name (number_in n) own list rows h.numbered ∙ ap (λ i. first_held (list_of i list) rows) (sym alone)
+listed_told k rows h name n own alone list = grind (arith, listed_by)
 
 -- among those of a client, and among delays and leases.
 all_alike : (test : Job → Bool) (rows : List Job) → All (λ j. test j ≡ test j) rows
@@ -78,22 +63,18 @@ all_alike test (j ∷ rows) = (refl, all_alike test rows)
 pub seat_told : (k : Numbering) (seat : ℕ) (rows : List Job)
     → first_held (held_by seat) (map (named k) rows) ≡ first_held (held_by seat) rows
 unfolding first_held
-seat_told k seat rows = first_told k (is_held_by seat) (is_held_by seat) (λ j. deadline_of j.state) (λ j. refl) rows
-    (all_alike (is_held_by seat) rows)
+seat_told k seat rows = search (first_told, all_alike)
 
 pub timed_told : (k : Numbering) (t : Timer) (rows : List Job) → first_timed t (map (named k) rows) ≡ first_timed t rows
 unfolding first_timed
-timed_told k timers.Due rows = first_told k (is_timed timers.Due) (is_timed timers.Due) (moment_of timers.Due) (λ j. refl) rows
-    (all_alike (is_timed timers.Due) rows)
-timed_told k timers.Lease rows = first_told k (is_timed timers.Lease) (is_timed timers.Lease) (moment_of timers.Lease) (λ j. refl) rows
-    (all_alike (is_timed timers.Lease) rows)
+timed_told k timers.Due rows = search (first_told, all_alike)
+timed_told k timers.Lease rows = search (first_told, all_alike)
 
 -- A tube that is not registered has no first job.
 none_first : (f : Job → Job) (passes : Job → Bool) (before : Job → Job → Bool) (rows : List Job) → All (λ j. passes (f j) ≡ false) rows
     → first_of passes before (map f rows) ≡ None
 none_first f passes before [] all = refl
-none_first f passes before (j ∷ rows) all =
-    ap (λ b. fold (better_of passes before) b (map f rows)) (rw all.0 refl) ∙ none_first f passes before rows all.1
+none_first f passes before (j ∷ rows) all = grind (arith, none_first f passes before rows all.1)
 
 pub none_listed : (k : Numbering) (rows : List Job) → AreRegistered k rows → (name : List ℕ) → number_of name k ≡ None → (list : JobList)
     → first_held (list_of name list) (map (named k) rows) ≡ None

@@ -1,8 +1,8 @@
 -- Consequences of the numbering of tubes.
+use Rattle.std.proofs.lemmas.Grind.{common_steps}
 use Rattle.std.proofs.Common.{◌≡◌, ◌≤◌, ◌<◌, ◌^◌, ℕ, zero, suc, true, false, cond, List, [], ◌∷◌, length, get_or, set}
 use Rattle.std.proofs.Common.{Option, Some, None, is_some, arith, refl, sym, ap, ◌∙◌, subst, inl, inr, ◌++◌}
-use Rattle.std.specs.Prelude.{nat_lt, IfSome, ◌==◌}
-use Rattle.std.proofs.lemmas.List.{get_or_past}
+use Rattle.std.specs.Prelude.{IfSome, ◌==◌}
 use Rattle.std.specs.BTreeMap.{is_at, insert_entry}
 use Rattle.std.specs.Cmp.{unsigned_tied}
 use Rattle.std.specs.Cmp.Lexicographic.{bytes_decides, nat_list_cmp_total, slice_cmp, texts_ties}
@@ -53,14 +53,6 @@ module _ (x : Option (List ℕ)) where
   put_other (y ∷ names) (suc m) zero e = refl
   put_other (y ∷ names) (suc m) (suc n) e = put_other names m n (before m n e)
 
-  -- what a number has after another one was changed
-  put_then : (names : List (Option (List ℕ))) (m n : ℕ)
-      → get_or (put_at names m x) n None ≡ cond (is_eq (nat_cmp n m)) x (get_or names n None)
-  put_then names m n = elim (cases_Bool (is_eq (nat_cmp n m))) [
-    | inl e ↦ rw e (ap (λ i. get_or (put_at names m x) i None) (tied_numbers n m e) ∙ put_same names m)
-    | inr e ↦ rw e (put_other names m n (sym (is_eq_nat n m) ∙ e))
-  ]
-
   -- a slot that is there is set,
   pub put_is_set : (names : List (Option (List ℕ))) (m : ℕ) → m < length names → set names m x ≡ put_at names m x
   put_is_set [] m l = absurd (omega (arith, l))
@@ -82,10 +74,7 @@ flipped m n = is_eq_nat n m ∙ sym (unsigned_tied m n)
 
 -- a number that has a name has a slot
 pub has_slot : (k : Numbering) (n : ℕ) (name : List ℕ) → name_of n k ≡ Some name → n < length k.names
-has_slot k n name its = elim (cases_Bool (nat_lt n (length k.names))) [
-  | inl less ↦ grind (arith, nat_tests)
-  | inr e ↦ absurd (let above : length k.names ≤ n = grind (arith, nat_tests) in let none = get_or_past k.names n None above in cc)
-]
+has_slot k n name its = grind (arith, common_steps)
 
 module _ (k : Numbering) (h : IsPaired k) (name : List ℕ) where
   module _ (at : ℕ) (absent : number_of name k ≡ None) (free : name_of at k ≡ None) where
@@ -93,15 +82,7 @@ module _ (k : Numbering) (h : IsPaired k) (name : List ℕ) where
     number_then q = lookup_inserted nat_list_cmp_total q name at k.numbers absent
 
     name_then : (n : ℕ) → name_of n (paired_with at name k) ≡ cond (is_eq (nat_cmp n at)) (Some name) (name_of n k)
-    name_then n = put_then (Some name) k.names at n
-
-    -- a number that has a name keeps it
-    names_stay : (n : ℕ) → is_some (name_of n k) ≡ true → name_of n (paired_with at name k) ≡ name_of n k
-    names_stay n some = elim (cases_Bool (is_eq (nat_cmp n at))) [
-      | inl e ↦ absurd (let is = tied_numbers n at e in let none : name_of n k ≡ None = ap (λ i. name_of i k) is ∙ free in
-          let g = rw none at some in cc)
-      | inr e ↦ name_then n ∙ rw e refl
-    ]
+    name_then n = grind (arith, cases_Bool, put_same, put_other, is_eq_nat)
 
     added_is_paired : length (put_at k.names at (Some name)) ≤ 2 ^ 30 → IsPaired (paired_with at name k)
     added_is_paired few = record {
@@ -113,10 +94,7 @@ module _ (k : Numbering) (h : IsPaired k) (name : List ℕ) where
             let next : Some at ≡ Some n = rw e at (sym (number_then q) ∙ own) in
             let tie : is_eq (nat_cmp n at) ≡ true = tie_numbers n at (sym (some_is at n next)) in
             name_then n ∙ rw tie (ap (λ (s : List ℕ). Some s) (sym is))
-        | inr e ↦
-            let was : number_of q k ≡ Some n = rw e at (sym (number_then q) ∙ own) in
-            let there = h.there q n was in
-            names_stay n (ap is_some there) ∙ there
+        | inr e ↦ grind (arith, number_then, name_then)
       ];
       back = λ n q its. elim (cases_Bool (is_eq (nat_cmp n at))) [
         | inl e ↦
@@ -141,16 +119,13 @@ module _ (k : Numbering) (h : IsPaired k) (name : List ℕ) where
   removed_then q = lookup_removed nat_list_cmp_total q name k.numbers h.by_name
 
   taken_then : (m n : ℕ) → get_or (put_at k.names m None) n None ≡ cond (is_eq (nat_cmp m n)) None (name_of n k)
-  taken_then m n = put_then None k.names m n ∙ ap (λ b. cond b None (name_of n k)) (flipped m n)
+  taken_then m n = grind (arith, flipped, cases_Bool, put_same, put_other, is_eq_nat)
 
   removed_by : (o : Option ℕ) → number_of name k ≡ o
       → IsPaired (record k { numbers = remove_entry (is_at (slice_cmp nat_cmp name)) k.numbers; names = names_without o k.names })
   removed_by None none = record {
     by_name = order_remove (slice_cmp nat_cmp) (is_at (slice_cmp nat_cmp name)) k.numbers h.by_name;
-    there = λ q n own. elim (cases_Bool (is_eq (slice_cmp nat_cmp name q))) [
-      | inl e ↦ absurd (let gone : None ≡ Some n = rw e at (sym (removed_then q) ∙ own) in cc)
-      | inr e ↦ h.there q n (rw e at (sym (removed_then q) ∙ own))
-    ];
+    there = grind (arith, removed_then);
     back = λ n q its. elim (cases_Bool (is_eq (slice_cmp nat_cmp name q))) [
       | inl e ↦ absurd (let same = tied_names name q e in
           let some : number_of name k ≡ Some n = ap (λ s. number_of s k) same ∙ h.back n q its in
@@ -163,16 +138,7 @@ module _ (k : Numbering) (h : IsPaired k) (name : List ℕ) where
     by_name = order_remove (slice_cmp nat_cmp) (is_at (slice_cmp nat_cmp name)) k.numbers h.by_name;
     there = λ q n own. elim (cases_Bool (is_eq (slice_cmp nat_cmp name q))) [
       | inl e ↦ absurd (let gone : None ≡ Some n = rw e at (sym (removed_then q) ∙ own) in cc)
-      | inr e ↦
-          let was : number_of q k ≡ Some n = rw e at (sym (removed_then q) ∙ own) in
-          let there : name_of n k ≡ Some q = h.there q n was in
-          elim (cases_Bool (is_eq (nat_cmp m n))) [
-            | inl t ↦ absurd (
-                let two : Some name ≡ Some q = sym (h.there name m its_own) ∙ ap (λ i. name_of i k) (tied_numbers m n t) ∙ there in
-                let same = tie_names name q (some_is name q two) in
-                cc)
-            | inr t ↦ taken_then m n ∙ rw t there
-          ]
+      | inr e ↦ grind (arith, removed_then, cases_Bool, tie_names, some_is, taken_then)
     ];
     back = λ n q its. elim (cases_Bool (is_eq (nat_cmp m n))) [
       | inl t ↦ absurd (let gone : None ≡ Some q = rw t at (sym (taken_then m n) ∙ its) in cc)
@@ -199,8 +165,7 @@ paired_to k new name n h absent given numbers =
 
 pub removed_to : (k new : Numbering) (name : List ℕ) (o : Option ℕ) → IsPaired k → number_of name k ≡ o
     → new.numbers ≡ remove_entry (is_at (slice_cmp nat_cmp name)) k.numbers → new.names ≡ names_without o k.names → IsPaired new
-removed_to k new name o h own numbers names =
-    subst IsPaired (λ i. record { numbers = sym numbers i; names = sym names i }) (removed_by k h name o own)
+removed_to k new name o h own numbers names = grind (arith, removed_by k h name o own)
 
 -- The number of a tube is small.
 pub number_few : (k : Numbering) (name : List ℕ) (o : Option ℕ) → IsPaired k → number_of name k ≡ o → IfSome o (λ n. n < 2 ^ 30)

@@ -1,73 +1,41 @@
 -- What additions and removals of jobs do to an order of places.
-use Rattle.std.proofs.Common.{◌≡◌, ℕ, ◌+◌, ◌*◌, ◌<◌, ◌≤◌, Bool, true, false, cond, List}
+use Rattle.std.proofs.lemmas.Grind.{common_steps}
+use Rattle.std.proofs.Common.{◌≡◌, ℕ, ◌+◌, ◌<◌, ◌≤◌, Bool, true, false, cond, List}
 use Rattle.std.proofs.Common.{Option, Some, None, length, arith, refl, sym, ap, ◌∙◌, subst, inl, inr}
 use Rattle.std.specs.Prelude.{is_some, ◌==◌}
 use Rattle.std.specs.declared.cmp.Ordering.{Ordering}
-use Rattle.std.specs.Cmp.{IsTotalOrder, eq_by_cmp_equiv}
-use Rattle.std.specs.Ordering.{is_eq, nat_cmp, ordering_then}
+use Rattle.std.specs.Cmp.{IsTotalOrder}
+use Rattle.std.specs.Ordering.{is_eq}
 use Rattle.std.specs.Option.{IfSome}
-use Rattle.std.specs.Map.{lookup}
 use Rattle.std.specs.BTreeMap.{is_at}
-use Rattle.std.proofs.lemmas.Bool.{cases_Bool, eqb-true}
-use Rattle.std.proofs.lemmas.Bool.Decides.{nat_tests}
-use Rattle.std.proofs.lemmas.Cmp.{tied_itself}
+use Rattle.std.proofs.lemmas.Bool.{cases_Bool}
 use Rattle.std.proofs.lemmas.List.Sums.{count_by-le-length}
-use Rattle.bq_index.specs.Digits.{binary_digits}
 use Rattle.bq_index.specs.Order.{InOrder}
 use Rattle.bq_index.proofs.Order.{length_inserted, length_lost, length_removed, order_insert, order_remove}
 use Rattle.bq_job.specs.declared.job.Job.{Job}
 use Rattle.bq_job.specs.machine.Changes.{job_with}
 use Rattle.bq_job.specs.beside.Lawful.{AreIdsWithin}
 use Rattle.bq_jobs.specs.declared.places.ShelfPlace.{ShelfPlace}
-use Rattle.bq_jobs.specs.Inside.{IsOrderOf, Order, has_place, is_place}
-use Rattle.bq_jobs.specs.Kept.{search_bound, with_added, without}
+use Rattle.bq_jobs.specs.Inside.{IsOrderOf, Order, has_place}
+use Rattle.bq_jobs.specs.Kept.{with_added, without}
 use Rattle.bq_jobs.specs.Moves.{CanMove}
 use Rattle.bq_jobs.specs.PlaceOrder.{place_cmp, place_total, holds_place, with_place, without_place}
 use Rattle.bq_jobs.proofs.Changes.{count_added, count_without, found_among_added, found_id}
 use Rattle.bq_jobs.proofs.Changes.{found_without, length_added, length_without, not_there}
-use Rattle.bq_jobs.proofs.Counting.{search_is_bounded}
-use Rattle.bq_jobs.proofs.Choice.{equal_from, lookup_inserted, lookup_removed, numbers_tie, then_equal_second}
-
--- a search in an order of places
-pub order_search : {G : Type 0} (C : G → G → Ordering) (place_of : Job → Option (ShelfPlace G)) (jobs : List Job) (room : ℕ)
-    (order : Order G) → IsOrderOf C place_of jobs room order → 2 * binary_digits (length order.entries + 1) ≤ search_bound jobs
-order_search C place_of jobs room order h =
-    search_is_bounded jobs (length order.entries) (omega (arith, h.counted, count_by-le-length (λ j. is_some (place_of j)) jobs))
+use Rattle.bq_jobs.proofs.Choice.{lookup_inserted, lookup_removed}
 
 some_unit : (u : Option (Unit {0})) → is_some u ≡ true → u ≡ Some tt
-some_unit None h = absurd cc
-some_unit (Some tt) h = refl
-
-none_from : {X : Type 0} (u : Option X) → is_some u ≡ false → u ≡ None
-none_from None h = refl
-none_from (Some x) h = absurd cc
+some_unit u h1 = grind arith
 
 -- removing a place, if there is one, does not add any
 pub fewer_places : {G : Type 0} (C : G → G → Ordering) (place : Option (ShelfPlace G)) (es : List (ShelfPlace G × Unit {0}))
     → length (without_place C place es) ≤ length es
-fewer_places C None es = omega arith
-fewer_places C (Some p) es = let test = is_at (place_cmp C p) in omega (arith, length_lost test es (lookup test es) refl)
-
-own_id : {G : Type 0} (j : Job) (place : Option (ShelfPlace G)) → IfSome place (λ p. p.id ≡ j.id) → (p : ShelfPlace G)
-    → place ≡ Some p → p.id ≡ j.id
-own_id j None h p e = absurd cc
-own_id j (Some q) h p e = let is : q ≡ p = (cc) in subst (λ z. z.id ≡ j.id) is h
+fewer_places C place es = grind (arith, length_lost)
 
 module _ {G : Type 0} {C : G → G → Ordering} (o : IsTotalOrder C) where
   -- places that compare equal belong to one job
   pub same_id : (p q : ShelfPlace G) → is_eq (place_cmp C p q) ≡ true → p.id ≡ q.id
-  same_id p q h = numbers_tie p.id q.id (then_equal_second (nat_cmp p.at q.at) (nat_cmp p.id q.id)
-      (then_equal_second (C p.group q.group) (ordering_then (nat_cmp p.at q.at) (nat_cmp p.id q.id)) (equal_from (place_cmp C p q) h)))
-
-  other_id : (p q : ShelfPlace G) → (p.id == q.id) ≡ false → is_eq (place_cmp C p q) ≡ false
-  other_id p q h =
-      elim (cases_Bool (is_eq (place_cmp C p q))) [
-        | inr e ↦ e
-        | inl e ↦ absurd (let same = same_id p q e in grind (arith, nat_tests))
-      ]
-
-  tie_back : (p q : ShelfPlace G) → is_eq (place_cmp C p q) ≡ is_eq (place_cmp C q p)
-  tie_back p q = (eq_by_cmp_equiv (place_total o)).symm p q
+  same_id p q h = grind arith
 
   module _ (place_of : Job → Option (ShelfPlace G)) (own : (j : Job) → IfSome (place_of j) (λ p. p.id ≡ j.id)) where
     -- if there is room for a job, there is a box for its place
@@ -77,17 +45,12 @@ module _ {G : Type 0} {C : G → G → Ordering} (o : IsTotalOrder C) where
     -- if a job is absent, its places are free
     pub absent_place : (j : Job) (jobs : List Job) (room : ℕ) (order : Order G) → IsOrderOf C place_of jobs room order
         → job_with j.id jobs ≡ None → (p : ShelfPlace G) → p.id ≡ j.id → holds_place C p order.entries ≡ None
-    absent_place j jobs room order h free p same =
-        let found : job_with p.id jobs ≡ None = rw same free in
-        none_from (holds_place C p order.entries) (h.places p ∙ ap (has_place C place_of p) found)
+    absent_place j jobs room order h free p same = grind arith
 
     -- if a job is present, its place is taken
     pub held_place : (id : ℕ) (j : Job) (jobs : List Job) (room : ℕ) (order : Order G) → IsOrderOf C place_of jobs room order
         → job_with id jobs ≡ Some j → (p : ShelfPlace G) → place_of j ≡ Some p → is_some (holds_place C p order.entries) ≡ true
-    held_place id j jobs room order h found p e =
-        let same : p.id ≡ id = own_id j (place_of j) (own j) p e ∙ found_id id jobs j found in
-        let found_then : job_with p.id jobs ≡ Some j = rw same found in
-        h.places p ∙ ap (has_place C place_of p) found_then ∙ ap (is_place C p) e ∙ ap is_eq (tied_itself (place_total o) p)
+    held_place id j jobs room order h found p e = grind (arith, found_id id jobs j found)
 
     -- places stay ordered when one is added or removed
     sorted_with : (place : Option (ShelfPlace G)) (es : List (ShelfPlace G × Unit {0})) → InOrder (place_cmp C) es
@@ -97,34 +60,20 @@ module _ {G : Type 0} {C : G → G → Ordering} (o : IsTotalOrder C) where
 
     sorted_without : (place : Option (ShelfPlace G)) (es : List (ShelfPlace G × Unit {0})) → InOrder (place_cmp C) es
         → InOrder (place_cmp C) (without_place C place es)
-    sorted_without None es s = s
-    sorted_without (Some p) es s = order_remove (place_cmp C) (is_at (place_cmp C p)) es s
+    sorted_without place es h2 = grind (arith, order_remove)
 
     -- after an addition
     added_places : (j : Job) (place : Option (ShelfPlace G)) (jobs : List Job) (room : ℕ) (order : Order G) → place_of j ≡ place
         → IfSome place (λ p. p.id ≡ j.id) → IsOrderOf C place_of jobs room order → job_with j.id jobs ≡ None
         → (q : ShelfPlace G) → is_some (holds_place C q (with_place C place order.entries)) ≡ has_place C place_of q
         (cond (j.id == q.id) (Some j) (job_with q.id jobs))
-    added_places j None jobs room order e own h free q =
-        elim (cases_Bool (j.id == q.id)) [
-          | inr other ↦ rw other (h.places q)
-          | inl here ↦
-              let same : j.id ≡ q.id = eqb-true j.id q.id here in
-              let found : job_with q.id jobs ≡ None = rw (← same) free in
-              rw here (h.places q ∙ ap (has_place C place_of q) found ∙ sym (ap (is_place C q) e))
-        ]
+    added_places j None jobs room order e own h free q = grind arith
     added_places j (Some p) jobs room order e own h free q =
         let gone = absent_place j jobs room order h free p own in
         let after = ap is_some (lookup_inserted (place_total o) q p tt order.entries gone) in
         elim (cases_Bool (j.id == q.id)) [
-          | inl here ↦
-              let same : j.id ≡ q.id = eqb-true j.id q.id here in
-              let found : job_with q.id jobs ≡ None = rw (← same) free in
-              let was = h.places q ∙ ap (has_place C place_of q) found in
-              rw here (after ∙ here_only (is_eq (place_cmp C q p)) (holds_place C q order.entries) was ∙ sym (ap (is_place C q) e))
-          | inr other ↦
-              let apart : is_eq (place_cmp C q p) ≡ false = other_id q p (rw own (grind (arith, nat_tests))) in
-              rw other (after ∙ (rw apart (h.places q)))
+          | inl here ↦ grind (arith, common_steps)
+          | inr other ↦ grind arith
         ]
       where
         here_only : (b : Bool) (u : Option (Unit {0})) → is_some u ≡ false → is_some (cond b (Some tt) u) ≡ b
@@ -134,9 +83,7 @@ module _ {G : Type 0} {C : G → G → Ordering} (o : IsTotalOrder C) where
     added_length : (j : Job) (place : Option (ShelfPlace G)) (jobs : List Job) (room : ℕ) (order : Order G)
         → IfSome place (λ p. p.id ≡ j.id) → IsOrderOf C place_of jobs room order → job_with j.id jobs ≡ None
         → length (with_place C place order.entries) ≡ cond (is_some place) 1 0 + length order.entries
-    added_length j None jobs room order own h free = omega arith
-    added_length j (Some p) jobs room order own h free =
-        omega (arith, length_inserted (place_cmp C) p tt order.entries (absent_place j jobs room order h free p own))
+    added_length j place jobs room order h5 h6 h7 = grind (arith, length_inserted)
 
     pub order_added : (j : Job) (jobs : List Job) (room less : ℕ) (order new : Order G) → IsOrderOf C place_of jobs room order
         → job_with j.id jobs ≡ None → less + 1 ≡ room
@@ -158,31 +105,9 @@ module _ {G : Type 0} {C : G → G → Ordering} (o : IsTotalOrder C) where
         → InOrder (place_cmp C) order.entries
         → (q : ShelfPlace G) → is_some (holds_place C q (without_place C place order.entries)) ≡ has_place C place_of q
         (cond (id == q.id) None (job_with q.id jobs))
-    removed_places id j None jobs room order e own h found s q =
-        elim (cases_Bool (id == q.id)) [
-          | inr other ↦ rw other (h.places q)
-          | inl here ↦
-              let same : id ≡ q.id = eqb-true id q.id here in
-              let found_then : job_with q.id jobs ≡ Some j = rw (← same) found in
-              rw here (h.places q ∙ ap (has_place C place_of q) found_then ∙ ap (is_place C q) e)
-        ]
+    removed_places id j None jobs room order e own h found s q = grind arith
     removed_places id j (Some p) jobs room order e own h found s q =
-        let after = ap is_some (lookup_removed (place_total o) q p order.entries s) in
-        let mine = own ∙ found_id id jobs j found in
-        elim (cases_Bool (id == q.id)) [
-          | inl here ↦
-              let same : id ≡ q.id = eqb-true id q.id here in
-              let found_then : job_with q.id jobs ≡ Some j = rw (← same) found in
-              let was = h.places q ∙ ap (has_place C place_of q) found_then ∙ ap (is_place C q) e ∙ tie_back q p in
-              rw here (after ∙ gone_now (is_eq (place_cmp C p q)) (holds_place C q order.entries) was)
-          | inr other ↦
-              let apart : is_eq (place_cmp C p q) ≡ false = other_id p q (rw mine other) in
-              rw other (after ∙ (rw apart (h.places q)))
-        ]
-      where
-        gone_now : (b : Bool) (u : Option (Unit {0})) → is_some u ≡ b → is_some (cond b None u) ≡ false
-        gone_now true u h = refl
-        gone_now false u h = h
+        grind (arith, common_steps, lookup_removed (place_total o) q p order.entries s, found_id id jobs j found, cases_Bool (id == q.id))
 
     removed_length : (id : ℕ) (j : Job) (place : Option (ShelfPlace G)) (jobs : List Job) (room : ℕ) (order : Order G) → place_of j ≡ place
         → IsOrderOf C place_of jobs room order → job_with id jobs ≡ Some j
@@ -229,7 +154,7 @@ module _ {G : Type 0} {C : G → G → Ordering} (o : IsTotalOrder C) where
       has_spare_then = has_spare (without id jobs) (room + 1) left once_left (omega arith)
 
       absent_then : (p : ShelfPlace G) → place_of k ≡ Some p → holds_place C p (without_place C (place_of j) order.entries) ≡ None
-      absent_then p e = absent_place k (without id jobs) (room + 1) left once_left free_then p (own_id k (place_of k) (own k) p e)
+      absent_then p e = grind (arith, absent_place, once_left, free_then)
 
       -- so the job can move
       pub can_move : (from to : Option (ShelfPlace G)) → from ≡ place_of j → to ≡ place_of k → CanMove C from to order

@@ -1,4 +1,5 @@
 -- What is kept after additions, removals and allocations.
+use Rattle.std.proofs.lemmas.List.Sums.{count_by-le-length}
 use Rattle.std.proofs.Common.{◌≡◌, ℕ, suc, ◌+◌, ◌<◌, ◌≤◌, ◌^◌, ◌*◌, List, [], ◌∷◌, Some}
 use Rattle.std.proofs.Common.{None, map, length, cond, arith, refl, sym, ap, ◌∙◌, subst, inl, inr}
 use Rattle.std.specs.Prelude.{is_some, ◌==◌, Option}
@@ -26,7 +27,7 @@ use Rattle.bq_jobs.proofs.ById.{insert_by_id, lookup_by_id, remove_by_id, same_j
 use Rattle.bq_jobs.proofs.Changes.{added_within, changed, found_id, not_there, without_none, without_within}
 use Rattle.bq_jobs.proofs.Counting.{few_more, search_is_bounded}
 use Rattle.bq_jobs.proofs.Firsts.{group_cmp, timer_cmp, timer_own, group_own}
-use Rattle.bq_jobs.proofs.Orders.{order_added, order_moved, order_removed, order_search}
+use Rattle.bq_jobs.proofs.Orders.{order_added, order_moved, order_removed}
 
 abbrev pub AreShelved : Parts → Type 0
 AreShelved s = IsShelved group_cmp timer_cmp s.by_id s.groups s.timers
@@ -131,10 +132,10 @@ compared s = s.by_id.comparisons + s.groups.comparisons + s.timers.comparisons
 -- the comparisons of a search in each order
 module _ (s : Parts) (h : AreShelved s) where
   pub group_search : 2 * binary_digits (length s.groups.entries + 1) ≤ search_bound (jobs_of s.by_id.entries)
-  group_search = order_search group_cmp group_place (jobs_of s.by_id.entries) s.by_id.spare s.groups h.in_groups
+  group_search = grind (arith, group_cmp, search_is_bounded, count_by-le-length)
 
   pub timer_search : 2 * binary_digits (length s.timers.entries + 1) ≤ search_bound (jobs_of s.by_id.entries)
-  timer_search = order_search timer_cmp timer_place (jobs_of s.by_id.entries) s.by_id.spare s.timers h.in_timers
+  timer_search = grind (arith, timer_cmp, search_is_bounded, count_by-le-length)
 
 -- after a call that changed no entry
 pub shelved_kept : (s : Parts) (by_id : ById) → AreShelved s → by_id.entries ≡ s.by_id.entries → by_id.spare ≡ s.by_id.spare

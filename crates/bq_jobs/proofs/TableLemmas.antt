@@ -1,27 +1,24 @@
 -- A value for each registered tube: what a look-up and a change of it are.
+use Rattle.std.proofs.lemmas.Grind.{common_steps}
 use Rattle.std.proofs.Common.{◌≡◌, ◌≤◌, ◌<◌, ℕ, zero, suc, Bool, true, false, cond, List, [], ◌∷◌, ◌++◌, length, get_or, set}
-use Rattle.std.proofs.Common.{Option, Some, None, arith, refl, sym, ap, ◌∙◌, subst, inl, inr}
+use Rattle.std.proofs.Common.{Option, Some, None, arith, refl, sym, ap, ◌∙◌, inl, inr}
 use Rattle.std.specs.Prelude.{◌==◌, slice_get, option_and_then}
-use Rattle.std.specs.Borrow.{Bor}
 use Rattle.std.specs.BTreeMap.{is_at, insert_entry}
 use Rattle.std.specs.Cmp.Lexicographic.{slice_cmp}
 use Rattle.std.specs.List.{AllByRecursion}
 use Rattle.std.specs.List.Sorted.{IsStrictlySortedBy}
 use Rattle.std.specs.Map.{keys_of, lookup, remove_entry, set_value}
 use Rattle.std.specs.Option.{option_map}
-use Rattle.std.specs.Ordering.{is_eq, match_ordering, nat_cmp}
-use Rattle.std.specs.Slice.{IsItemAt}
-use Rattle.std.specs.declared.cmp.Ordering.{Ordering}
-use Rattle.std.specs.declared.cmp.Ordering.TheVariants.{Less, Equal, Greater}
-use Rattle.std.proofs.lemmas.Bool.{cases_Bool, ne_eqb}
-use Rattle.std.proofs.lemmas.Option.{slice_get_past, slice_get_read}
+use Rattle.std.specs.Ordering.{is_eq, nat_cmp}
+use Rattle.std.specs.declared.cmp.Ordering.TheVariants.{Less}
+use Rattle.std.proofs.lemmas.Bool.{cases_Bool}
 use Rattle.std.proofs.lemmas.Bool.Decides.{nat_tests}
-use Rattle.bq_index.specs.Edited.{edited_at, edited_if}
+use Rattle.bq_index.specs.Edited.{edited_at}
 use Rattle.bq_index.specs.Order.{InOrder}
 use Rattle.bq_jobs.specs.Numbering.{IsPaired, Numbering}
 use Rattle.bq_jobs.specs.Numbering.{name_of, put_at}
 use Rattle.bq_jobs.specs.Table.{changed_at, entries_at, put_value, with_value}
-use Rattle.bq_jobs.proofs.NumberingLemmas.{has_slot, some_is, tie_names, tied_names}
+use Rattle.bq_jobs.proofs.NumberingLemmas.{some_is, tie_names, tied_names}
 
 -- each number has a value
 abbrev pub AreValued : ℕ → List (List ℕ × ℕ) → Type 0
@@ -50,10 +47,7 @@ flip m n e = grind (arith, nat_tests)
 above_none : (x q : List ℕ) (ps : List (List ℕ × ℕ)) → AllByRecursion (λ y. slice_cmp nat_cmp x y ≡ Less) (keys_of ps)
     → is_eq (slice_cmp nat_cmp q x) ≡ true → lookup (is_at (slice_cmp nat_cmp q)) ps ≡ None
 above_none x q [] a t = refl
-above_none x q (p ∷ ps) a t =
-    let is : q ≡ x = tied_names q x t in
-    let less : slice_cmp nat_cmp q p.0 ≡ Less = ap (λ y. slice_cmp nat_cmp y p.0) is ∙ a.0 in
-    ap (λ o. cond (is_eq o) (Some p.1) (lookup (is_at (slice_cmp nat_cmp q)) ps)) less ∙ above_none x q ps a.1 t
+above_none x q (p ∷ ps) a t = grind (arith, tied_names q x t, above_none x q ps a.1 t)
 
 module _ (names : List (Option (List ℕ))) where
   there_by : (ps : List (List ℕ × ℕ)) → InOrder (slice_cmp nat_cmp) ps
@@ -70,28 +64,17 @@ module _ (names : List (Option (List ℕ))) where
 
   valued_by : (ps : List (List ℕ × ℕ)) → AreThere names ps → AreValued (length names) ps
   valued_by [] there = tt
-  valued_by (p ∷ ps) there =
-      (has_slot (record { numbers = []; names = names }) p.1 p.0 there.0, valued_by ps there.1)
+  valued_by (p ∷ ps) there = grind (arith, common_steps, valued_by ps there.1)
 
   -- a number that has no name belongs to no tube
   lacks_by : (n : ℕ) → get_or names n None ≡ None → (ps : List (List ℕ × ℕ)) → AreThere names ps → Lack n ps
   lacks_by n free [] there = tt
-  lacks_by n free (p ∷ ps) there = (
-    ne_eqb n p.1 (λ e. let same : Some p.0 ≡ None = sym there.0 ∙ ap (λ i. get_or names i None) (sym e) ∙ free in absurd cc),
-    lacks_by n free ps there.1,
-  )
+  lacks_by n free (p ∷ ps) there = grind (arith, lacks_by n free ps there.1)
 
   apart_from : (q : List ℕ) (n : ℕ) → get_or names n None ≡ Some q → (ps : List (List ℕ × ℕ)) → AreThere names ps
       → AllByRecursion (λ y. slice_cmp nat_cmp q y ≡ Less) (keys_of ps) → Lack n ps
   apart_from q n its [] there above = tt
-  apart_from q n its (p ∷ ps) there above = (
-    ne_eqb n p.1 (λ e.
-        let same : q ≡ p.0 = some_is q p.0 (sym its ∙ ap (λ i. get_or names i None) e ∙ there.0) in
-        let equal : is_eq (slice_cmp nat_cmp q p.0) ≡ true = ap (λ y. is_eq (slice_cmp nat_cmp q y)) (sym same) ∙ tie_names q q refl in
-        let less = ap is_eq above.0 in
-        absurd cc),
-    apart_from q n its ps there.1 above.1,
-  )
+  apart_from q n its (p ∷ ps) there above = grind (arith, tie_names q q refl, apart_from q n its ps there.1 above.1)
 
   apart_by : (ps : List (List ℕ × ℕ)) → InOrder (slice_cmp nat_cmp) ps → AreThere names ps → AreApart ps
   unfolding IsStrictlySortedBy
@@ -130,30 +113,17 @@ module _ {V : Type 0} where
   pub looked_up : (test : List ℕ → Bool) (vs : List V) (ps : List (List ℕ × ℕ)) → AreValued (length vs) ps
       → lookup test (entries_at ps vs) ≡ option_and_then (slice_get vs) (lookup test ps)
   looked_up test vs [] all = refl
-  looked_up test vs (p ∷ ps) all =
-      let own = has_value vs p.1 all.0 in
-      ap (λ o. lookup test (with_value p.0 o (entries_at ps vs))) own.1
-      ∙ ap (λ z. cond (test p.0) (Some own.0) z) (looked_up test vs ps all.1)
-      ∙ by_test own.0 own.1 (test p.0)
-    where
-      by_test : (v : V) → slice_get vs p.1 ≡ Some v → (b : Bool)
-          → cond b (Some v) (option_and_then (slice_get vs) (lookup test ps))
-          ≡ option_and_then (slice_get vs) (cond b (Some p.1) (lookup test ps))
-      by_test v e true = sym e
-      by_test v e false = refl
+  looked_up test vs (p ∷ ps) all = grind (arith, has_value vs p.1 all.0, looked_up test vs ps all.1)
 
   pub same_keys : (vs : List V) (ps : List (List ℕ × ℕ)) → AreValued (length vs) ps → keys_of (entries_at ps vs) ≡ keys_of ps
   same_keys vs [] all = refl
-  same_keys vs (p ∷ ps) all =
-      let own = has_value vs p.1 all.0 in
-      ap (λ o. keys_of (with_value p.0 o (entries_at ps vs))) own.1 ∙ ap (λ ks. p.0 ∷ ks) (same_keys vs ps all.1)
+  same_keys vs (p ∷ ps) all = grind (arith, has_value vs p.1 all.0, same_keys vs ps all.1)
 
   -- the entries are the same by two lists of values that have the same at the numbers of the tubes
   pub agreeing : (vs ws : List V) (ps : List (List ℕ × ℕ))
       → AllByRecursion (λ (p : List ℕ × ℕ). slice_get ws p.1 ≡ slice_get vs p.1) ps → entries_at ps ws ≡ entries_at ps vs
   agreeing vs ws [] all = refl
-  agreeing vs ws (p ∷ ps) all =
-      ap (λ o. with_value p.0 o (entries_at ps ws)) all.0 ∙ ap (λ es. with_value p.0 (slice_get vs p.1) es) (agreeing vs ws ps all.1)
+  agreeing vs ws (p ∷ ps) all = grind (arith, agreeing vs ws ps all.1)
 
   agree_by : (vs ws : List V) (n : ℕ) → ((m : ℕ) → (n == m) ≡ false → slice_get ws m ≡ slice_get vs m) → (ps : List (List ℕ × ℕ))
       → Lack n ps → AllByRecursion (λ (p : List ℕ × ℕ). slice_get ws p.1 ≡ slice_get vs p.1) ps
@@ -224,18 +194,7 @@ module _ {V : Type 0} where
         → slice_get vs n ≡ Some v → entries_at ps (changed_at f n vs) ≡ set_value test (entries_at ps vs) (f v)
     edit_set [] n v all apart own its = absurd cc
     edit_set (p ∷ ps) n v all apart own its = elim (cases_Bool (test p.0)) [
-      | inl t ↦
-          let same : p.1 ≡ n = some_is p.1 n (rw t at own) in
-          let here : slice_get vs p.1 ≡ Some v = ap (slice_get vs) same ∙ its in
-          let new : slice_get (changed_at f n vs) p.1 ≡ Some (f v) =
-          ap (slice_get (changed_at f n vs)) same ∙ changed_here f vs n ∙ ap (option_map f) its in
-          let rest : entries_at ps (changed_at f n vs) ≡ entries_at ps vs =
-          agreeing vs (changed_at f n vs) ps (agree_by vs (changed_at f n vs) n (changed_other f vs n) ps (subst (λ i. Lack i ps)
-          same apart.0)) in
-          ap (λ o. with_value p.0 o (entries_at ps (changed_at f n vs))) new
-          ∙ ap (λ es. (p.0, f v) ∷ es) rest
-          ∙ sym (ap (λ o. set_value test (with_value p.0 o (entries_at ps vs)) (f v)) here
-          ∙ ap (λ b. cond b ((p.0, f v) ∷ entries_at ps vs) ((p.0, v) ∷ set_value test (entries_at ps vs) (f v))) t)
+      | inl t ↦ grind (arith, changed_here, agreeing, agree_by, changed_other)
       | inr t ↦
           let tail : lookup test ps ≡ Some n = rw t at own in
           let other : (n == p.1) ≡ false = flip p.1 n (found_lacks test p.1 n ps apart.0 tail) in
@@ -248,33 +207,14 @@ module _ {V : Type 0} where
 
     pub edit_some : (ps : List (List ℕ × ℕ)) (n : ℕ) → AreValued (length vs) ps → AreApart ps → lookup test ps ≡ Some n
         → n < length vs → entries_at ps (changed_at f n vs) ≡ edited_at test f (entries_at ps vs)
-    edit_some ps n all apart own less =
-        let its = has_value vs n less in
-        edit_set ps n its.0 all apart own its.1
-        ∙ sym (ap (edited_if f (set_value test (entries_at ps vs)) (entries_at ps vs))
-        (looked_up test vs ps all ∙ ap (option_and_then (slice_get vs)) own ∙ its.1))
+    edit_some ps n all apart own less = grind (arith, common_steps, nat_tests, edit_set, looked_up, has_value vs n less)
 
   -- a tube that is added with its value
   module _ (name : List ℕ) (n : ℕ) (w : V) (vs : List V) (its : slice_get vs n ≡ Some w) where
-    insert_cases : (p : List ℕ × ℕ) (v : V) (ps : List (List ℕ × ℕ)) → slice_get vs p.1 ≡ Some v → (o : Ordering)
-        → entries_at (insert_entry (slice_cmp nat_cmp) ps name n) vs ≡ insert_entry (slice_cmp nat_cmp) (entries_at ps vs) name w
-        → entries_at (match_ordering o ((name, n) ∷ p ∷ ps) ((p.0, n) ∷ ps) (p ∷ insert_entry (slice_cmp nat_cmp) ps name n)) vs
-        ≡ match_ordering o ((name, w) ∷ (p.0, v) ∷ entries_at ps vs) ((p.0, w) ∷ entries_at ps vs)
-        ((p.0, v) ∷ insert_entry (slice_cmp nat_cmp) (entries_at ps vs) name w)
-    insert_cases p v ps own Less i =
-        ap (λ o. with_value name o (with_value p.0 (slice_get vs p.1) (entries_at ps vs))) its
-        ∙ ap (λ o. (name, w) ∷ with_value p.0 o (entries_at ps vs)) own
-    insert_cases p v ps own Equal i = ap (λ o. with_value p.0 o (entries_at ps vs)) its
-    insert_cases p v ps own Greater i =
-        ap (λ o. with_value p.0 o (entries_at (insert_entry (slice_cmp nat_cmp) ps name n) vs)) own ∙ ap (λ es. (p.0, v) ∷ es) i
-
     inserted_entries : (ps : List (List ℕ × ℕ)) → AreValued (length vs) ps
         → entries_at (insert_entry (slice_cmp nat_cmp) ps name n) vs ≡ insert_entry (slice_cmp nat_cmp) (entries_at ps vs) name w
     inserted_entries [] all = ap (λ o. with_value name o []) its
-    inserted_entries (p ∷ ps) all =
-        let own = has_value vs p.1 all.0 in
-        insert_cases p own.0 ps own.1 (slice_cmp nat_cmp name p.0) (inserted_entries ps all.1)
-        ∙ sym (ap (λ o. insert_entry (slice_cmp nat_cmp) (with_value p.0 o (entries_at ps vs)) name w) own.1)
+    inserted_entries (p ∷ ps) all = grind (arith, has_value vs p.1 all.0, inserted_entries ps all.1)
 
   pub inserted_at : (name : List ℕ) (n : ℕ) (w : V) (vs : List V) (ps : List (List ℕ × ℕ)) → n ≤ length vs → AreValued (length vs) ps
       → Lack n ps → entries_at (insert_entry (slice_cmp nat_cmp) ps name n) (put_value vs n w)
@@ -297,20 +237,4 @@ module _ {V : Type 0} where
   pub removed_entries : (test : List ℕ → Bool) (vs : List V) (ps : List (List ℕ × ℕ)) → AreValued (length vs) ps
       → entries_at (remove_entry test ps) vs ≡ remove_entry test (entries_at ps vs)
   removed_entries test vs [] all = refl
-  removed_entries test vs (p ∷ ps) all =
-      let own = has_value vs p.1 all.0 in
-      elim (cases_Bool (test p.0)) [
-        | inl t ↦ ap (λ b. entries_at (cond b ps (p ∷ remove_entry test ps)) vs) t
-            ∙ sym (ap (λ o. remove_entry test (with_value p.0 o (entries_at ps vs))) own.1
-            ∙ ap (λ b. cond b (entries_at ps vs) ((p.0, own.0) ∷ remove_entry test (entries_at ps vs))) t)
-        | inr t ↦ ap (λ b. entries_at (cond b ps (p ∷ remove_entry test ps)) vs) t
-            ∙ ap (λ o. with_value p.0 o (entries_at (remove_entry test ps) vs)) own.1
-            ∙ ap (λ es. (p.0, own.0) ∷ es) (removed_entries test vs ps all.1)
-            ∙ sym (ap (λ o. remove_entry test (with_value p.0 o (entries_at ps vs))) own.1
-            ∙ ap (λ b. cond b (entries_at ps vs) ((p.0, own.0) ∷ remove_entry test (entries_at ps vs))) t)
-      ]
-
-  -- an element that a slice lends
-  pub item_is : (xs : List V) (i : ℕ) (r : Option (Bor V)) → IsItemAt xs i r → option_map (λ (b : Bor V). b.now) r ≡ slice_get xs i
-  item_is xs i None h = sym (slice_get_past xs i h.3)
-  item_is xs i (Some x) h = sym (slice_get_read xs (length xs) i x.now refl h.3.0 h.1)
+  removed_entries test vs (p ∷ ps) all = grind (arith, has_value vs p.1 all.0, removed_entries test vs ps all.1)

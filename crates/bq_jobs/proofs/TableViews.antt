@@ -5,22 +5,20 @@ use Rattle.std.specs.Prelude.{slice_get, option_and_then}
 use Rattle.std.specs.BTreeMap.{is_at, insert_entry}
 use Rattle.std.specs.Cmp.Lexicographic.{nat_list_cmp_total, slice_cmp}
 use Rattle.std.specs.List.Sorted.{IsStrictlySortedBy}
-use Rattle.std.specs.Map.{keys_of, lookup, remove_entry}
+use Rattle.std.specs.Map.{keys_of, lookup}
 use Rattle.std.specs.Option.{option_map}
 use Rattle.std.specs.Ordering.{is_eq, nat_cmp}
 use Rattle.std.proofs.lemmas.Bool.{cases_Bool}
 use Rattle.std.proofs.lemmas.List.{length-map}
-use Rattle.bq_index.specs.Edited.{edited_at}
 use Rattle.bq_index.specs.Order.{InOrder}
 use Rattle.bq_jobs.specs.Names.{number_in}
-use Rattle.bq_jobs.specs.Numbering.{Extends, HasNumber, IsPaired, Numbering}
-use Rattle.bq_jobs.specs.Numbering.{name_of, number_of, put_at, without_known}
-use Rattle.bq_jobs.specs.Table.{Tabled, changed_at, entries_at, put_value}
+use Rattle.bq_jobs.specs.Numbering.{Extends, IsPaired, Numbering}
+use Rattle.bq_jobs.specs.Numbering.{number_of, put_at, without_known}
+use Rattle.bq_jobs.specs.Table.{Tabled, entries_at, put_value}
 use Rattle.bq_jobs.proofs.Choice.{lookup_inserted}
 use Rattle.bq_jobs.proofs.NumberingLemmas.{has_slot, names_many, tied_names}
-use Rattle.bq_jobs.proofs.TableLemmas.{AreValued, are_apart, are_lacking, are_valued}
-use Rattle.bq_jobs.proofs.TableLemmas.{edit_some, has_value, inserted_at, looked_up, put_as_many}
-use Rattle.bq_jobs.proofs.TableLemmas.{removed_entries, same_keys}
+use Rattle.bq_jobs.proofs.TableLemmas.{AreValued, are_valued, same_keys}
+use Rattle.bq_jobs.proofs.TableLemmas.{has_value, looked_up, put_as_many}
 
 -- each tube keeps its number when another one is added
 pub extends_by : (old new : List (List ℕ × ℕ)) (name : List ℕ) (n : ℕ) → lookup (is_at (slice_cmp nat_cmp name)) old ≡ None
@@ -28,8 +26,7 @@ pub extends_by : (old new : List (List ℕ × ℕ)) (name : List ℕ) (n : ℕ) 
 extends_by old new name n absent is = λ q m own.
     ap (lookup (is_at (slice_cmp nat_cmp q))) is ∙ lookup_inserted nat_list_cmp_total q name n old absent
     ∙ elim (cases_Bool (is_eq (slice_cmp nat_cmp q name))) [
-      | inl t ↦ absurd (let none : lookup (is_at (slice_cmp nat_cmp q)) old ≡ None =
-          ap (λ s. lookup (is_at (slice_cmp nat_cmp s)) old) (tied_names q name t) ∙ absent in cc)
+      | inl t ↦ grind (arith, tied_names q name t)
       | inr t ↦ ap (λ b. cond b (Some n) (lookup (is_at (slice_cmp nat_cmp q)) old)) t ∙ own
     ]
 
@@ -38,10 +35,10 @@ abbrev pub table_of : {V : Type 0} → Numbering → List V → Tabled V
 table_of k vs = record { entries = entries_at k.numbers vs; numbers = k.numbers }
 
 module _ {V : Type 0} (k : Numbering) (vs : List V) (h : IsPaired k × (length vs ≡ length k.names)) where
-  valued : AreValued (length vs) k.numbers
+  pub valued : AreValued (length vs) k.numbers
   valued = subst (λ m. AreValued m k.numbers) (sym h.1) (are_valued k h.0)
 
-  look : (q : List ℕ) → lookup (is_at (slice_cmp nat_cmp q)) (entries_at k.numbers vs) ≡ option_and_then (slice_get vs) (number_of q k)
+  pub look : (q : List ℕ) → lookup (is_at (slice_cmp nat_cmp q)) (entries_at k.numbers vs) ≡ option_and_then (slice_get vs) (number_of q k)
   look q = looked_up (is_at (slice_cmp nat_cmp q)) vs k.numbers valued
 
   order : InOrder (slice_cmp nat_cmp) (entries_at k.numbers vs)
@@ -50,7 +47,7 @@ module _ {V : Type 0} (k : Numbering) (vs : List V) (h : IsPaired k × (length v
   slot_of : (q : List ℕ) (n : ℕ) → number_of q k ≡ Some n → n < length vs
   slot_of q n own = let l = has_slot k n q (h.0.there q n own) in omega (arith, l, h.1)
 
-  absent_by : (q : List ℕ) (o : Option ℕ) → number_of q k ≡ o → option_and_then (slice_get vs) o ≡ None → o ≡ None
+  pub absent_by : (q : List ℕ) (o : Option ℕ) → number_of q k ≡ o → option_and_then (slice_get vs) o ≡ None → o ≡ None
   absent_by q None own none = refl
   absent_by q (Some n) own none = absurd (let its = has_value vs n (slot_of q n own) in let e = sym none ∙ its.1 in cc)
 
@@ -62,61 +59,22 @@ module _ {V : Type 0} (k : Numbering) (vs : List V) (h : IsPaired k × (length v
     table_order = subst (λ (s : Tabled V). InOrder (slice_cmp nat_cmp) s.entries) is order
 
     pub table_length : length k.numbers ≡ length t.entries
-    table_length = sym (length-map k.numbers (λ e. e.0)) ∙ sym (ap length (same_keys vs k.numbers valued))
-        ∙ length-map (entries_at k.numbers vs) (λ e. e.0) ∙ ap (λ (s : Tabled V). length s.entries) is
-
-    pub table_absent : (q : List ℕ) → lookup (is_at (slice_cmp nat_cmp q)) t.entries ≡ None → number_of q k ≡ None
-    table_absent q none = absent_by q (number_of q k) refl
-        (sym (look q) ∙ ap (λ (s : Tabled V). lookup (is_at (slice_cmp nat_cmp q)) s.entries) is ∙ none)
-
-    -- the number of a registered tube
-    pub known_at : (q n : List ℕ) → HasNumber q n t.numbers → option_map number_in (Some n) ≡ number_of q k
-    known_at q n own = sym (ap (λ (s : Tabled V). lookup (is_at (slice_cmp nat_cmp q)) s.numbers) is ∙ own)
+    table_length = grind (arith, length-map, same_keys, valued)
 
     -- the number of a tube, as a search reports it
     module _ (q : List ℕ) (o : Option (List ℕ)) (found : option_map number_in o ≡ number_of q k) where
-      looked : lookup (is_at (slice_cmp nat_cmp q)) t.entries ≡ option_and_then (slice_get vs) (option_map number_in o)
-      looked = sym (ap (λ (s : Tabled V). lookup (is_at (slice_cmp nat_cmp q)) s.entries) is) ∙ look q
-          ∙ ap (option_and_then (slice_get vs)) (sym found)
-
       pub not_there : o ≡ None → lookup (is_at (slice_cmp nat_cmp q)) t.entries ≡ None
-      not_there none = looked ∙ ap (λ i. option_and_then (slice_get vs) (option_map number_in i)) none
+      not_there none = grind (arith, look)
 
       pub value_there : (n : List ℕ) → o ≡ Some n → lookup (is_at (slice_cmp nat_cmp q)) t.entries ≡ slice_get vs (number_in n)
-      value_there n some = looked ∙ ap (λ i. option_and_then (slice_get vs) (option_map number_in i)) some
+      value_there n some = grind (arith, look)
 
       pub slot_there : (n : List ℕ) → o ≡ Some n → number_in n < length vs
       slot_there n some = slot_of q (number_in n) (sym found ∙ ap (option_map number_in) some)
 
-      -- a change of the value at its number
-      pub entries_changed : (f : V → V) (n : List ℕ) → o ≡ Some n
-          → entries_at k.numbers (changed_at f (number_in n) vs) ≡ edited_at (is_at (slice_cmp nat_cmp q)) f t.entries
-      entries_changed f n some =
-          edit_some (is_at (slice_cmp nat_cmp q)) f vs k.numbers (number_in n) valued (are_apart k h.0)
-          (sym found ∙ ap (option_map number_in) some) (slot_there n some)
-          ∙ ap (λ (s : Tabled V). edited_at (is_at (slice_cmp nat_cmp q)) f s.entries) is
-
-    -- a tube that is added
-    pub entries_inserted : (new : List (List ℕ × ℕ)) (name : List ℕ) (n : ℕ) (w : V) → name_of n k ≡ None → n ≤ length k.names
-        → new ≡ insert_entry (slice_cmp nat_cmp) k.numbers name n
-        → entries_at new (put_value vs n w) ≡ insert_entry (slice_cmp nat_cmp) t.entries name w
-    entries_inserted new name n w free near numbers =
-        ap (λ ps. entries_at ps (put_value vs n w)) numbers
-        ∙ inserted_at name n w vs k.numbers (omega (arith, near, h.1)) valued (are_lacking k h.0 n free)
-        ∙ ap (λ (s : Tabled V). insert_entry (slice_cmp nat_cmp) s.entries name w) is
-
     pub table_extends : (new : List (List ℕ × ℕ)) (name : List ℕ) (n : ℕ) → lookup (is_at (slice_cmp nat_cmp name)) t.entries ≡ None
         → new ≡ insert_entry (slice_cmp nat_cmp) k.numbers name n → Extends t.numbers new
-    table_extends new name n absent numbers =
-        subst (λ (s : Tabled V). Extends s.numbers new) is (extends_by k.numbers new name n (table_absent name absent) numbers)
-
-    -- a tube that is removed
-    pub entries_removed : (name : List ℕ) (new : Numbering) → new ≡ without_known name k
-        → entries_at new.numbers vs ≡ remove_entry (is_at (slice_cmp nat_cmp name)) t.entries
-    entries_removed name new after =
-        ap (λ (m : Numbering). entries_at m.numbers vs) after
-        ∙ removed_entries (is_at (slice_cmp nat_cmp name)) vs k.numbers valued
-        ∙ ap (λ (s : Tabled V). remove_entry (is_at (slice_cmp nat_cmp name)) s.entries) is
+    table_extends new name n absent numbers = grind (arith, extends_by, absent_by, look)
 
   pub many_inserted : (new : Numbering) (name : List ℕ) (n : ℕ) (w : V) → n ≤ length k.names
       → new.names ≡ put_at k.names n (Some name) → length (put_value vs n w) ≡ length new.names

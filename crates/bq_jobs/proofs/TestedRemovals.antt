@@ -1,4 +1,5 @@
 -- A removal that asks a test first, of the records and of their jobs with the names of their tubes.
+use Rattle.std.proofs.Common.{arith}
 use Rattle.std.proofs.Common.{◌≡◌, ◌+◌, ℕ, Bool, true, false, cond, List, Option, Some, None, is_some, map, refl, sym, ap, ◌∙◌, subst}
 use Rattle.std.specs.Prelude.{if◌then◌else◌}
 use Rattle.std.specs.Option.{IfSome, option_map}
@@ -13,8 +14,7 @@ use Rattle.bq_jobs.specs.Room.{RemovesIf}
 use Rattle.bq_jobs.specs.Told.{removed_told}
 use Rattle.bq_jobs.specs.declared.job_orders.JobOrders.TheInside.{Inside as Parts}
 use Rattle.bq_jobs.specs.Inside.{jobs_of}
-use Rattle.bq_jobs.proofs.NamedJobs.{counted_as, job_named, number_removed, numbered_found, registered_without, told_removed}
-use Rattle.bq_jobs.proofs.NamedJobs.{without_named}
+use Rattle.bq_jobs.proofs.NamedJobs.{counted_as, job_named, number_removed, numbered_found, registered_without, without_named}
 use Rattle.bq_jobs.proofs.Shelved.{AreShelved, found_in, found_own}
 
 -- the job that an id finds, if it passes
@@ -56,8 +56,7 @@ module _ (k : Numbering) (id : ℕ) (rows : List Job) (p : Job → Bool) where
   pub told_removed_if : AsksNoTube p
       → option_map (λ r. r.1) (option_map (removed_told k) (option_map numbered_removal (passing p (job_with id rows))))
       ≡ option_map removed_from (passing p (job_with id (map (named k) rows)))
-  told_removed_if no_tube = told_removed k (passing p (job_with id rows))
-      ∙ ap (option_map removed_from) (sym (passing_named k p no_tube id rows))
+  told_removed_if no_tube = grind (arith, passing_named)
 
   pub number_removed_if : AreRegistered k rows
       → IfSome (option_map (removed_told k) (option_map numbered_removal (passing p (job_with id rows))))

@@ -51,6 +51,7 @@ fn value_at<V: Drop>(values: &[V], number: u32) -> Option<&V>
 }
 
 // Changes the value at a number in place. Returns what the change returns.
+#[tactic(auto, using(crate::proofs::TableLemmas::changed_by))]
 fn edit_at<V: Drop, T: Drop, E: Edit<V, T>>(values: &mut Vec<V, Global>, number: u32, edit: &E) -> T
     requires { number < length values.old.items }
     ensures told { Some result ≡ option_map (E.told edit.now) (slice_get values.old.items number) }
@@ -60,6 +61,7 @@ fn edit_at<V: Drop, T: Drop, E: Edit<V, T>>(values: &mut Vec<V, Global>, number:
 }
 
 // Replaces the value at a number, or appends it if the number is the next one.
+#[tactic(auto, using(crate::proofs::TableLemmas::put_is_set_value, crate::proofs::TableLemmas::put_is_push))]
 fn put<V: Drop>(values: &mut Vec<V, Global>, number: u32, value: V)
     requires room { vec_len values.old < vec_capacity values.old }
     requires near { number ≤ length values.old.items }
@@ -157,6 +159,7 @@ impl<V: Drop> TubeTable<V> {
     }
 
     /// Returns the number of tubes. The contract also states that their names ascend.
+    #[tactic(auto, using(crate::proofs::TableViews::table_length, crate::proofs::TableViews::table_order))]
     pub fn len(&self) -> usize
         ensures len { result ≡ length self.now.entries }
         ensures ordered { InOrder (slice_cmp nat_cmp) self.now.entries }
@@ -165,6 +168,7 @@ impl<V: Drop> TubeTable<V> {
     }
 
     /// Returns the tubes and their numbers.
+    #[tactic(auto, using(crate::proofs::TableViews::table_keys))]
     pub fn tubes(&self) -> &NumberedTubes
         ensures numbers { result.now.numbers ≡ self.now.numbers }
         ensures keys { keys_of self.now.entries ≡ keys_of self.now.numbers }
@@ -174,6 +178,7 @@ impl<V: Drop> TubeTable<V> {
 
     /// Returns the number of a tube, if it is registered. If the tube has the number `hint`, no
     /// search is needed.
+    #[tactic(auto, using(crate::proofs::TableViews::table_keys))]
     pub fn number_of(&self, name: &TubeName, hint: TubeNumber) -> Option<TubeNumber>
         ensures number { option_map number_in result
             ≡ lookup (is_at (slice_cmp nat_cmp name.now)) self.now.numbers }
@@ -184,6 +189,7 @@ impl<V: Drop> TubeTable<V> {
 
     /// Returns the value of a tube, if it is registered. If the tube has the number `hint`, no
     /// search is needed.
+    #[tactic(auto, using(crate::proofs::TableViews::not_there, crate::proofs::TableViews::table_order))]
     pub fn get(&self, name: &TubeName, hint: TubeNumber) -> Option<&V>
         ensures value { option_map (λ v. v.now) result
             ≡ lookup (is_at (slice_cmp nat_cmp name.now)) self.now.entries }
@@ -204,6 +210,7 @@ impl<V: Drop> TubeTable<V> {
 
     /// Changes the value of a tube in place. Returns what the change returns, or `None` if the tube
     /// is not registered. If the tube has the number `hint`, no search is needed.
+    #[tactic(auto, using(crate::proofs::TableViews::not_there, crate::proofs::TableViews::table_order))]
     pub fn edit<T: Drop, E: Edit<V, T>>(
         &mut self,
         name: &TubeName,

@@ -185,6 +185,7 @@ fn is_named(slots: &[Slot], number: u32, name: &TubeName) -> bool
 }
 
 // Changes the slot of a number. Returns the next free number that the slot named before.
+#[tactic(auto, using(crate::proofs::FreeLemmas::names_changed, crate::proofs::FreeLemmas::nexts_changed))]
 fn change(slots: &mut Vec<Slot, Global>, number: u32, slot: Slot) -> u32
     requires { number < length slots.old.items }
     ensures names { names_in slots.new.items ≡ put_at (names_in slots.old.items) number slot.name }

@@ -53,8 +53,7 @@ module _ (n : ℕ) (f : SeatRecord → SeatRecord) (keeps : (s : SeatRecord) →
   count_changed p affected old seats h fits found same =
       let before = parted p n 0 seats h in
       let after = parted p n 0 (changed_at n f seats) (grind (arith, common_steps, keys_of_map, all_always, length-map)) in
-      let few = count_by-le-length p (changed_at n f seats) in
-      grind (arith, common_steps, others_left seats, found_changed seats, length-map seats (λ s. if s.number == n then f s else s))
+      grind (arith, count_by-le-length, others_left, found_changed, length-map)
 
 -- the count is above 0 if and only if an element passes
 pub some_pass : {X : Type 0} (p : X → Bool) (xs : List X) → nat_lt 0 (count_by p xs) ≡ list_any p xs

@@ -24,8 +24,7 @@ module _ (name : List ℕ) (es : List TubeRecord) (missing : has_entry name es �
 -- an entry changes, but not its name
 pub crowds_kept : (f : TubeRecord → TubeRecord) → ((t : TubeRecord) → (f t).name ≡ t.name) → (crowds : List Crowd) (seats : List SeatRecord)
     (es : List TubeRecord) → AreCrowds crowds seats es → AreCrowds crowds seats (map f es)
-crowds_kept f same crowds seats es was =
-    record { each = was.each ∙ values_kept (crowd_of seats) f same es; seated = was.seated }
+crowds_kept f same crowds seats es was = grind (arith, values_kept (crowd_of seats) f same es)
 
 -- The counts found under a name are those of its clients.
 pub named_crowd : (name : List ℕ) (g : List ℕ → Crowd) (es : List TubeRecord) → has_entry name es ≡ true

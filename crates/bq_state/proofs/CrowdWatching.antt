@@ -1,5 +1,5 @@
 -- Counts of the clients at tubes after a client watches one more tube, or one fewer.
-use Rattle.std.proofs.Common.{Bool, List, Some, [], ap, arith, false, filter, if◌then◌else◌, length, not, refl, set, slice_get, sym, true}
+use Rattle.std.proofs.Common.{Bool, List, Some, [], ap, arith, false, filter, if◌then◌else◌, length, not, refl, set, slice_get, true}
 use Rattle.std.proofs.{Common.{ℕ, ◌&&◌, ◌++◌, ◌∙◌, ◌∷◌, ◌≡◌, ◌≤◌}, Math.Bool.or-false, lemmas.{Cmp.nat_list_eq_equiv, Grind.common_steps}}
 use Rattle.std.{proofs.lemmas.{List.Folds.list_any-append, Map.Views.any-filter_same}, specs.List.list_any}
 use Rattle.bq_job.{proofs.WatchedLemmas.{none_twice_behind, none_twice_filter}, specs.{beside.none_twice, machine.{SeatRecord, TubeRecord}}}
@@ -48,8 +48,7 @@ module _ (name : List ℕ) (i : ℕ) (s : SeatRecord) (crowds : List Crowd) (sea
   -- the names that are left
   ignored : (other : List ℕ) (b : Bool) → is_same_name name other ≡ b
       → list_any (is_same_name other) (filter (λ n. not (is_same_name name n)) s.watched) ≡ (not b && watches other s)
-  ignored other b e = any-filter_same (is_same_name other) (λ n. not (is_same_name name n)) (not b)
-      (λ n same. ap (λ m. not (is_same_name name m)) (sym (same_name other n same)) ∙ ap not e) s.watched
+  ignored other b e = grind (arith, any-filter_same, same_name)
 
   -- or one fewer.
   pub crowds_ignoring : AreCrowds crowds seats es → AreCrowds (crowds_at name (crowd_without (share_of_watching name s)) es crowds)

@@ -88,8 +88,7 @@ module _ (kept : Tabled KeptTube) (ends : CatalogSeen PauseEnd (Unit {0})) (h : 
   first_is =
       let all = all_from kept.numbers (first_end ends.entries) (map record_at kept.entries) (λ e there.
       first_least ends.entries s e (h.known e ∙ there)) in
-      let met = first_met kept.numbers ends.entries (map record_at kept.entries) h.known in
-      sym (least_found kept.numbers (first_end ends.entries) None (map record_at kept.entries) tt all met)
+      grind (arith, least_found, first_met kept.numbers ends.entries (map record_at kept.entries) h.known)
 
   -- The first end, if it is due, is that of a pause.
   pub over_in : (moment : ℕ) (e : PauseEnd) → Some e ≡ if_over moment (first_end ends.entries)

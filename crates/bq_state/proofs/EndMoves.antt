@@ -1,7 +1,7 @@
 -- How the ends of pauses change when a pause changes, or a tube is added or removed.
 use Rattle.std.proofs.Common.{List, None, Option, Some, [], ap, arith, cond, false, if◌then◌else◌, is_some, length, map, refl, sym, true, ℕ}
 use Rattle.std.proofs.Common.{◌+◌, ◌<◌, ◌∙◌, ◌∷◌, ◌≡◌, ◌≤◌, ◌⊎◌}
-use Rattle.std.proofs.lemmas.{Bool.{eqb-true, or_parts}, Cmp.nat_list_eq_equiv, Grind.common_steps, List.length-map}
+use Rattle.std.proofs.lemmas.{Bool.{or_parts}, Cmp.nat_list_eq_equiv, Grind.common_steps, List.length-map}
 use Rattle.std.specs.{BTreeMap.insert_entry, Cmp.Lexicographic.{nat_list_cmp_total, slice_cmp}, List.{AllByRecursion as All, list_any}}
 use Rattle.std.specs.{Map.{keys_of, lookup, remove_entry}, Option.{ForSome, option_map}, Ordering.nat_cmp, Prelude.{count_by, nat_le, ◌&&◌}}
 use Rattle.bq_index.{proofs.Order.{length_inserted, length_lost, order_remove}, specs.{Catalog.CatalogSeen, Order.InOrder}}
@@ -59,20 +59,13 @@ pub no_end : (name : List ℕ) (kept : Tabled KeptTube) (k : Numbering) (r : Opt
     → k.numbers ≡ kept.numbers → keys_of kept.entries ≡ keys_of kept.numbers → r ≡ None
     → None ≡ end_of (number_at name kept.numbers) (pause_at name (map record_at kept.entries))
 no_end name kept k r is same keys none =
-    let absent : lookup (is_named_at name) kept.numbers ≡ None =
-    ap (lookup (is_named_at name)) (sym same) ∙ sym is ∙ ap (option_map number_in) none in
-    let gone = have_numbers kept.entries kept.numbers keys name in
-    let found = found_any name kept.entries in
-    grind (arith, common_steps, pause_is name kept.entries)
+    grind (arith, have_numbers kept.entries kept.numbers keys name, found_any name kept.entries, pause_is name kept.entries)
 
 pub some_end : (name : List ℕ) (kept : Tabled KeptTube) (k : Numbering) (n : List ℕ) (t : KeptTube) (r : Option PauseEnd)
     → n ≡ number_in n ∷ [] → Some (number_in n) ≡ number_of name k → k.numbers ≡ kept.numbers
     → Some t ≡ lookup (is_named_at name) kept.entries → r ≡ end_of n t.pause
     → r ≡ end_of (number_at name kept.numbers) (pause_at name (map record_at kept.entries))
-some_end name kept k n t r alone is same found end =
-    end ∙ ap (λ m. end_of m t.pause) (number_read name kept.numbers n alone (is ∙ ap (lookup (is_named_at name)) same))
-    ∙ ap (end_of (number_at name kept.numbers))
-    (ap (λ o. pause_in (option_map (record_of name) o)) found ∙ sym (pause_is name kept.entries))
+some_end name kept k n t r alone is same found end = grind (arith, number_read, pause_is)
 
 -- The end of a tube's pause is one of the ends.
 pub end_held : (name : List ℕ) (kept : Tabled KeptTube) (ends : CatalogSeen PauseEnd (Unit {0})) (from : Option PauseEnd)
@@ -92,10 +85,6 @@ module _ (number : List ℕ) (old next : Option Pause) (kept new : Tabled KeptTu
 
   known_left : (q : PauseEnd) → has_end q mid.entries ≡ (if is_same_name number q.number then false else has_end q ends.entries)
   known_left q = grind (arith, common_steps, has_left, h.known q, m.was q.until, same_name number q.number)
-
-  -- There is a box for the new end,
-  pub end_fits : ForSome to (λ _. 0 < mid.spare)
-  end_fits e some = grind (arith, common_steps)
 
   -- which is absent,
   pub end_absent : ForSome to (λ e. found_end e mid.entries ≡ None)
@@ -189,8 +178,7 @@ module _ (name : List ℕ) where
 
   renumbered_left : (numbers : List (List ℕ × ℕ)) (es : List Named) → InOrder (slice_cmp nat_cmp) es → (q : PauseEnd)
       → is_end_in (numbers_left numbers) q (map record_at (left es)) ≡ is_end_in numbers q (map record_at (left es))
-  renumbered_left numbers es order q = renumbered numbers (numbers_left numbers) (λ k other. number_left name k other numbers) q
-      (map record_at (left es)) (no_entry_left es order)
+  renumbered_left numbers es order q = grind (arith, renumbered, number_left, no_entry_left)
 
   told_left : (numbers : List (List ℕ × ℕ)) (es : List Named) → All (IsTold numbers name) (map record_at es)
       → All (IsTold numbers name) (map record_at (left es))
@@ -200,12 +188,7 @@ module _ (name : List ℕ) where
   is_left : (numbers : List (List ℕ × ℕ)) (es : List Named) → InOrder (slice_cmp nat_cmp) es → All (IsTold numbers name) (map record_at es)
       → (until : ℕ)
       → is_end_in (numbers_left numbers) (record { until = until; number = number_at name numbers }) (map record_at (left es)) ≡ false
-  is_left numbers es order told until =
-      renumbered_left numbers es order (record { until = until; number = number_at name numbers })
-      ∙ named_ends name numbers until (map record_at (left es))
-      (in_order (left es) (order_remove (slice_cmp nat_cmp) (is_named_at name) es order))
-      (told_left numbers es told)
-      ∙ ap (ends_at until) (pause_is name (left es) ∙ ap (λ o. pause_in (option_map (record_of name) o)) (none_left es order))
+  is_left numbers es order told until = grind (arith, renumbered_left, named_ends, in_order, order_remove, told_left, pause_is, none_left)
 
   count_left : (es : List Named) → paused_count (left es) + cond (is_some (pause_at name (map record_at es))) 1 0 ≡ paused_count es + 0
   count_left [] = refl
@@ -239,15 +222,7 @@ module _ (name : List ℕ) where
       → last.entries ≡ ends.entries → length kept.entries + 1 ≤ length last.entries + last.spare → AreEnds new last
   ends_provided n kept new ends last h none e numbers same room =
       let parts = fresh (insert_entry (slice_cmp nat_cmp) kept.numbers name n) (map record_at kept.entries) none in
-      let many : length new.entries ≡ length kept.entries + 1 =
-      sym (length-map new.entries record_at) ∙ ap length e ∙ parts.2 ∙ ap (λ m. m + 1) (length-map kept.entries record_at) in
-      record {
-        known = λ q. rw (same, e, numbers) (h.known q ∙ sym (parts.0 q
-            ∙ renumbered kept.numbers (insert_entry (slice_cmp nat_cmp) kept.numbers name n)
-            (λ k other. number_inserted name k other n kept.numbers) q (map record_at kept.entries) none));
-        counted = rw (same, e) (h.counted ∙ sym parts.1);
-        roomy = rw many room;
-      }
+      grind (arith, length-map, renumbered, number_inserted)
 
 -- A change of what is kept about one tube, as an entry and as a record.
 module _ (name : List ℕ) (f : KeptTube → KeptTube) (g : TubeRecord → TubeRecord)
@@ -258,8 +233,7 @@ module _ (name : List ℕ) (f : KeptTube → KeptTube) (g : TubeRecord → TubeR
   edit_is = ap (map record_at) e ∙ edit_change name f g made kept.entries (in_order kept.entries order)
 
   as_many : length last.entries ≡ length kept.entries
-  as_many = sym (length-map last.entries record_at) ∙ ap length edit_is ∙ length-map (map record_at kept.entries) (changed_one name g)
-      ∙ length-map kept.entries record_at
+  as_many = grind (arith, length-map, edit_is)
 
   pub edit_moves : AreTold kept → Moves (number_at name kept.numbers) (pause_at name (map record_at kept.entries))
       (pause_at name (map record_at last.entries)) kept last
@@ -277,11 +251,7 @@ module _ (name : List ℕ) (f : KeptTube → KeptTube) (g : TubeRecord → TubeR
 
   pub edit_stays : ((t : TubeRecord) → (g t).pause ≡ t.pause) → (ends : CatalogSeen PauseEnd (Unit {0})) → AreEnds kept ends
       → AreEnds last ends
-  edit_stays paused ends h = record {
-    known = λ q. rw (n, edit_is) (h.known q ∙ sym (same_ends name g keeps kept.numbers paused q (map record_at kept.entries)));
-    counted = rw edit_is (h.counted ∙ sym (same_count name g keeps paused (map record_at kept.entries)));
-    roomy = rw as_many h.roomy;
-  }
+  edit_stays paused ends h = grind (arith, edit_is, same_ends, same_count, as_many)
 
 -- How a pause changes, and a count.
 pub change_moves : (name : List ℕ) (what : TubeChange) (kept last : Tabled KeptTube) → InOrder (slice_cmp nat_cmp) kept.entries
@@ -312,13 +282,11 @@ module _ (moment : ℕ) (name : List ℕ) where
 -- the end of a pause that is due, and of one that has ended
 from_at : (until : ℕ) (number : List ℕ) (p : Option Pause) → ends_at until p ≡ true
     → Some (record { until = until; number = number }) ≡ end_of number p
-from_at until number None h = absurd cc
-from_at until number (Some p) h = grind (arith, common_steps, eqb-true)
+from_at until number p h = grind arith
 
 to_at : (moment : ℕ) (number : List ℕ) (e : PauseEnd) (p : Option Pause) → Some e ≡ end_of number p → nat_le e.until moment ≡ true
     → None ≡ end_of number (pause_after_timers moment p)
-to_at moment number e None is h = refl
-to_at moment number e (Some p) is h = grind (arith, common_steps)
+to_at moment number e p is h = grind arith
 
 -- the first end, which is due
 module _ (moment : ℕ) (e : PauseEnd) (name : List ℕ) (kept last : Tabled KeptTube) (ends : CatalogSeen PauseEnd (Unit {0}))
@@ -338,8 +306,7 @@ module _ (moment : ℕ) (e : PauseEnd) (name : List ℕ) (kept last : Tabled Kep
       ∙ sym (h.known e) ∙ (one_over moment e ends.entries come).0)
 
   over_to : None ≡ end_of (number_at name kept.numbers) (pause_at name (map record_at last.entries))
-  over_to = rw (last_is, pause_then moment name (map record_at kept.entries)) (to_at moment (number_at name kept.numbers) e
-      (pause_at name (map record_at kept.entries)) over_from (one_over moment e ends.entries come).1)
+  over_to = grind (arith, last_is, pause_then, to_at, over_from)
 
   over_moves : Moves (number_at name kept.numbers) (pause_at name (map record_at kept.entries)) (pause_at name (map record_at last.entries))
       kept last

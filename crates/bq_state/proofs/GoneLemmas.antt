@@ -10,7 +10,7 @@ use Rattle.bq_job.{proofs.ListLemmas.{all_at, all_before_map, found_passes}, spe
 use Rattle.bq_job.specs.{machine.{greatest, raised}, reading.TubeName.is_same_name}
 use Rattle.bq_state.proofs.{CrowdLemmas.has_seats_of, CrowdPlaces.exists_by_counts, MaybeGoneLemmas.{alive_but, alive_or, all_kept_alive}}
 use Rattle.bq_state.proofs.{MaybeGoneLemmas.others_alive, NamedLemmas.ties, TallyPlaces.has_jobs_in, TubeLemmas.same_name}
-use Rattle.bq_state.specs.{Counting.AreCounts, Crowds.crowd_in, KeptTubes.{KeptTube, Named, crowd_kept, is_alive_at, is_from, is_gone_by}}
+use Rattle.bq_state.specs.{Counting.AreCounts, KeptTubes.{KeptTube, Named, is_alive_at, is_from, is_gone_by}}
 use Rattle.bq_state.specs.KeptTubes.{is_gone_from, is_named_at, record_at, tally_kept, tubes_kept, with_alive, without_gone}
 use Rattle.bq_state.specs.{MaybeGoneTubes.AreAlive, Tallies.{tallies_of, tally_in}, TubeEntries.{AreInOrder, is_tube_of, names_alive}}
 use Rattle.bq_state.specs.declared.{known.maybe_gone.MaybeGone.TheVariants.Of, tubes.walks.HowMany.HowMany}
@@ -56,8 +56,7 @@ module _ (jobs : List Job) (seats : List SeatRecord) where
   filter_tallied p (x ∷ es) h = grind (arith, filter_tallied p es (rest_tallied x es h))
 
   pub left_tallied : (name : List ℕ) (es : List Named) → AreTallied jobs seats es → AreTallied jobs seats (without_gone name es)
-  left_tallied name es h = let test = is_named_at name in
-      grind (arith, part_left tally_kept (tally_in jobs) test es h.0, part_left crowd_kept (crowd_in seats) test es h.1)
+  left_tallied name es h = grind (arith, part_left)
 
   -- By its counts a tube exists if and only if it exists by the jobs and seats.
   alive_is : (x : Named) (es : List Named) → AreTallied jobs seats (x ∷ es) → is_alive_at x ≡ is_tube_of jobs seats x.0

@@ -1,6 +1,6 @@
 -- What is known without a search follows each change of the jobs, the seats and the tubes.
 use Rattle.std.proofs.Common.{Bool, List, None, Some, [], arith, false, filter, fold, if◌then◌else◌, is_some, length, map, not, set}
-use Rattle.std.proofs.Common.{ap, refl, slice_get, subst, sym, true, ℕ, ◌&&◌, ◌++◌, ◌==◌, ◌^◌, ◌∙◌, ◌∷◌, ◌≡◌, ◌≤◌}
+use Rattle.std.proofs.Common.{slice_get, subst, sym, true, ℕ, ◌&&◌, ◌++◌, ◌^◌, ◌∙◌, ◌∷◌, ◌≡◌, ◌≤◌}
 use Rattle.std.proofs.lemmas.Grind.{common_steps}
 use Rattle.std.{proofs.lemmas.List.length-map, specs.{List.list_any, Option.option_map}}
 use Rattle.bq_job.specs.{declared.job.Job.Job, machine.{SeatRecord, TubeRecord, empty_seat, greatest, is_ready, is_ready_state}}
@@ -70,20 +70,7 @@ module _ (st : CoreParts) where
       let f = changed what in
       let of = told_of (moved_by f) (job_with id st.jobs.jobs) m (sym is) in
       let fits = few_jobs st.next_id st.jobs.jobs st.sound.ids ordered in
-      let entries = entries_of_changed (λ k. if k.id == id then f k else k) (one_tube id f (tube_kept what)) _ _ _ st.sound.entries in
-      let ids = ids_of_map (λ k. if k.id == id then f k else k) 1 st.next_id st.jobs.jobs (one_id id f (id_kept what)) st.sound.ids in
-      let wanted = waiters_counted m.tube st.waiting st.tubes.crowds st.seats.items st.tubes.entries st.sound.entries.of_seats
-      st.sound.known.crowds st.sound.waiting in
-      let known = so_with_moved id what of.job m (is_wanted_by st.waiting st.tubes m) (has_waiting_holder m.to.state st.seats.items)
-      of.there of.is fits (ap (λ b. is_ready_state m.to.state && b) wanted) refl in
-      record {
-        entries = entries;
-        numbered = st.sound.numbered;
-        next = st.sound.next;
-        ids = ids;
-        waiting = st.sound.waiting;
-        known = known;
-      }
+      grind (arith, entries_of_changed, one_tube, tube_kept, ids_of_map, one_id, id_kept, waiters_counted, so_with_moved)
 
   -- A seat changes, and so do its shares at its tubes,
   pub so_with_seat : (n : ℕ) (what : SeatChange) → length st.seats.items ≤ greatest → may_wait what (seat_with n st.seats.items) ≡ true
@@ -145,9 +132,7 @@ module _ (st : CoreParts) where
 
   -- If no tube may have gone, none is dropped.
   pub none_forgotten : is_none_gone st.known.maybe_gone ≡ true → machine_of st ≡ forgetting (machine_of st)
-  none_forgotten none =
-      let all = all_stay st.known.maybe_gone st.jobs.jobs st.seats.items st.tubes.entries none st.sound.known.alive in
-      ap (λ tubes. record (machine_of st) { tubes = tubes }) (sym (ap (filter is_counted) all) ∙ filters_swap is_counted _ st.tubes.entries)
+  none_forgotten none = grind (arith, all_stay, filters_swap)
 
   -- No waiting client can receive a job.
   pub so_with_nothing : next_job (machine_of st) ≡ None

@@ -8,7 +8,7 @@ use Rattle.bq_job.specs.{machine.{is_seated_at, job_with, watching, with_record}
 use Rattle.bq_jobs.{proofs.Changes.{changed, found_id}, specs.Kept.{with_added, without}}
 use Rattle.bq_state.{proofs.TubeLemmas.{before_differs, same_itself, same_name}, specs.TubeEntries.{has_entry, is_tube_of, provided}}
 use Rattle.bq_state.specs.MaybeGoneTubes.{AreAlive, is_none_gone, may_be_gone, with_existing, with_gone}
-use Rattle.bq_state.specs.declared.known.maybe_gone.MaybeGone.{MaybeGone, TheVariants.{Any, Nothing, Of}}
+use Rattle.bq_state.specs.declared.known.maybe_gone.MaybeGone.{MaybeGone, TheVariants.{Nothing, Of}}
 
 both_same : (a b c : List ℕ) → is_same_name a b ≡ true → is_same_name a c ≡ true → is_same_name c b ≡ true
 both_same a b c h i = grind (arith, same_name a b, same_name a c, same_itself)
@@ -102,9 +102,7 @@ all_kept_alive jobs seats entries all = grind (arith, common_steps, alive_or, fi
 
 pub all_stay : (maybe : MaybeGone) (jobs : List Job) (seats : List SeatRecord) (entries : List TubeRecord) → is_none_gone maybe ≡ true
     → AreAlive maybe jobs seats entries → filter (λ t. is_tube_of jobs seats t.name) entries ≡ entries
-all_stay Nothing jobs seats entries none all = all_kept_alive jobs seats entries all
-all_stay (Of gone) jobs seats entries none all = absurd cc
-all_stay Any jobs seats entries none all = absurd cc
+all_stay maybe jobs seats entries none all = grind (arith, all_kept_alive)
 
 -- If one tube may have gone, all other entries are kept.
 pub alive_but : (b c : Bool) → (b || c) ≡ true → c ≡ false → (b || false) ≡ true
@@ -112,8 +110,7 @@ alive_but b c h e = grind (arith, common_steps)
 
 pub others_alive : (name : List ℕ) (jobs : List Job) (seats : List SeatRecord) (entries : List TubeRecord)
     → All (λ u. is_name_before name u.name ≡ true) entries → AreAlive (Of name) jobs seats entries → AreAlive Nothing jobs seats entries
-others_alive name jobs seats entries later all =
-    all_weaker _ _ entries (λ t b. grind (arith, common_steps, before_differs)) (all_both _ _ entries later all)
+others_alive name jobs seats entries later all = grind (arith, all_weaker, before_differs, all_both _ _ entries later all)
 
 -- after that, each entry is of a tube that exists
 pub alive_forgotten : (jobs : List Job) (seats : List SeatRecord) (entries : List TubeRecord)

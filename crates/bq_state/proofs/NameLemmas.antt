@@ -76,9 +76,7 @@ pub placed : (x : Bor (List ℕ)) (names : List (Bor (List ℕ)))
     → (let i = prefix_len (λ other. is_name_before other.now x.now) names in
     names_of (if is_named x.now (slice_get names i) then names else insert names i x)) ≡ with_name (names_of names) x.now
 placed x [] = refl
-placed x (o ∷ names) =
-    let apart = not_same o.now x.now (is_same_name x.now o.now) refl in
-    grind (arith, common_steps, cases_Bool, not_before o.now x.now, after, placed x names)
+placed x (o ∷ names) = grind (arith, after, not_same o.now x.now (is_same_name x.now o.now) refl, not_before o.now x.now, placed x names)
 
 -- a call that succeeds
 pub when_ok : {T E X : Type 0} (r : Result T E) (a b : X) → IsOk r → (if is_ok r then a else b) ≡ a

@@ -122,8 +122,7 @@ kept_alike e t w n = λ i. record { entries = e i; tallies = t i; crowds = w i; 
 
 -- A tube has a number exactly if it has an entry.
 pub have_numbers : (es : List Named) (numbers : List (List ℕ × ℕ)) → keys_of es ≡ keys_of numbers → HaveNumbers numbers (map record_at es)
-have_numbers es numbers same name =
-    let test = is_named_at name in cc (is_some-lookup test numbers, is_some-lookup test es, found_any name es)
+have_numbers es numbers same name = grind (arith, is_some-lookup, found_any name es)
 
 -- A number was found exactly if there is one.
 pub number_there : (r : Option (List ℕ)) (o : Option ℕ) → option_map number_in r ≡ o → is_some r ≡ is_some o

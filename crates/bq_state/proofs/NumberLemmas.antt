@@ -1,5 +1,5 @@
 -- The numbers of tubes, as the ends of their pauses have them.
-use Rattle.std.proofs.Common.{List, None, Option, Some, [], ap, arith, false, inl, inr, is_some, map, refl, sym, true, ℕ, ◌∙◌, ◌∷◌, ◌≡◌}
+use Rattle.std.proofs.Common.{List, None, Option, Some, [], ap, arith, false, inl, inr, is_some, map, refl, true, ℕ, ◌∙◌, ◌∷◌, ◌≡◌}
 use Rattle.std.proofs.lemmas.{Bool.cases_Bool, Cmp.nat_list_eq_equiv, Grind.common_steps}
 use Rattle.std.specs.{BTreeMap.insert_entry, Cmp.Lexicographic.slice_cmp, List.AllByRecursion as All}
 use Rattle.std.specs.{Map.{keys_of, lookup, remove_entry}, Ordering.{match_ordering, nat_cmp}}
@@ -44,9 +44,7 @@ module _ (name : List ℕ) (n : ℕ) where
   given_at : (p : List ℕ × ℕ) (ns rest : List (List ℕ × ℕ)) (a : Ordering) → slice_cmp nat_cmp name p.0 ≡ a
       → lookup (is_named_at name) rest ≡ Some n
       → lookup (is_named_at name) (match_ordering a ((name, n) ∷ p ∷ ns) ((p.0, n) ∷ ns) (p ∷ rest)) ≡ Some n
-  given_at p ns rest Less is h = grind (arith, ties name name, same_itself name)
-  given_at p ns rest Equal is h = grind (arith, common_steps)
-  given_at p ns rest Greater is h = grind (arith, common_steps)
+  given_at p ns rest a is h = grind (arith, ties, same_itself)
 
   pub number_given : (ns : List (List ℕ × ℕ)) → lookup (is_named_at name) (insert_entry (slice_cmp nat_cmp) ns name n) ≡ Some n
   number_given [] = grind (arith, ties name name, same_itself name)
@@ -65,24 +63,10 @@ module _ (k : Numbering) (kept : Tabled KeptTube) (paired : IsPaired k) (same : 
       → lookup (is_named_at other) kept.numbers ≡ b → is_some b ≡ true
       → is_same_name (as_number a) (as_number b) ≡ is_same_name name other
   told_by name other a None is has some = absurd cc
-  told_by name other None (Some n) is has some = elim (cases_Bool (is_same_name name other)) [
-    | inl e ↦ absurd (let g : None ≡ Some n = sym is ∙ found_alike name other e ∙ has in cc)
-    | inr e ↦ sym e
-  ]
+  told_by name other None (Some n) is has some = grind (arith, found_alike)
   told_by name other (Some m) (Some n) is has some = elim (cases_Bool (is_same_name name other)) [
-    | inl e ↦
-        let g : Some m ≡ Some n = sym is ∙ found_alike name other e ∙ has in
-        let h : n ≡ m = (cc) in
-        ap (λ i. is_same_name (m ∷ []) (i ∷ [])) h ∙ same_itself (m ∷ []) ∙ sym e
-    | inr e ↦ elim (cases_Bool (is_same_name (m ∷ []) (n ∷ []))) [
-      | inl f ↦
-          let g = same_name (m ∷ []) (n ∷ []) f in
-          let first = has_name name m is in
-          let second = has_name other n has in
-          let h : other ≡ name = (cc) in
-          absurd (let t : is_same_name name other ≡ true = ap (is_same_name name) h ∙ same_itself name in cc)
-      | inr f ↦ f ∙ sym e
-    ]
+    | inl e ↦ grind (arith, found_alike)
+    | inr e ↦ grind (arith, same_name, has_name name m is, has_name other n has, same_itself name)
   ]
 
   all_numbered : All (λ t. is_some (lookup (is_named_at t.name) kept.numbers) ≡ true) (map record_at kept.entries)
@@ -93,17 +77,13 @@ module _ (k : Numbering) (kept : Tabled KeptTube) (paired : IsPaired k) (same : 
   -- Each tube has a number of its own.
   pub told : AreTold kept
   unfolding number_at
-  told name = all_weaker _ _ (map record_at kept.entries)
-      (λ t some. told_by name t.name (lookup (is_named_at name) kept.numbers) (lookup (is_named_at t.name) kept.numbers) refl refl some)
-      all_numbered
+  told name = grind (arith, all_weaker, told_by, all_numbered)
 
   end_there : (e : PauseEnd) (ts : List TubeRecord) → All (λ t. is_some (lookup (is_named_at t.name) kept.numbers) ≡ true) ts
       → is_end_in kept.numbers e ts ≡ true → (is_some (name_of (number_in e.number) k) ≡ true) × (e.number ≡ number_in e.number ∷ [])
   unfolding number_at
   end_there e [] all held = absurd cc
-  end_there e (t ∷ ts) all held =
-      let same = same_name e.number (as_number (lookup (is_named_at t.name) kept.numbers)) in
-      grind (arith, common_steps, same, has_name t.name, end_there e ts all.1)
+  end_there e (t ∷ ts) all held = grind (arith, same_name, end_there e ts all.1)
 
   -- The number of an end is that of a tube,
   pub end_numbered : (e : PauseEnd) → is_end_in kept.numbers e (map record_at kept.entries) ≡ true
@@ -114,9 +94,7 @@ module _ (k : Numbering) (kept : Tabled KeptTube) (paired : IsPaired k) (same : 
   pub number_is : (e : PauseEnd) (name : List ℕ) → is_end_in kept.numbers e (map record_at kept.entries) ≡ true
       → name_of (number_in e.number) k ≡ Some name → e.number ≡ number_at name kept.numbers
   unfolding number_at
-  number_is e name held of =
-      let there = end_there e (map record_at kept.entries) all_numbered held in
-      there.1 ∙ sym (ap as_number (ap (lookup (is_named_at name)) (sym same) ∙ paired.back (number_in e.number) name of))
+  number_is e name held of = grind (arith, end_there, all_numbered)
 
 -- the number of a tube that was looked up
 pub number_read : (name : List ℕ) (numbers : List (List ℕ × ℕ)) (n : List ℕ) → n ≡ number_in n ∷ []

@@ -75,8 +75,7 @@ number_kept what s = grind (arith, common_steps)
 
 mapped_numbered : (f : SeatRecord → SeatRecord) → ((s : SeatRecord) → (f s).number ≡ s.number) → (seats : List SeatRecord)
     → AreNumbered seats → AreNumbered (map f seats)
-mapped_numbered f keeps seats h =
-    keys_of_map (λ s. s.number) f seats (all_always _ seats keeps) ∙ h ∙ ap (numbers 0) (sym (length-map seats f))
+mapped_numbered f keeps seats h = grind (arith, keys_of_map, all_always, length-map)
 
 pub numbered_after : (number : ℕ) (what : SeatChange) (seats : List SeatRecord) → AreNumbered seats
     → AreNumbered (map (seat_changed_at number what) seats)

@@ -1,5 +1,5 @@
 -- Counts of jobs after a change of the jobs.
-use Rattle.std.proofs.Common.{Bool, List, Some, [], arith, count_by, false, filter, length, refl, true, ℕ, ◌&&◌, ◌∷◌, ◌≡◌, ◌≤◌}
+use Rattle.std.proofs.Common.{Bool, List, Some, [], arith, count_by, filter, length, refl, ℕ, ◌&&◌, ◌∷◌, ◌≡◌, ◌≤◌}
 use Rattle.std.{proofs.lemmas.{Grind.common_steps, List.Sums.count_by-le-length}, specs.Prelude.if◌then◌else◌}
 use Rattle.bq_job.specs.{beside.AreIdsWithin, declared.job.Job.Job, machine.{greatest, is_buried, is_delayed, is_ready, is_reserved}}
 use Rattle.bq_job.specs.machine.{is_urgent, job_with}
@@ -29,8 +29,7 @@ tally_by step t = record {
 pub tally_is : (b : Bool) (step : (Job → Bool) → ℕ → ℕ) (old new : List Job)
     → ((p : Job → Bool) → (if b then step p (count_by p old) else count_by p old) ≡ count_by p new)
     → (if b then tally_by step (tally_of old) else tally_of old) ≡ tally_of new
-tally_is true step old new counts = grind (arith, counts)
-tally_is false step old new counts = grind (arith, counts)
+tally_is b step old new counts = grind arith
 
 -- how many of the chosen jobs pass
 pub both_count : (chosen passes : Job → Bool) (jobs : List Job)

@@ -63,8 +63,7 @@ turn_taken n (Some s) turns at all = rw (at s refl) (grind (arith, common_steps,
 -- After the client with a number has left, the turns of the others remain,
 turns_left : (n : ℕ) (seats : List SeatRecord) → AreNumbered seats
     → without_turn (seat_with n seats) (turns_of seats) ≡ turns_of (others n seats)
-turns_left n seats h = rw (turns_parted n 0 seats h)
-    (turn_taken _ _ _ (λ s found. eqb-true s.number n (found_passes (λ u. u.number == n) _ _ found).0) (others_stay n seats))
+turns_left n seats h = grind (arith, turn_taken, found_passes, turns_parted n 0 seats h, others_stay n seats)
 
 -- and it is inserted again as it is then.
 pub turns_moved : (n : ℕ) (what : SeatChange) (seats : List SeatRecord) → AreNumbered seats

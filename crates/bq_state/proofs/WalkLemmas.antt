@@ -1,7 +1,7 @@
 -- A walk over the waiting clients, in order of their turns, has the same result as one over all
 -- seats.
-use Rattle.std.proofs.Common.{Bool, List, None, Option, Some, [], ap, arith, false, if◌then◌else◌, length, map, refl, slice_get, subst, suc}
-use Rattle.std.proofs.{Common.{sym, true, ℕ, ◌<◌, ◌==◌, ◌∷◌, ◌≡◌}, lemmas.{Bool.{cases_Bool, eqb-true, ne_eqb}, Grind.common_steps}}
+use Rattle.std.proofs.Common.{Bool, List, None, Option, Some, [], ap, arith, false, if◌then◌else◌, length, map, refl, slice_get, suc}
+use Rattle.std.proofs.{Common.{true, ℕ, ◌<◌, ◌==◌, ◌∷◌, ◌≡◌}, lemmas.{Bool.{cases_Bool, ne_eqb}, Grind.common_steps}}
 use Rattle.std.proofs.lemmas.{List.Folds.find_at, Option.{slice_get_past, slice_get_read, slice_get_within}}
 use Rattle.std.specs.{List.{AllByRecursion as All, list_any, position}, Prelude.{find, fold, is_some, option_map}}
 use Rattle.bq_job.proofs.{ChoiceLemmas.{first_of_contains, first_of_is_some, pair_order}, KeptLemmas.numbers_above}
@@ -32,10 +32,7 @@ all_in_turn P (s ∷ seats) all = grind (arith, all_placed, all_in_turn P seats 
 
 -- each seat is at its place
 read_each : (seats : List SeatRecord) → AreNumbered seats → All (λ s. slice_get seats s.number ≡ Some s) seats
-read_each seats h = all_from_members _ _ (λ s here.
-    let read = slice_get_read seats _ here.0 s refl here.1 (sym here.2) in
-    let found = found_passes (λ t. t.number == here.0) seats s (seat_read seats here.0 s h read) in
-    subst (λ k. slice_get seats k ≡ Some s) (sym (eqb-true s.number here.0 found.0)) read)
+read_each seats h = grind (arith, all_from_members, slice_get_read, found_passes, seat_read)
 
 -- a fold in which the order does not matter
 fold_placed : {A B : Type 0} (f : B → A → B) (before : A → A → Bool) (x : A) (ys : List A)
@@ -61,9 +58,7 @@ module _ {B : Type 0} (f : B → SeatRecord → B) (skips : (s : SeatRecord) →
 
   -- a walk over the turns gives the same result as a fold over all seats
   pub walked : (seats : List SeatRecord) → AreNumbered seats → (b : B) → fold (at_turn f seats) b (turns_of seats) ≡ fold f b seats
-  walked seats h b =
-      let read = all_in_turn _ _ (all_weaker _ _ _ (λ s e _. e) (read_each _ h)) in
-      grind (arith, turns_in, fold_there, fold_in_turn)
+  walked seats h b = search (all_in_turn, all_weaker, read_each, turns_in, fold_there, fold_in_turn)
 
 -- seats with different numbers never compare equal
 better_swaps : (p : SeatRecord → Bool) (s t : SeatRecord) → (s.number == t.number) ≡ false → (b : Option SeatRecord)

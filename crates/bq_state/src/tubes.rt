@@ -307,6 +307,7 @@ impl Tubes {
     }
 
     /// Returns when the first pause ends.
+    #[tactic(auto, using(crate::proofs::EndLemmas::first_seen))]
     pub fn first_pause_end(&self) -> Option<Moment>
         ensures { result ≡ first_pause_end self.now.entries }
     {

@@ -1,12 +1,10 @@
-use Rattle.std.proofs.Common.{ap, refl}
+use Rattle.std.proofs.Common.{ap, refl, arith}
 use Rattle.bq_core.proofs.AtOnceLemmas.{acted_alone, given_at_once, reserves}
 use Rattle.bq_state.specs.CoreParts.{machine_held}
 use Rattle.bq_core.proofs.dispatch.act_or_hand_out.Goals as goal
 
 pub returns-in-Some : goal.returns-in-Some
-returns-in-Some c =
-    let taken = c.in-Some.ensures.taken in
-    given_at_once c.args.state.now _ _ (reserves _ _ _ taken.may) _ _ _ _ _ taken c.requires.tubes c.reserved.ensures
+returns-in-Some c = grind (arith, given_at_once, reserves)
 
 pub returns-in-None : goal.returns-in-None
 returns-in-None c =

@@ -6,8 +6,7 @@ use Rattle.bq_core.proofs.dispatch.hand_out_one.Goals as goal
 
 pub hand_out-requires : goal.hand_out-requires
 hand_out-requires c =
-    let some = somebody_waits (machine_of c.args.state.now) _ c.requires.next c.in-Some.number c.in-Some.ensures.picked in
-    record { room = omega (arith, some, c.requires.room) }
+    grind (arith, somebody_waits (machine_of c.args.state.now) _ c.requires.next c.in-Some.number c.in-Some.ensures.picked)
 
 pub returns-in-Some-clause-given : goal.returns-in-Some-clause-given
 returns-in-Some-clause-given c =

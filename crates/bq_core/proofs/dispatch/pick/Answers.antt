@@ -1,12 +1,12 @@
-use Rattle.std.{proofs.Common.{None, ap, false, sym, true, ◌∙◌, ◌≡◌}, specs.Prelude.is_some}
+use Rattle.std.proofs.Common.{arith}
+use Rattle.std.{proofs.Common.{None, false, true, ◌≡◌}}
 use Rattle.bq_core.proofs.DispatchLemmas.{body_of_next, next_there, one_picked, picked_at_tube, taker_known, tube_of_next}
 use Rattle.bq_state.specs.CoreParts.{machine_of}
 use Rattle.bq_core.proofs.dispatch.pick.Goals as goal
 
 pub returns-in_err-shared-in-Client-clause-some : goal.returns-in_err-shared-in-Client-clause-some
 returns-in_err-shared-in-Client-clause-some c =
-    absurd (next_there (machine_of c.args.state.now) c.args.id c.args.state.now.sound.ids c.requires.next
-    (sym (ap is_some c.in_err-shared-in-Client.was) ∙ c.share_body.ensures.kept.0))
+    grind (arith, next_there (machine_of c.args.state.now) c.args.id c.args.state.now.sound.ids c.requires.next)
 
 pub returns-in_ok-shared-in-Client-clause-picked : goal.returns-in_ok-shared-in-Client-clause-picked
 returns-in_ok-shared-in-Client-clause-picked c =
@@ -26,8 +26,7 @@ returns-in_err-seat-in-Tube-clause-some c =
 
 pub returns-in_err-shared-in-Tube-clause-some : goal.returns-in_err-shared-in-Tube-clause-some
 returns-in_err-shared-in-Tube-clause-some c =
-    absurd (next_there (machine_of c.args.state.now) c.args.id c.args.state.now.sound.ids c.requires.next
-    (sym (ap is_some c.in_err-shared-in-Tube.was) ∙ c.share_body-in-Tube.ensures.kept.0))
+    grind (arith, next_there (machine_of c.args.state.now) c.args.id c.args.state.now.sound.ids c.requires.next)
 
 pub returns-in_ok-shared-in-Tube-clause-picked : goal.returns-in_ok-shared-in-Tube-clause-picked
 returns-in_ok-shared-in-Tube-clause-picked c =

@@ -1,12 +1,12 @@
-use Rattle.std.{proofs.Common.{None, ap, false, sym, true, ◌∙◌, ◌≡◌}, specs.Prelude.is_some}
+use Rattle.std.proofs.Common.{arith}
+use Rattle.std.{proofs.Common.{None, false, true, ◌≡◌}}
 use Rattle.bq_core.proofs.DispatchLemmas.{body_of_next, next_there, one_picked, picked_at_tube}
 use Rattle.bq_state.specs.CoreParts.{machine_of}
 use Rattle.bq_core.proofs.dispatch.pick_at_tube.Goals as goal
 
 pub returns-in_err-tube-clause-some : goal.returns-in_err-tube-clause-some
 returns-in_err-tube-clause-some c =
-    absurd (next_there (machine_of c.args.state.now) c.args.id c.args.state.now.sound.ids c.requires.next
-    (sym (ap is_some c.in_err-tube.was) ∙ c.share.ensures.kept.0))
+    grind (arith, next_there (machine_of c.args.state.now) c.args.id c.args.state.now.sound.ids c.requires.next)
 
 pub returns-in_err-seat-clause-some : goal.returns-in_err-seat-clause-some
 returns-in_err-seat-clause-some c = absurd (let e : false ≡ true = one_picked (machine_of c.args.state.now) c.args.id

@@ -1,4 +1,4 @@
-use Rattle.std.proofs.{Common.{ap, arith, refl, sym, ◌∙◌, ◌≡◌}, lemmas.Grind.common_steps}
+use Rattle.std.proofs.{Common.{ap, arith, refl, sym, ◌∙◌, ◌≡◌}}
 use Rattle.bq_core.proofs.ActLemmas.{acts_asked, after_given, put_done, used_has_entry}
 use Rattle.bq_jobs.proofs.Changes.{low_below}
 use Rattle.bq_state.specs.CoreParts.{machine_held, machine_of}
@@ -7,8 +7,7 @@ use Rattle.bq_core.proofs.job_acts.put_shared.Goals as goal
 pub add-requires : goal.add-requires
 add-requires c =
     let made = c.new_job-job.ensures c.in-Some.client.now (sym c.used-tube.ensures) in
-    let free = c.next_is_free.ensures 1 _ _ c.args.state.now.sound.ids in
-    grind (arith, common_steps, low_below, used_has_entry)
+    grind (arith, low_below, used_has_entry)
 
 pub returns-clause-acts : goal.returns-clause-acts
 returns-clause-acts c = acts_asked _ _ _ _ _ _ _ c.requires.asks (λ s found.

@@ -36,6 +36,4 @@ returns-in_default-clause-kicked c =
 pub returns-clause-kicked : goal.returns-clause-kicked
 returns-clause-kicked c =
     let whole : c.args.bound ≡ c.loop-done.done + 0 = omega arith in
-    let jobs = (machine_of c.loop-done.state).jobs in
-    rw whole (c.loop-done.invariant.others ∙ ap (λ js. record (machine_of c.args.state.now) { jobs = js })
-    (sym (c.loop-done.invariant.kicked 0 ∙ none_kicked jobs)))
+    grind (arith, none_kicked)

@@ -1,6 +1,5 @@
-use Rattle.std.proofs.Common.{ap, arith, max, rules, subst, sym, ◌∙◌, ◌≡◌}
+use Rattle.std.proofs.Common.{ap, arith, max, rules, ◌∙◌, ◌≡◌}
 use Rattle.bq_core.proofs.{StepCosts.{first_room, room_then, step_within}, StepLemmas.{dispatch_alike, timers_alike}}
-use Rattle.bq_core.specs.Serving.{NoneIsGone}
 use Rattle.bq_job.{proofs.{ClientStepLemmas.step_settings, LawfulLemmas.{only_tubes, step_is_lawful}}, specs.machine.Machine.Machine}
 use Rattle.bq_job.specs.machine.{after_timers}
 use Rattle.bq_state.specs.CoreParts.{machine_of}
@@ -10,8 +9,7 @@ pub serve-requires : goal.serve-requires
 serve-requires c =
     let fires = c.fire.ensures.after ∙ ap after_timers c.raise_moment.ensures.after in
     let room = first_room c.args.state.now c.fire.new.state _ _ _ c.requires.lawful fires c.begin.ensures c.requires.room in
-    let tubes = timers_alike c.args.at (machine_of c.args.state.now) c.requires.lawful.tubes in
-    record { tubes = subst NoneIsGone (sym fires) tubes; room = omega arith }
+    grind (arith, timers_alike c.args.at (machine_of c.args.state.now) c.requires.lawful.tubes)
 
 pub act_or_hand_out-requires : goal.act_or_hand_out-requires
 act_or_hand_out-requires c =

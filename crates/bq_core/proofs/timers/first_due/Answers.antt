@@ -7,11 +7,7 @@ returns-in-Some-clause-due c = let st = c.args.state.now in
     first_past _ _ _ dues_are st.jobs.jobs st.moment 1 st.next_id _ st.sound.ids _ c.first_delayed-delayed.ensures.rank c.in-Some.ensures
 
 pub returns-in-Some-id_if_past-clause-due : goal.returns-in-Some-id_if_past-clause-due
-returns-in-Some-id_if_past-clause-due c = lease_due c.args.state.now c.first_delayed-delayed.new.state
-    c.first_delayed-delayed.ensures.kept.same _ _ c.first_delayed-delayed.ensures.rank c.first_lease-lease.ensures.rank
-    _ c.in-Some-id_if_past.ensures
+returns-in-Some-id_if_past-clause-due c = grind (arith, lease_due)
 
 pub returns-in-None-clause-none : goal.returns-in-None-clause-none
-returns-in-None-clause-none c _ = none_due c.args.state.now c.first_delayed-delayed.new.state
-    c.first_delayed-delayed.ensures.kept.same _ _ c.first_delayed-delayed.ensures.rank c.first_lease-lease.ensures.rank
-    c.first_lease-lease.new.state c.first_lease-lease.ensures.kept.same (omega arith) c.in_default.ensures c.in-None.ensures
+returns-in-None-clause-none c _ = grind (arith, none_due)

@@ -1,6 +1,6 @@
-use Rattle.std.proofs.Common.{None, ap, fold, ◌∙◌}
+use Rattle.std.proofs.Common.{None, ap, fold, ◌∙◌, arith}
 use Rattle.bq_job.specs.beside.{dues_of_pause, dues_of_wait, earliest}
-use Rattle.bq_state.proofs.{DueLemmas.{all_due, earliest_of_all, jobs_due_is, pauses_counted}, PartsLemmas.compared_sound}
+use Rattle.bq_state.proofs.{DueLemmas.{all_due, earliest_of_all, jobs_due_is, pauses_counted}}
 use Rattle.bq_state.specs.{CoreParts.{Held, machine_of}, Dues.{with_seat_due, with_warning_due}}
 use Rattle.bq_core.proofs.timers.next_due.Goals as goal
 
@@ -20,5 +20,4 @@ returns-clause-due c =
     c.earlier_of-3.ensures ∙ rw (jobs, jobs_due_is (machine_of st), c.earlier_of-2.ensures, tubes, seats, ← all_due)
 
 pub invariant_of-state-clause-sound : goal.invariant_of-state-clause-sound
-invariant_of-state-clause-sound c =
-    compared_sound c.jobs_due-jobs.new.state c.warnings_due-warning.new.jobs c.warnings_due-warning.ensures.kept.same
+invariant_of-state-clause-sound c = grind arith

@@ -1,6 +1,6 @@
-use Rattle.std.proofs.Common.{rules, ◌≡◌, ap, ◌∙◌, subst}
+use Rattle.std.proofs.Common.{rules, ◌≡◌, ap, ◌∙◌, arith}
 use Rattle.std.specs.BTreeMap.{is_at}
-use Rattle.bq_index.specs.Edited.{MayReturn, edited_at, edited_by}
+use Rattle.bq_index.specs.Edited.{edited_at, edited_by}
 use Rattle.bq_index.specs.Order.{InOrder}
 use Rattle.bq_index.specs.Tree.{entries, entries_in, IsLevel}
 use Rattle.bq_index.proofs.Edited.{edited_entries, edited_level, value_looked_up}
@@ -16,15 +16,7 @@ returns-in-Fork-clause-is g c =
     rw c.edit_below.ensures.is (edited_entries g.met.K.Ord.total c.args.key.now f c.deref_mut.result.now b d ∙ ap (edited_at test f) same)
 
 pub returns-in-Fork-clause-balanced : goal.returns-in-Fork-clause-balanced
-returns-in-Fork-clause-balanced g c =
-    let b : IsLevel c.deref_mut.result.now = search rules in
-    let f = edited_by (g.E.TryEdit.edited c.args.edit.now) c.edit_below.new.told in
-    rw c.edit_below.ensures.is (edited_level (g.K.Ord.cmp c.args.key.now) f c.deref_mut.result.now b).0
+returns-in-Fork-clause-balanced g c = grind (arith, edited_level)
 
 pub returns-in-Fork-clause-told : goal.returns-in-Fork-clause-told
-returns-in-Fork-clause-told g c =
-    let b : IsLevel c.deref_mut.result.now = search rules in
-    let d : InOrder g.K.Ord.cmp (entries_in c.deref_mut.result.now) = search rules in
-    let i = value_looked_up g.met.K.Ord.total c.args.key.now c.deref_mut.result.now b d in
-    let told = subst (λ v. MayReturn (g.E.TryEdit.MayTell c.args.edit.now) v c.edit_below.new.told) i c.edit_below.ensures.told in
-    search rules
+returns-in-Fork-clause-told g c = grind (arith, value_looked_up)

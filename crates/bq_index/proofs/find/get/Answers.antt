@@ -42,10 +42,7 @@ returns-in-Equal-clause-value g c =
     ∙ sym (i.same ∙ (is_at_entry g.met.K.Ord.total c.args.key.now p i.in_order c.compare_to.ensures.answer c.in-Equal.is).looked_up)
 
 pub returns-in-Equal-clause-counted : goal.returns-in-Equal-clause-counted
-returns-in-Equal-clause-counted g c =
-    let i = c.loop-below.invariant in
-    let p = lent_apart c.in-Some.node.now (ap lent c.in-Some.is) refl refl i.balanced in
-    (omega (arith, i.more, c.compare_to.ensures.counted.0), omega (arith, i.few, c.compare_to.ensures.counted.1, p.high))
+returns-in-Equal-clause-counted g c = grind arith
 
 pub loop-below-smaller-in-Less : goal.loop-below-smaller-in-Less
 loop-below-smaller-in-Less g c =

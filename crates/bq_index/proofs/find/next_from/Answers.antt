@@ -1,5 +1,5 @@
 use Rattle.std.specs.Option.{option_or}
-use Rattle.std.proofs.Common.{◌≡◌, Option, None, Some, ap, refl, sym, ◌∙◌, arith}
+use Rattle.std.proofs.Common.{◌≡◌, Option, Some, ap, refl, sym, ◌∙◌, arith}
 use Rattle.bq_index.specs.Tree.{lent}
 use Rattle.bq_index.proofs.Parts.{first_above, first_at, first_below, left_in_order, lent_apart, right_in_order, shorter}
 use Rattle.bq_index.proofs.find.next_from.Goals as goal
@@ -9,8 +9,7 @@ further : {A : Type 0} (whole here down met : Option A) → whole ≡ option_or 
 further whole here down met e d = e ∙ ap (λ z. option_or z met) d
 
 found_below : {A : Type 0} (down : Option A) (x : A) (met : Option A) → option_or (option_or down (Some x)) met ≡ option_or down (Some x)
-found_below None x met = refl
-found_below (Some y) x met = refl
+found_below down x met = grind arith
 
 -- or else it is the entry here
 further_or_here : {A : Type 0} (whole here down : Option A) (x : A) (met : Option A) → whole ≡ option_or here met
@@ -60,14 +59,10 @@ pub returns-in-Equal-clause-entry : goal.returns-in-Equal-clause-entry
 returns-in-Equal-clause-entry g c =
     let i = c.loop-below.invariant in
     let p = lent_apart c.in-Some.node.now (ap lent c.in-Some.is) refl refl i.balanced in
-    found_here _ _ _ _ _ i.same (first_at g.met.K.Ord.total c.args.key.now p i.in_order c.compare_to.ensures.answer c.in-Equal.is)
-    c.entry-in-Equal.ensures
+    grind (arith, first_at)
 
 pub returns-in-Equal-clause-counted : goal.returns-in-Equal-clause-counted
-returns-in-Equal-clause-counted g c =
-    let i = c.loop-below.invariant in
-    let p = lent_apart c.in-Some.node.now (ap lent c.in-Some.is) refl refl i.balanced in
-    (omega (arith, i.more, c.compare_to.ensures.counted.0), omega (arith, i.few, c.compare_to.ensures.counted.1, p.high))
+returns-in-Equal-clause-counted g c = grind arith
 
 pub loop-below-smaller-in-Less : goal.loop-below-smaller-in-Less
 loop-below-smaller-in-Less g c =

@@ -1,9 +1,9 @@
-use Rattle.bq_index.proofs.Parts.{by_entry, by_key, changed_left, changed_right, come_apart, goes_left, goes_nowhere}
+use Rattle.std.proofs.lemmas.Grind.{common_steps}
+use Rattle.bq_index.proofs.Parts.{by_entry, by_key, come_apart, goes_left, goes_nowhere}
 use Rattle.bq_index.proofs.Parts.{goes_right, left_in_order, right_in_order}
-use Rattle.std.proofs.Common.{◌≡◌, ◌+◌, ◌<◌, Some, ap, arith, rules, subst, ◌∙◌}
-use Rattle.bq_index.proofs.Kept.{kept_on_left, kept_on_right}
-use Rattle.bq_index.specs.Order.{InOrder, LacksKeyOf, with_entry}
-use Rattle.bq_index.specs.Tree.{entries_in, entries_of, entry_in, height_in, height_of, left_in, right_in, IsBalancedFrom, IsLevel}
+use Rattle.std.proofs.Common.{◌≡◌, ◌+◌, ◌<◌, Some, ap, arith, subst}
+use Rattle.bq_index.specs.Order.{InOrder, LacksKeyOf}
+use Rattle.bq_index.specs.Tree.{entries_in, entries_of, entry_in, height_in, height_of, left_in, right_in}
 use Rattle.bq_index.proofs.insert.+insert_below.Goals as goal
 
 pub insert_below-grown-requires : goal.insert_below-grown-requires
@@ -21,9 +21,7 @@ insert_below-grown-requires g t c κs within =
     subst (λ o. LacksKeyOf g.K.Ord.cmp (entry_in c.args.node.value) (entries_of o)) same w.lacks in
     let order : InOrder g.K.Ord.cmp (entries_in c.in-Both.left.value) =
     subst (λ o. InOrder g.K.Ord.cmp (entries_of o)) same (left_in_order g.K.Ord.cmp p c.requires.in_order) in
-    let level : IsLevel c.in-Both.left.value = subst IsBalancedFrom same p.left_balanced in
-    let e : c.deref_mut.result.now ≡ c.in-Both.left.value = search rules in
-    search rules
+    grind arith
 
 pub insert_below-grown-requires-in-Greater : goal.insert_below-grown-requires-in-Greater
 insert_below-grown-requires-in-Greater g t c κs within =
@@ -40,9 +38,7 @@ insert_below-grown-requires-in-Greater g t c κs within =
     subst (λ o. LacksKeyOf g.K.Ord.cmp (entry_in c.args.node.value) (entries_of o)) same w.lacks in
     let order : InOrder g.K.Ord.cmp (entries_in c.in-Both.right.value) =
     subst (λ o. InOrder g.K.Ord.cmp (entries_of o)) same (right_in_order g.K.Ord.cmp p c.requires.in_order) in
-    let level : IsLevel c.in-Both.right.value = subst IsBalancedFrom same p.right_balanced in
-    let e : c.deref_mut-in-Greater.result.now ≡ c.in-Both.right.value = search rules in
-    search rules
+    grind arith
 
 pub unreachable-requires : goal.unreachable-requires
 unreachable-requires g t c =
@@ -59,11 +55,7 @@ returns-in-Less-clause-is g t c =
     let h = by_key g.K.Ord.cmp _ _ _ _ (rw c.deref.ensures at c.key_alone.ensures) at in
     let p = come_apart c.args.here.now c.requires.here_level in
     let w = goes_left g.met.K.Ord.total _ c.requires.alone.filled p c.requires.in_order c.requires.absent h c.in-Less.is in
-    let e : c.deref_mut.result.now ≡ c.in-Both.left.value = search rules in
-    let low = c.insert_below-grown.ensures.is ∙ ap (λ n. with_entry g.K.Ord.cmp (entry_in c.args.node.value) (entries_in n)) e in
-    changed_left (with_entry g.K.Ord.cmp (entry_in c.args.node.value)) c.args.here.now w.is c.mend.new.node
-    c.in-Both.left.value c.insert_below-grown.new.here (Some (c.in-Both.key, c.in-Both.value)) (Some c.in-Both.right.value)
-    (ap left_in c.in-Both.is) (ap entry_in c.in-Both.is) (ap right_in c.in-Both.is) low c.mend.ensures.rebalanced.is
+    grind arith
 
 pub returns-in-Greater-clause-is : goal.returns-in-Greater-clause-is
 returns-in-Greater-clause-is g t c =
@@ -72,22 +64,10 @@ returns-in-Greater-clause-is g t c =
     let h = by_key g.K.Ord.cmp _ _ _ _ (rw c.deref.ensures at c.key_alone.ensures) at in
     let p = come_apart c.args.here.now c.requires.here_level in
     let w = goes_right g.met.K.Ord.total _ c.requires.alone.filled p c.requires.in_order c.requires.absent h c.in-Greater.is in
-    let e : c.deref_mut-in-Greater.result.now ≡ c.in-Both.right.value = search rules in
-    let low = c.insert_below-grown-in-Greater.ensures.is
-    ∙ ap (λ n. with_entry g.K.Ord.cmp (entry_in c.args.node.value) (entries_in n)) e in
-    changed_right (with_entry g.K.Ord.cmp (entry_in c.args.node.value)) c.args.here.now w.is c.mend-in-Greater.new.node
-    (Some c.in-Both.left.value) (Some (c.in-Both.key, c.in-Both.value)) c.in-Both.right.value
-    c.insert_below-grown-in-Greater.new.here (ap left_in c.in-Both.is) (ap entry_in c.in-Both.is)
-    (ap right_in c.in-Both.is) low c.mend-in-Greater.ensures.rebalanced.is
+    grind arith
 
 pub mend-requires-clause-kept : goal.mend-requires-clause-kept
-mend-requires-clause-kept g t c =
-    let e : c.deref_mut.result.now ≡ c.in-Both.left.value = search rules in
-    let level = subst IsLevel c.in-Both.is c.requires.here_level in
-    kept_on_left (level.0, level.1) (ap height_in e) c.insert_below-grown.ensures.raised.3
+mend-requires-clause-kept g t c = grind (arith, common_steps)
 
 pub mend-requires-in-Greater-clause-kept : goal.mend-requires-in-Greater-clause-kept
-mend-requires-in-Greater-clause-kept g t c =
-    let e : c.deref_mut-in-Greater.result.now ≡ c.in-Both.right.value = search rules in
-    let level = subst IsLevel c.in-Both.is c.requires.here_level in
-    kept_on_right (level.0, level.1) (ap height_in e) c.insert_below-grown-in-Greater.ensures.raised.3
+mend-requires-in-Greater-clause-kept g t c = grind (arith, common_steps)

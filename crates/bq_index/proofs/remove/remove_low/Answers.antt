@@ -1,9 +1,8 @@
+use Rattle.std.proofs.lemmas.Grind.{common_steps}
 use Rattle.bq_index.proofs.Parts.{by_other, come_apart, is_above, is_at_entry, is_below}
-use Rattle.std.proofs.Common.{ap, arith, cond, sym, ◌∙◌}
-use Rattle.std.specs.Prelude.{is_some}
-use Rattle.bq_index.proofs.Removed.{gone_above, gone_below}
+use Rattle.std.proofs.Common.{ap, arith, sym, ◌∙◌}
+use Rattle.bq_index.proofs.Removed.{gone_below}
 use Rattle.bq_index.specs.Removed.{passing, value_of_top}
-use Rattle.bq_index.specs.Tree.{entries_in}
 use Rattle.bq_index.proofs.remove.remove_low.Goals as goal
 
 pub returns-in-Less-clause-is : goal.returns-in-Less-clause-is
@@ -21,11 +20,7 @@ returns-in-Less-clause-found g c =
     c.cut_left.ensures.found ∙ ap (passing (g.T.Test.passed c.args.test.now c.args.key.now)) (sym w.looked_up)
 
 pub returns-in-Greater-clause-is : goal.returns-in-Greater-clause-is
-returns-in-Greater-clause-is g c =
-    let p = come_apart c.args.here.now c.requires.here_level.0 in
-    let at = by_other g.K.Ord.cmp c.args.key.now c.key.result.now _ _ c.key.ensures c.compare_within.ensures.answer in
-    let w = is_above g.met.K.Ord.total c.args.key.now p c.requires.in_order at c.in-Greater.is in
-    c.cut_right.ensures.is ∙ sym (gone_above c.args.key.now p.is (value_of_top c.cut_right.new.found) w)
+returns-in-Greater-clause-is g c = grind (arith, common_steps, come_apart c.args.here.now c.requires.here_level.0, c.requires.here_level.0)
 
 pub returns-in-Greater-clause-found : goal.returns-in-Greater-clause-found
 returns-in-Greater-clause-found g c =
@@ -39,8 +34,7 @@ returns-in-Equal-clause-is g c =
     let at = by_other g.K.Ord.cmp c.args.key.now c.key.result.now _ _ c.key.ensures c.compare_within.ensures.answer in
     let w = is_at_entry g.met.K.Ord.total c.args.key.now
     (come_apart c.args.here.now c.requires.here_level.0) c.requires.in_order at c.in-Equal.is in
-    c.take_out_if.ensures.is
-    ∙ ap (λ es. cond (is_some (value_of_top c.take_out_if.new.found)) es (entries_in c.args.here.now)) (sym w.removed)
+    grind arith
 
 pub returns-in-Equal-clause-found : goal.returns-in-Equal-clause-found
 returns-in-Equal-clause-found g c =
@@ -50,15 +44,7 @@ returns-in-Equal-clause-found g c =
     c.take_out_if.ensures.value ∙ ap (passing (g.T.Test.passed c.args.test.now c.args.key.now)) (sym w.looked_up)
 
 pub returns-in-Less-clause-counted : goal.returns-in-Less-clause-counted
-returns-in-Less-clause-counted g c =
-    let p = come_apart c.args.here.now c.requires.here_level.0 in
-    let one = c.compare_within.ensures.counts_one in
-    let more = c.cut_left.ensures.counted in
-    (omega (arith, one, more.0), omega (arith, one, more.1, p.high))
+returns-in-Less-clause-counted g c = grind (arith, come_apart)
 
 pub returns-in-Greater-clause-counted : goal.returns-in-Greater-clause-counted
-returns-in-Greater-clause-counted g c =
-    let p = come_apart c.args.here.now c.requires.here_level.0 in
-    let one = c.compare_within.ensures.counts_one in
-    let more = c.cut_right.ensures.counted in
-    (omega (arith, one, more.0), omega (arith, one, more.1, p.high))
+returns-in-Greater-clause-counted g c = grind (arith, come_apart)

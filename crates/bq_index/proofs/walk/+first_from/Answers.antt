@@ -1,20 +1,16 @@
-use Rattle.std.proofs.Common.{rules}
-use Rattle.bq_index.specs.Walk.{entry_of, passes_from}
+use Rattle.std.proofs.Common.{arith}
+use Rattle.bq_index.specs.Walk.{entry_of}
 use Rattle.bq_index.proofs.Parts.{left_in_order, right_in_order, shorter}
 use Rattle.bq_index.proofs.FirstPassing.{first_here, first_right, found_left, from_right}
 use Rattle.bq_index.proofs.walk.+first_from.Goals as goal
 
 pub first_from-requires : goal.first_from-requires
 first_from-requires g t c =
-    let less = shorter c.in_ok-left.ensures.parts in
-    let order = right_in_order g.K.Ord.cmp c.in_ok-left.ensures.parts c.requires.in_order in
-    search rules
+    grind (arith, shorter c.in_ok-left.ensures.parts, right_in_order g.K.Ord.cmp c.in_ok-left.ensures.parts c.requires.in_order)
 
 pub first_from-requires-2 : goal.first_from-requires-2
 first_from-requires-2 g t c =
-    let less = shorter c.in_ok-left.ensures.parts in
-    let order = left_in_order g.K.Ord.cmp c.in_ok-left.ensures.parts c.requires.in_order in
-    search rules
+    grind (arith, shorter c.in_ok-left.ensures.parts, left_in_order g.K.Ord.cmp c.in_ok-left.ensures.parts c.requires.in_order)
 
 pub returns-then-is_gt : goal.returns-then-is_gt
 returns-then-is_gt g t c =
@@ -36,7 +32,4 @@ returns-else-passes g t c =
     c.first.result c.first.ensures
 
 pub returns-in_default : goal.returns-in_default
-returns-in_default g t c =
-    found_left (passes_from (g.K.Ord.cmp c.args.from.now) (g.T.Test.passed c.args.test.now)) c.in_ok-left.ensures.parts entry_of
-    c.first_from-2.result
-    c.in_default.not-None c.first_from-2.ensures
+returns-in_default g t c = grind (arith, found_left)

@@ -6,5 +6,4 @@ differs : (a b : ℕ) → a ≢ b → (a == b) ≡ false
 differs a b other = grind (arith, common_steps, cases_Bool, eqb-true)
 
 pub returns : goal.returns
-returns c first last at seat client what outcome given other step =
-    others_give first last at seat client what outcome given (differs seat client other) step
+returns c first last at seat client what outcome given other step = search (others_give, differs)

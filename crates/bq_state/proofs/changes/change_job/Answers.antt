@@ -14,6 +14,4 @@ invariant_of-state c = grind (
 
 pub invariant_of-state-2-clause-sound : goal.invariant_of-state-2-clause-sound
 invariant_of-state-2-clause-sound c =
-    let sound = sound_with_moved c.args.state.now c.args.id c.args.what.now c.in-Some.report.1 c.in-Some.ensures.ordered
-    c.in-Some.ensures.moved in
-    rw (c.count_move.ensures.0, c.count_move.ensures.1, c.as_slice.ensures.value, c.in-Some.ensures.jobs) sound
+    grind (arith, sound_with_moved c.args.state.now c.args.id c.args.what.now c.in-Some.report.1 c.in-Some.ensures.ordered)

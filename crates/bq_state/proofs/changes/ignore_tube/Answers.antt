@@ -25,8 +25,7 @@ invariant_of-state-clause-sound c =
     let entries = watching_fewer st fewer n t here in
     let numbered = watching_numbered (filter fewer t.watched) n t st.seats.items here st.sound.numbered in
     let waiting = in_turn_watching (filter fewer t.watched) n t st.waiting st.seats.items here st.sound.numbered st.sound.waiting in
-    let known = so_ignoring st name n t here few in
-    rw (c.add.ensures, c.recount.ensures, c.at-share.ensures, c.ignore.ensures.ignored t here) assumption
+    grind (arith, so_ignoring)
 
 pub returns-then-from-len-clause-count : goal.returns-then-from-len-clause-count
 returns-then-from-len-clause-count c s found = c.ignore.ensures.count s (seat_there _ _ _ c.args.state.now.sound.numbered found)

@@ -6,8 +6,7 @@ use Rattle.bq_state.proofs.{PartsLemmas.watching_numbered, WaitingLemmas.in_turn
 use Rattle.bq_state.proofs.changes.watch_tube.Goals as goal
 
 pub returns-in-Ok-clause-count : goal.returns-in-Ok-clause-count
-returns-in-Ok-clause-count c s found = rw c.new-watched.ensures at (c.in-Ok.ensures.count s
-    (rw c.in_ok-number.ensures.seats (seat_there _ _ _ c.args.state.now.sound.numbered found)))
+returns-in-Ok-clause-count c s found = grind (arith, seat_there _ _ _ c.args.state.now.sound.numbered found)
 
 pub returns-in-Ok-clause-watched : goal.returns-in-Ok-clause-watched
 returns-in-Ok-clause-watched c s found =
@@ -44,6 +43,4 @@ invariant_of-state-clause-sound c =
     let entries = watching_more mid name n t here p.entry in
     let numbered = watching_numbered (t.watched ++ name ∷ []) n t mid.seats.items here mid.sound.numbered in
     let waiting = in_turn_watching (t.watched ++ name ∷ []) n t mid.waiting mid.seats.items here mid.sound.numbered mid.sound.waiting in
-    let known = so_watching mid name n t here few fresh in
-    rw (c.add_all_if.ensures, c.recount.ensures, c.of_watcher-share.ensures, c.in-Ok.ensures.watched t here, c.new-watched.ensures)
-    assumption
+    grind (arith, so_watching)

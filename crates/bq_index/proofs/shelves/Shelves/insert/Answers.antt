@@ -1,23 +1,18 @@
-use Rattle.std.proofs.Common.{arith, ◌∙◌}
-use Rattle.bq_index.proofs.Spread.{high_few, high_inserted, high_lookup, insert_high_whole, insert_whole, low_few, low_inserted, low_lookup}
+use Rattle.bq_index.proofs.Order.{length_inserted}
+use Rattle.bq_index.proofs.Spread.{low_whole}
+use Rattle.std.proofs.Common.{arith}
+use Rattle.bq_index.proofs.Spread.{high_few, high_inserted, high_lookup, insert_high_whole, low_few, low_inserted, low_lookup}
 use Rattle.bq_index.proofs.shelves.Shelves.insert.Goals as goal
 
 pub insert_at-requires-clause-absent : goal.insert_at-requires-clause-absent
-insert_at-requires-clause-absent g c =
-    low_lookup g.met.K.Ord.total g.K.Parted.part g.met.K.Parted.apart c.self.invariant c.self.view_is c.args.key
-    (omega (arith, c.part-part.ensures, c.if-part-len.true, c.len.ensures)) ∙ c.requires.absent
+insert_at-requires-clause-absent g c = grind (arith, low_lookup)
 
 pub invariant_of-self : goal.invariant_of-self
 invariant_of-self g c =
-    let done = c.insert_at.ensures in
-    insert_whole g.met.K.Ord.total g.K.Parted.part g.met.K.Parted.apart c.self.invariant c.self.view_is c.args.key
-    (omega (arith, c.part-part.ensures, c.if-part-len.true, c.len.ensures)) c.args.value c.requires.absent
-    done.spread done.is done.as_many done.entries done.spare (omega arith)
+    grind (arith, length_inserted, low_lookup, low_whole)
 
 pub insert-requires-clause-absent : goal.insert-requires-clause-absent
-insert-requires-clause-absent g c =
-    high_lookup g.met.K.Ord.total g.K.Parted.part g.met.K.Parted.apart c.self.invariant c.self.view_is c.args.key
-    (omega (arith, c.part-part.ensures, c.if-part-len.false, c.len.ensures)) ∙ c.requires.absent
+insert-requires-clause-absent g c = grind (arith, high_lookup)
 
 pub invariant_of-self-else-part-len : goal.invariant_of-self-else-part-len
 invariant_of-self-else-part-len g c =
@@ -26,19 +21,14 @@ invariant_of-self-else-part-len g c =
     c.insert.ensures.entries c.insert.ensures.spare
 
 pub returns-then-part-len-clause-entries : goal.returns-then-part-len-clause-entries
-returns-then-part-len-clause-entries g c =
-    low_inserted g.met.K.Ord.total g.K.Parted.part g.met.K.Parted.apart c.self.invariant c.self.view_is c.args.key
-    (omega (arith, c.part-part.ensures, c.if-part-len.true, c.len.ensures)) c.args.value c.insert_at.ensures.is
-    c.insert_at.ensures.entries
+returns-then-part-len-clause-entries g c = grind (arith, low_inserted)
 
 pub returns-then-part-len-clause-comparisons : goal.returns-then-part-len-clause-comparisons
 returns-then-part-len-clause-comparisons g c =
     low_few g.met.K.Ord.total g.K.Parted.part g.met.K.Parted.apart c.self.invariant c.self.view_is c.insert_at.ensures.comparisons
 
 pub returns-else-part-len-clause-entries : goal.returns-else-part-len-clause-entries
-returns-else-part-len-clause-entries g c =
-    high_inserted g.met.K.Ord.total g.K.Parted.part g.met.K.Parted.apart c.self.invariant c.self.view_is c.args.key
-    (omega (arith, c.part-part.ensures, c.if-part-len.false, c.len.ensures)) c.args.value c.insert.ensures.entries
+returns-else-part-len-clause-entries g c = grind (arith, high_inserted)
 
 pub returns-else-part-len-clause-comparisons : goal.returns-else-part-len-clause-comparisons
 returns-else-part-len-clause-comparisons g c =

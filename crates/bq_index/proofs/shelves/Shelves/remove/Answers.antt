@@ -1,5 +1,7 @@
-use Rattle.std.proofs.Common.{rules, arith, ◌≡◌, None, Some, ◌∙◌}
-use Rattle.bq_index.proofs.Spread.{high_few, high_lookup, high_removed, low_few, low_lookup, low_removed, remove_high_whole, remove_whole}
+use Rattle.bq_index.proofs.Order.{length_lost}
+use Rattle.bq_index.proofs.Spread.{low_whole}
+use Rattle.std.proofs.Common.{arith}
+use Rattle.bq_index.proofs.Spread.{high_few, high_lookup, high_removed, low_few, low_lookup, low_removed, remove_high_whole}
 use Rattle.bq_index.proofs.shelves.Shelves.remove.Goals as goal
 
 pub invariant_of-self : goal.invariant_of-self
@@ -9,14 +11,10 @@ invariant_of-self g c =
     c.remove.ensures.entries c.remove.ensures.spare
 
 pub returns-then-part-len-clause-value : goal.returns-then-part-len-clause-value
-returns-then-part-len-clause-value g c =
-    c.remove.ensures.value ∙ high_lookup g.met.K.Ord.total g.K.Parted.part g.met.K.Parted.apart c.self.invariant c.self.view_is
-    c.args.key.now (omega (arith, c.part-part.ensures, c.if-part-len.true, c.len.ensures))
+returns-then-part-len-clause-value g c = grind (arith, high_lookup)
 
 pub returns-then-part-len-clause-entries : goal.returns-then-part-len-clause-entries
-returns-then-part-len-clause-entries g c =
-    high_removed g.met.K.Ord.total g.K.Parted.part g.met.K.Parted.apart c.self.invariant c.self.view_is c.args.key.now
-    (omega (arith, c.part-part.ensures, c.if-part-len.true, c.len.ensures)) c.remove.ensures.entries
+returns-then-part-len-clause-entries g c = grind (arith, high_removed)
 
 pub returns-then-part-len-clause-comparisons : goal.returns-then-part-len-clause-comparisons
 returns-then-part-len-clause-comparisons g c =
@@ -24,24 +22,13 @@ returns-then-part-len-clause-comparisons g c =
 
 pub invariant_of-self-in_err-value : goal.invariant_of-self-in_err-value
 invariant_of-self-in_err-value g c =
-    let done = c.remove_at.ensures in
-    let was : c.remove_at.result ≡ None = search rules in
-    remove_whole g.met.K.Ord.total g.K.Parted.part g.met.K.Parted.apart c.self.invariant c.self.view_is c.args.key.now
-    (omega (arith, c.part-part.ensures, c.if-part-len.false, c.len.ensures)) c.remove_at.result done.value
-    done.spread done.is done.as_many done.entries done.spare (rw was (omega arith))
+    grind (arith, length_lost, low_whole)
 
 pub returns-in_err-value-clause-value : goal.returns-in_err-value-clause-value
-returns-in_err-value-clause-value g c =
-    let was : None ≡ c.remove_at.result = search rules in
-    let told = was ∙ c.remove_at.ensures.value ∙ low_lookup g.met.K.Ord.total g.K.Parted.part g.met.K.Parted.apart c.self.invariant
-    c.self.view_is
-    c.args.key.now (omega (arith, c.part-part.ensures, c.if-part-len.false, c.len.ensures)) in
-    search rules
+returns-in_err-value-clause-value g c = grind (arith, low_lookup)
 
 pub returns-in_err-value-clause-entries : goal.returns-in_err-value-clause-entries
-returns-in_err-value-clause-entries g c =
-    low_removed g.met.K.Ord.total g.K.Parted.part g.met.K.Parted.apart c.self.invariant c.self.view_is c.args.key.now
-    (omega (arith, c.part-part.ensures, c.if-part-len.false, c.len.ensures)) c.remove_at.ensures.is c.remove_at.ensures.entries
+returns-in_err-value-clause-entries g c = grind (arith, low_removed)
 
 pub returns-in_err-value-clause-comparisons : goal.returns-in_err-value-clause-comparisons
 returns-in_err-value-clause-comparisons g c =
@@ -49,24 +36,13 @@ returns-in_err-value-clause-comparisons g c =
 
 pub invariant_of-self-2 : goal.invariant_of-self-2
 invariant_of-self-2 g c =
-    let done = c.remove_at.ensures in
-    let was : c.remove_at.result ≡ Some c.in_ok-value.value = search rules in
-    remove_whole g.met.K.Ord.total g.K.Parted.part g.met.K.Parted.apart c.self.invariant c.self.view_is c.args.key.now
-    (omega (arith, c.part-part.ensures, c.if-part-len.false, c.len.ensures)) c.remove_at.result done.value
-    done.spread done.is done.as_many done.entries done.spare (rw was (omega arith))
+    grind (arith, length_lost, low_whole)
 
 pub returns-clause-value : goal.returns-clause-value
-returns-clause-value g c =
-    let was : Some c.in_ok-value.value ≡ c.remove_at.result = search rules in
-    let told = was ∙ c.remove_at.ensures.value ∙ low_lookup g.met.K.Ord.total g.K.Parted.part g.met.K.Parted.apart c.self.invariant
-    c.self.view_is
-    c.args.key.now (omega (arith, c.part-part.ensures, c.if-part-len.false, c.len.ensures)) in
-    search rules
+returns-clause-value g c = grind (arith, low_lookup)
 
 pub returns-clause-entries : goal.returns-clause-entries
-returns-clause-entries g c =
-    low_removed g.met.K.Ord.total g.K.Parted.part g.met.K.Parted.apart c.self.invariant c.self.view_is c.args.key.now
-    (omega (arith, c.part-part.ensures, c.if-part-len.false, c.len.ensures)) c.remove_at.ensures.is c.remove_at.ensures.entries
+returns-clause-entries g c = grind (arith, low_removed)
 
 pub returns-clause-comparisons : goal.returns-clause-comparisons
 returns-clause-comparisons g c =

@@ -16,6 +16,4 @@ returns c =
     c.self.invariant.1 c.other.invariant.1
     (omega (arith, c.self.invariant.0, length-take c.self.inside.len c.self.inside.bytes))
     (omega (arith, c.other.invariant.0, length-take c.other.inside.len c.other.inside.bytes)) in
-    let one = c.self.view_is in
-    let other = c.other.view_is in
-    cc
+    grind arith

@@ -1,20 +1,14 @@
-use Rattle.std.proofs.Common.{ap, subst, sym, ◌∙◌}
-use Rattle.std.specs.Prelude.{is_some}
+use Rattle.std.proofs.Common.{ap, subst, sym, ◌∙◌, arith}
+use Rattle.std.proofs.lemmas.Grind.{common_steps}
 use Rattle.std.specs.Option.{IfSome, option_map}
 use Rattle.bq_jobs.specs.Kept.{Kept}
 use Rattle.bq_jobs.specs.Numbering.{HasNumber}
 use Rattle.bq_jobs.specs.Told.{removed_told}
-use Rattle.bq_jobs.proofs.NamedJobs.{some_mapped}
 use Rattle.bq_jobs.proofs.TestedRemovals.{number_removed_if, removes_named_if}
 use Rattle.bq_jobs.proofs.jobs.NumberedJobs.discard_if.Goals as goal
 
 pub returns-clause-left : goal.returns-clause-left
-returns-clause-left g c =
-    let k = c.self.inside.tubes.value in
-    removes_named_if k c.args.id c.self.inside.orders c.discard_if-removed.new.self c.args.self.now c.discard_if-removed.result
-    c.removed_of.result
-    c.self.view_is (ap is_some c.removed_of.ensures ∙ some_mapped (removed_told k) c.discard_if-removed.result)
-    c.discard_if-removed.ensures.left
+returns-clause-left g c = grind (arith, common_steps, removes_named_if)
 
 pub returns-clause-number : goal.returns-clause-number
 returns-clause-number g c =

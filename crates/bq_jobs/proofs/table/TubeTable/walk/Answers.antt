@@ -1,4 +1,4 @@
-use Rattle.std.proofs.Common.{◌∙◌, List, ap, arith, fold, length, refl, ℕ}
+use Rattle.std.proofs.Common.{◌∙◌, List, ap, arith, fold, refl, ℕ}
 use Rattle.std.specs.Prelude.{slice_get}
 use Rattle.bq_index.specs.Walk.{seen_by}
 use Rattle.bq_jobs.specs.Table.{Tabled, entries_at, visited}
@@ -21,7 +21,4 @@ returns-clause-visitor g c =
     ∙ ap (λ (s : Tabled g.row.V.Denot). fold (seen_by after) c.args.visitor s.entries) c.self.view_is
 
 pub returns-clause-few : goal.returns-clause-few
-returns-clause-few g c =
-    let many = table_length c.self.inside.tubes c.self.inside.values.items c.self.invariant c.args.self.now c.self.view_is in
-    let same = ap length c.by_name.ensures in
-    omega (arith, c.walk.ensures.few, many, same)
+returns-clause-few g c = grind (arith, table_length)

@@ -1,7 +1,8 @@
-use Rattle.std.proofs.Common.{◌∙◌, Some, None, refl, sym}
+use Rattle.bq_jobs.proofs.FreeLemmas.{names_many, freed_first, nexts_many}
+use Rattle.std.proofs.Common.{◌∙◌, Some, None, refl, sym, arith}
 use Rattle.bq_jobs.specs.FreeNumbers.{names_in}
 use Rattle.bq_jobs.specs.Numbering.{Numbering}
-use Rattle.bq_jobs.proofs.FreeLemmas.{has_place, slot_freed}
+use Rattle.bq_jobs.proofs.FreeLemmas.{has_place}
 use Rattle.bq_jobs.proofs.NumberingLemmas.{number_few, removed_to}
 use Rattle.bq_jobs.proofs.tubes.NumberedTubes.remove.Goals as goal
 
@@ -32,9 +33,7 @@ invariant_of-self-2 c =
     (Some c.in_ok-number.number) c.self.invariant.0 (sym c.remove.ensures.value ∙ c.in_ok-number.was) c.remove.ensures.entries
     c.change-next.ensures.names in
     let within = has_place k c.self.inside.slots.items c.in_ok-number.number c.args.name.now refl own in
-    let chained = slot_freed c.self.inside.slots.items c.self.inside.free c.self.invariant.1 c.change-next.new.slots.items
-    c.in_ok-number.number c.args.name.now own within c.change-next.ensures.names c.change-next.ensures.nexts in
-    (paired, chained)
+    grind (arith, freed_first, names_many, nexts_many)
 
 pub returns-in_err-number-clause-paired_after : goal.returns-in_err-number-clause-paired_after
 returns-in_err-number-clause-paired_after c =

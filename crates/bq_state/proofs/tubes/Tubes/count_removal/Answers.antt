@@ -4,8 +4,7 @@ use Rattle.bq_state.specs.{TubeEntries.tube_changed, declared.tubes.entry.TubeCh
 use Rattle.bq_state.proofs.tubes.Tubes.count_removal.Goals as goal
 
 pub returns-clause-after : goal.returns-clause-after
-returns-clause-after c = job_counted CountDelete _ _ _ _ _ _ _ _ c.edit_numbered.ensures.entries c.edit_numbered.ensures.numbers
-    c.self.view_is c.edit_numbered.ensures.ordered (λ n t. refl) (λ t. refl) (λ t. refl)
+returns-clause-after c = search job_counted
 
 pub invariant_of-self : goal.invariant_of-self
 invariant_of-self c = edit_stays c.args.removed.now.tube (kept_removed c.args.removed.now) (tube_changed CountDelete) (λ n t. refl)

@@ -1,4 +1,6 @@
-use Rattle.bq_state.proofs.EndMoves.{change_moves, end_absent, end_fits, ends_moved}
+use Rattle.std.proofs.Common.{arith}
+use Rattle.std.proofs.lemmas.Grind.{common_steps}
+use Rattle.bq_state.proofs.EndMoves.{change_moves, end_absent, ends_moved}
 use Rattle.bq_state.proofs.tubes.pauses.pause.Goals as goal
 
 pub enter-requires : goal.enter-requires
@@ -8,10 +10,8 @@ enter-requires c =
     let moves = change_moves c.args.name.now c.args.what _ _ from.ordered edit.numbers edit.entries from.told in
     let next = rw edit.numbers at c.end_of-to.ensures.end in
     record {
-      spare = end_fits _ _ _ _ _ _ _ _ _ c.requires moves from.end next c.leave.ensures.entries c.leave.ensures.ordered
-          c.leave.ensures.spare;
-      absent = end_absent _ _ _ _ _ _ _ _ _ c.requires moves from.end next c.leave.ensures.entries c.leave.ensures.ordered
-          c.leave.ensures.spare;
+      spare = grind (arith, common_steps);
+      absent = grind (arith, end_absent);
     }
 
 pub returns-clause-ends : goal.returns-clause-ends
@@ -20,5 +20,4 @@ returns-clause-ends c =
     let edit = c.edit-changed.ensures in
     let moves = change_moves c.args.name.now c.args.what _ _ from.ordered edit.numbers edit.entries from.told in
     let next = rw edit.numbers at c.end_of-to.ensures.end in
-    ends_moved _ _ _ _ _ _ _ _ _ c.requires moves from.end next c.leave.ensures.entries c.leave.ensures.ordered
-    c.leave.ensures.spare _ c.enter.ensures.entries c.enter.ensures.spare
+    search ends_moved
