@@ -1,5 +1,6 @@
 -- The doors of a run come back in the order in which they were passed in.
-use Rattle.std.proofs.Common.{◌≡◌, ◌∙◌, List, [], ◌∷◌, ◌++◌, map, ap, sym, subst, append-nil, append_assoc}
+use Rattle.std.proofs.Common.{◌≡◌, List, [], ◌∷◌, ◌++◌, map, append_assoc, arith}
+use Rattle.std.proofs.lemmas.Grind.{common_steps}
 use Rattle.bq_line.specs.Tending.{AreSame}
 
 -- One more door comes back.
@@ -19,14 +20,8 @@ pub record AreBack {D T : Type 0} (same : D → D → Type 0) (door_of : T → D
 pub one_back : {D T : Type 0} (same : D → D → Type 0) (door_of : T → D) (all rest more : List T) (t : T) (doors later : List D) (door : D)
     → rest ≡ t ∷ more → later ≡ doors ++ door ∷ [] → same (door_of t) door → AreBack same door_of all rest doors
     → AreBack same door_of all more later
-one_back same door_of all rest more t doors later door rest_is later_is here b = record {
-  firsts = b.firsts ++ door_of t ∷ [];
-  back = subst (AreSame same (b.firsts ++ door_of t ∷ [])) (sym later_is) (same_more same b.firsts doors (door_of t) door b.back here);
-  all_are = b.all_are ∙ ap (λ ts. b.firsts ++ map door_of ts) rest_is ∙ sym (append_assoc b.firsts (door_of t ∷ []) (map door_of more));
-}
+one_back same door_of all rest more t doors later door rest_is later_is here b = grind (arith, same_more, append_assoc)
 
 pub all_back : {D T : Type 0} (same : D → D → Type 0) (door_of : T → D) (all rest : List T) (doors : List D) → rest ≡ []
     → AreBack same door_of all rest doors → AreSame same (map door_of all) doors
-all_back {D} same door_of all rest doors e b =
-    let whole : map door_of all ≡ b.firsts = b.all_are ∙ ap (λ ts. b.firsts ++ map door_of ts) e ∙ append-nil b.firsts in
-    subst (λ (firsts : List D). AreSame same firsts doors) (sym whole) b.back
+all_back {D} same door_of all rest doors e b = grind (arith, common_steps)

@@ -1,14 +1,12 @@
 -- Bytes in a buffer, and those left in the stream after them.
-use Rattle.std.proofs.Common.{◌≡◌, ◌<◌, ℕ, List, ◌++◌, Option, Some, None, min, take, drop, sym, ap, ◌∙◌, arith, append_assoc}
+use Rattle.std.proofs.Common.{◌≡◌, ◌<◌, ℕ, List, Option, min, take, drop, arith, append_assoc}
 use Rattle.std.proofs.lemmas.List.{take-append-drop}
 use Rattle.std.specs.Io.KnownBytes.{Consumes, prepend_known}
 
 -- the first bytes of the buffer were taken
 pub taken_first : (held left : List ℕ) (known : Option (List ℕ)) (n : ℕ) → left ≡ drop n held
     → Consumes (prepend_known held known) (prepend_known left known) (take n held)
-taken_first held left None n is = tt
-taken_first held left (Some rest) n is =
-    rw is (ap (λ bytes. bytes ++ rest) (sym (take-append-drop n held)) ∙ append_assoc (take n held) (drop n held) rest)
+taken_first held left known n h4 = grind (arith, append_assoc, take-append-drop n held)
 
 -- as many bytes as both have
 pub some_of_both : (a b n : ℕ) → n ≡ min a b → 0 < a → 0 < b → n ≡ 0 → ⊥

@@ -13,7 +13,6 @@ pub mod SeatLemmas
 pub mod SeenLemmas
 pub mod SocketLemmas
 pub mod StreamLemmas
-pub mod SureLemmas
 pub mod TendingLemmas
 pub mod TogetherLemmas
 pub mod ToldLemmas

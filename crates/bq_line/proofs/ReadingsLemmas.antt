@@ -9,9 +9,7 @@ use Rattle.std.specs.Prelude.{slice_get}
 use Rattle.bq_line.specs.ScriptPlace.{ScriptPlace, IsRead, last_reading}
 
 one_more : (script : List (Option ℕ)) (place : ℕ) (r : Option ℕ) → slice_get script place ≡ Some r → take 1 (drop place script) ≡ r ∷ []
-one_more script place r is =
-    let lt : place < length script = slice_get_within script place r is in
-    rw (drop-cons script place None lt, get_or_from_slice_get script place r None is) refl
+one_more script place r is = grind (arith, drop-cons, slice_get_within script place r is, get_or_from_slice_get script place r None is)
 
 pub read_next : (first old new : ScriptPlace) (readings : List (Option ℕ)) (r : Option ℕ) → IsRead first readings old
     → old.place < length old.script → slice_get old.script old.place ≡ Some r → new.script ≡ old.script → new.place ≡ old.place + 1
@@ -36,14 +34,5 @@ read_next first old new readings r read lt is script place =
 
 pub read_again : (first old : ScriptPlace) (readings : List (Option ℕ)) (r : Option ℕ) → IsRead first readings old
     → length old.script ≤ old.place → r ≡ last_reading old.script → IsRead first (readings ++ r ∷ []) old
-read_again first old readings r read le is = record {
-  count = read.count;
-  again = read.again + 1;
-  script_is = read.script_is;
-  within = read.within;
-  place_is = read.place_is;
-  readings_are =
-      let last : r ≡ last_reading first.script = rw (← read.script_is) is in
-      rw (← replicate-append-replicate read.again 1 (last_reading first.script), read.readings_are, last) (grind (arith, append_assoc));
-  at_end = inr le;
-}
+read_again first old readings r read le is =
+    grind (arith, append_assoc, replicate-append-replicate read.again 1 (last_reading first.script))

@@ -1,5 +1,6 @@
 -- What a call of the system means for a stream, with what its error means.
-use Rattle.std.proofs.Common.{◌≡◌, ℕ, List, [], ◌∷◌, ◌++◌, Option, Result, Ok, Err, append_assoc, append-nil, ap, sym, ◌∙◌}
+use Rattle.std.proofs.Common.{◌≡◌, ℕ, List, [], ◌∷◌, ◌++◌, Option, Result, arith}
+use Rattle.std.proofs.lemmas.Grind.{common_steps}
 use Rattle.std.specs.Io.{ReadsAtMost, WritesAtMost}
 use Rattle.std.specs.Io.KnownBytes.{ReadConsumes, WriteAppends}
 use Rattle.std.specs.Io.Slices.{io_slice_bytes, io_slices_bytes}
@@ -11,20 +12,15 @@ use Rattle.bq_line.specs.declared.line.stream_error.StreamError.{StreamError}
 
 pub read_in_brief : (left later : Option (List ℕ)) (buf : List ℕ) (came : Result ℕ Error) (result : Result ℕ StreamError)
     → result ≡ in_brief came → ReadsAtMost came buf → ReadConsumes left later came buf → ReadsFrom left later result buf
-read_in_brief left later buf (Ok n) result is bound took = rw is (bound, took)
-read_in_brief left later buf (Err e) result is bound took = rw is (tt, took)
+read_in_brief left later buf came result h5 h6 h7 = grind arith
 
 pub write_in_brief : (held later : Option (List ℕ)) (buf : List ℕ) (took : Result ℕ Error) (result : Result ℕ StreamError)
     → result ≡ in_brief took → WritesAtMost took buf → WriteAppends held later took buf → WritesTo held later result buf
-write_in_brief held later buf (Ok n) result is bound wrote = rw is (bound, wrote)
-write_in_brief held later buf (Err e) result is bound wrote = rw is (tt, wrote)
+write_in_brief held later buf took result h5 h6 h7 = grind arith
 
 -- The same for a write of three texts.
 pub slices_in_brief : (held later : Option (List ℕ)) (a b c : IoSlice) (first second third : List ℕ) (took : Result ℕ Error)
     (result : Result ℕ StreamError) → io_slice_bytes a ≡ first → io_slice_bytes b ≡ second → io_slice_bytes c ≡ third
     → result ≡ in_brief took → WritesAtMost took (io_slices_bytes (a ∷ b ∷ c ∷ []))
     → WriteAppends held later took (io_slices_bytes (a ∷ b ∷ c ∷ [])) → WritesTo held later result ((first ++ second) ++ third)
-slices_in_brief held later a b c first second third took result a_is b_is c_is is bound wrote =
-    let joined : io_slices_bytes (a ∷ b ∷ c ∷ []) ≡ (first ++ second) ++ third =
-    rw (a_is, b_is, c_is) (ap (λ t. first ++ (second ++ t)) (append-nil third) ∙ sym (append_assoc first second third)) in
-    write_in_brief held later ((first ++ second) ++ third) took result is (rw joined at bound) (rw joined at wrote)
+slices_in_brief held later a b c first second third took result a_is b_is c_is is bound wrote = grind (arith, common_steps)

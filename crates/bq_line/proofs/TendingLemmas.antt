@@ -1,5 +1,5 @@
 -- A seat and its door continue with each thing that the seat does.
-use Rattle.std.proofs.Common.{ℕ, ◌≡◌, ◌≤◌, Bool, true, false, List, [], ◌∷◌, ◌++◌, length}
+use Rattle.std.proofs.Common.{ℕ, ◌≡◌, ◌≤◌, true, false, List, [], ◌∷◌, ◌++◌, length}
 use Rattle.std.proofs.Common.{refl, sym, ap, ◌∙◌, arith, subst, append-nil, append_assoc, length-append, inl, inr}
 use Rattle.bq_job.specs.declared.answer.Answer.{Answer}
 use Rattle.bq_job.specs.declared.line_end.LineEnd.{LineEnd}
@@ -66,16 +66,6 @@ moves_to seen size old new place door next before got t over grows at placed =
 
 pub tends_still : {L : Type 0} (seen : L → LineSeen) (a : Attendant L) (door : DoorSeen) → Tends seen a door [] [] a door
 tends_still seen a door size before got h = none_taken seen size a a door door before got (omega arith) h
-
--- Its door changed in nothing that it records.
-pub tends_beside : {L : Type 0} (seen : L → LineSeen) (a : Attendant L) (door next : DoorSeen) → next.is_out ≡ door.is_out
-    → next.is_at_end ≡ door.is_at_end → next.lines_over ≡ door.lines_over → Tends seen a door [] [] a next
-tends_beside seen a door next out ended over =
-    let P : Bool → Bool → List LineOver → Type 0 = λ o e l.
-    Tends seen a door [] [] a (record { is_out = o; is_at_end = e; lines_over = l }) in
-    subst (λ (o : Bool). P o next.is_at_end next.lines_over) (sym out)
-    (subst (λ (e : Bool). P door.is_out e next.lines_over) (sym ended)
-    (subst (λ (l : List LineOver). P door.is_out door.is_at_end l) (sym over) (tends_still seen a door)))
 
 -- A connection was opened.
 pub tends_opened : {L : Type 0} (seen : L → LineSeen) (old new : SeatMachine) (line : L) (action : Action) (door next : DoorSeen)

@@ -255,6 +255,7 @@ fn is_whole(head: &[u8], body: &[u8], tail: &[u8], done: usize) -> bool
 }
 
 // Makes one write from what follows the first `done` bytes of three parts.
+#[tactic(auto, using(crate::proofs::WritingLemmas::behind_first_of_three, crate::proofs::WritingLemmas::from_same))]
 fn write_some<L: Line>(
     line: &mut L,
     head: &[u8],
@@ -330,6 +331,7 @@ fn write_body<L: Line>(line: &mut L, body: &[u8], tail: &[u8]) -> Result<usize, 
 }
 
 // As many bytes of a text as one action writes.
+#[tactic(auto, using(crate::proofs::WritingLemmas::take_begins))]
 fn first_piece(bytes: &[u8]) -> &[u8]
     ensures begins { IsBeginning result.now bytes.now }
     ensures some { 0 < length bytes.now → 0 < length result.now }

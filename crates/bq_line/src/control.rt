@@ -40,6 +40,7 @@ pub trait ControlLink {
 
 /// Reads a control line, of which nothing was read, until it ends or fails. Submits a drain for each
 /// line `drain`, and finally that no more come. Returns the input.
+#[tactic(auto, using(crate::proofs::ToldLemmas::submitted_on))]
 pub fn submit_control<R: Wait, I: ControlInput, K: ControlLink>(rt: &R, input: I, link: &mut K) -> I
     requires new { I.seen input ≡ new_control }
     requires ready { K.is_ready link.old }
@@ -66,6 +67,7 @@ pub fn submit_control<R: Wait, I: ControlInput, K: ControlLink>(rt: &R, input: I
 }
 
 // Submits the step that a control line owes, or rests if there is no room for it.
+#[tactic(auto, using(crate::proofs::ToldLemmas::none_submitted))]
 fn submit_owed<R: Wait, I: ControlInput, K: ControlLink>(
     rt: &R,
     link: &mut K,

@@ -1,14 +1,14 @@
 -- Each operation on the intake keeps its rule.
-use Rattle.std.proofs.Common.{◌≡◌, ℕ, ◌<◌, true, List, [], ◌∷◌, ◌++◌}
+use Rattle.std.proofs.Common.{◌≡◌, ℕ, ◌<◌, true, List, [], ◌∷◌, ◌++◌, arith}
 use Rattle.std.proofs.Common.{refl, sym, ap, ◌∙◌, subst, append_assoc}
-use mathlib.Core.Option.{some, some-ne-none}
+use mathlib.Core.Option.{some}
 use lib.ListN.{get_elem?}
 use Rattle.crossbeam_queue.specs.Fifo.{Pushes, Pops, Learns}
 use Rattle.bq_job.specs.declared.step.Step.{Step}
 use Rattle.bq_link.specs.declared.ends.View.{View}
 use Rattle.bq_link.specs.Delivery.{Delivers, IsCorePass, IsPass, WaitsOf, core_view}
 use Rattle.bq_link.specs.Submissions.{AreBelow, Covers, MaySubmit, MayTake, Invariant, steps_of}
-use Rattle.bq_link.proofs.ViewLemmas.{differ, each_more, each_set, no}
+use Rattle.bq_link.proofs.ViewLemmas.{differ, each_set}
 use Rattle.bq_link.proofs.SubmissionLemmas.{below_at, below_push, covers_push, of_other, of_own}
 
 pub begins : (was : Invariant) → was [] [] → Delivers was [] (core_view [] [] 0 ∷ [])
@@ -21,8 +21,7 @@ begins was start = record {
   whole = refl;
   real = start;
   below = tt;
-  passes = each_more (IsPass 0 0 (λ _. 0) [] []) [] (core_view [] [] 0) (λ j u e. absurd (some-ne-none u (sym e)))
-      ((λ e. no e), (λ _. (refl, refl, refl, tt)));
+  passes = grind arith;
 }
 
 -- the core's pass, when a step is submitted
@@ -69,9 +68,7 @@ submits was n pass v step may stays items views room h at =
 pub submits_as : (was : Invariant) (n pass : ℕ) (v : View) (number : ℕ) (step : Step) → v.submits ≡ true → v.number ≡ number
     → MaySubmit was n number step → Pushes (Delivers was) n pass v (number, step)
     (λ w. w ≡ record v { submitted = v.submitted ++ step ∷ [] })
-submits_as was n pass v number step may is = subst (λ m. MaySubmit was n m step
-    → Pushes (Delivers was) n pass v (m, step) (λ w. w ≡ record v { submitted = v.submitted ++ step ∷ [] })) is
-    (submits was n pass v step may)
+submits_as was n pass v number step may is = grind (arith, submits was n pass v step may)
 
 pub takes : (was : Invariant) (pass : ℕ) (v : View) → v.takes ≡ true → MayTake was
     → Pops (Delivers was) pass v (λ x w. (w ≡ record v { taken = v.taken ++ x ∷ [] }) × (x.0 < v.made))

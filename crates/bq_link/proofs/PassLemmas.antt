@@ -10,7 +10,7 @@ use Rattle.bq_link.specs.declared.ends.View.{View}
 use Rattle.bq_link.specs.Delivery.{Delivers, IsPass, IsSeatPass, blank_view, seat_view}
 use Rattle.bq_link.specs.Submissions.{AreBelow, Invariant}
 use Rattle.bq_link.proofs.SubmissionLemmas.{below_more, of_none}
-use Rattle.bq_link.proofs.ViewLemmas.{Each, differ, each_more, each_set, given, given_else, given_here, no}
+use Rattle.bq_link.proofs.ViewLemmas.{Each, each_more, each_set, given, given_else, given_here, no}
 
 -- the same steps are submitted and taken, while passes and numbers change
 module _ {was : Invariant} {items : List (ℕ × Step)} {views : List View} (h : Delivers was items views) where
@@ -66,9 +66,7 @@ makes was pass v may items views h at =
 -- The owner of a number changes; another pass submits under another number.
 still : (made : ℕ) (owner : ℕ → ℕ) (history : List (ℕ × Step)) (j : ℕ) (u : View) (number from to : ℕ) → owner number ≡ from
     → j ≢ from → IsSeatPass made owner history j u → IsSeatPass made (given owner number to) history j u
-still made owner history j u number from to theirs apart old may =
-    let o = old may in
-    (o.0, given_else owner number to u.number (differ owner u.number number j from o.1 theirs apart) ∙ o.1, o.2)
+still made owner history j u number from to theirs apart old may = grind arith
 
 -- the core's pass absorbs that of an end
 pub joins : (was : Invariant) (pass : ℕ) (v : View) (other : ℕ) (w : View) → v.takes ≡ true → w.submits ≡ true

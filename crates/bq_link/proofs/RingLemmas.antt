@@ -1,8 +1,7 @@
 -- The rings of the core's end, when one is used.
 use Rattle.std.specs.Prelude.{◌↔◌, IsTrue}
-use Rattle.std.proofs.Common.{◌≡◌, ℕ, Bool, true, false, not, refl, zero, suc, ◌+◌, ◌<◌, ◌≤◌, Global}
+use Rattle.std.proofs.Common.{◌≡◌, ℕ, Bool, true, false, not, ◌+◌, ◌<◌, ◌≤◌, Global}
 use Rattle.std.proofs.Common.{List, map, length, get_or, set, ap, ◌∙◌, arith}
-use Rattle.std.proofs.lemmas.List.Elements.{All-from_recursion}
 use Rattle.std.proofs.lemmas.Option.{slice_get_within}
 use Rattle.std.proofs.Math.Seq.{map-set_same}
 use Rattle.std.proofs.lemmas.{Bool.cases_Bool, Grind.common_steps}
@@ -95,8 +94,7 @@ module _ (c : CoreFields) (old : CoreState) (k number : ℕ) (d p : Ring) (is : 
 
   pub places_of : All (λ (r : Ring). producer_capacity r ≡ ring_places) c.rings.items → k < length c.rings.items
       → producer_capacity d ≡ ring_places
-  places_of all within = ap (λ (r : Ring). producer_capacity r) here
-      ∙ All-from_recursion (λ (r : Ring). producer_capacity r ≡ ring_places) c.rings.items all k d within
+  places_of all within = grind (arith, common_steps)
 
 -- what a ring has, looked at where it lies in the core's end
 pub ruleset looked = (common_steps, within_of, slice_get_within, room_now, sent_now, some_room, no_room, unsent)

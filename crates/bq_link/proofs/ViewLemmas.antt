@@ -1,6 +1,6 @@
 -- Lists of views, and the passes that numbers are given to.
-use Rattle.std.proofs.Common.{◌≡◌, ◌≢◌, ℕ, zero, suc, ◌⊎◌, inl, inr, ⊎_elim, true, false, true≢false, List, [], ◌∷◌}
-use Rattle.std.proofs.Common.{◌++◌, cond, length, set, refl, sym, ap, subst, ◌∙◌, eq-eqb, ne_eqb, eqb}
+use Rattle.std.proofs.Common.{◌≡◌, ◌≢◌, ℕ, zero, suc, ◌⊎◌, inl, inr, ⊎_elim, true, false, true≢false, List, [], ◌∷◌, arith}
+use Rattle.std.proofs.Common.{◌++◌, cond, length, set, refl, sym, ap, ◌∙◌, eq-eqb, ne_eqb, eqb}
 use mathlib.Core.Option.{some, some-ne-none, some-injective}
 use lib.ListN.{get_elem?}
 use Rattle.crossbeam_queue.proofs.Lists.{at_set}
@@ -12,8 +12,7 @@ Each F views = (pass : ℕ) (v : View) → get_elem? views pass ≡ some v → F
 -- one view is changed
 pub each_set : (F : ℕ → View → Type 0) (views : List View) (pass : ℕ) (w : View) → F pass w
     → ((j : ℕ) (u : View) → j ≢ pass → get_elem? views j ≡ some u → F j u) → Each F (set views pass w)
-each_set F views pass w mine others j u e =
-    ⊎_elim (λ t. subst (λ n. F n u) (sym t.0) (subst (F pass) t.1 mine)) (λ t. others j u t.0 t.1) (at_set views pass j w u e)
+each_set F views pass w mine others j u e = grind (arith, at_set)
 
 at_new : (views : List View) (v u : View) (j : ℕ) → get_elem? (views ++ v ∷ []) j ≡ some u
     → (get_elem? views j ≡ some u) ⊎ ((j ≡ length views) × (v ≡ u))
@@ -24,8 +23,7 @@ at_new (x ∷ xs) v u (suc j) e = ⊎_elim inl (λ t. inr (ap suc t.0, t.1)) (at
 
 -- one view is added
 pub each_more : (F : ℕ → View → Type 0) (views : List View) (v : View) → Each F views → F (length views) v → Each F (views ++ v ∷ [])
-each_more F views v each new j u e =
-    ⊎_elim (λ t. each j u t) (λ t. subst (λ n. F n u) (sym t.0) (subst (F (length views)) t.1 new)) (at_new views v u j e)
+each_more F views v each new j u e = grind (arith, at_new)
 
 -- a number is given to a pass
 abbrev pub given : (ℕ → ℕ) → ℕ → ℕ → ℕ → ℕ

@@ -1,23 +1,20 @@
 -- The moves of a seat machine: what holds in the pasts that it represents, and how they continue.
-use Rattle.std.proofs.Common.{◌≡◌, ◌≤◌, ◌+◌, Bool, true, false, ◌||◌, List, [], ◌∷◌, ◌++◌, Some, map, length, inl, inr, refl}
-use Rattle.std.proofs.Common.{sym, ap, ◌∙◌, arith, subst, append_assoc, append-nil, ℕ, if◌then◌else◌, not, ◌&&◌, ◌==◌}
-use Rattle.std.proofs.lemmas.Bool.{cases_Bool, or_parts}
+use Rattle.std.proofs.Common.{◌≡◌, ◌≤◌, ◌+◌, Bool, true, false, List, [], Some, length, refl}
+use Rattle.std.proofs.Common.{sym, ap, ◌∙◌, arith, subst, append-nil, ℕ, if◌then◌else◌, not, ◌&&◌, ◌==◌}
+use Rattle.std.proofs.lemmas.Bool.{cases_Bool}
 use Rattle.std.proofs.lemmas.Grind.{common_steps}
-use Rattle.std.proofs.lemmas.List.Folds.{list_any-append}
 use Rattle.bq_job.specs.declared.answer.Answer.{Answer}
 use Rattle.bq_job.specs.declared.line_end.LineEnd.{LineEnd}
-use Rattle.bq_job.specs.declared.line_end.LineFault.{LineFault}
-use Rattle.bq_job.specs.declared.step.Step.{Step}
 use Rattle.bq_job.specs.promise.LineSteps.{wanted}
 use Rattle.bq_job.specs.machine.OneClient.{is_closed_answer}
 use Rattle.bq_job.specs.declared.step.Step.TheVariants as steps
 use Rattle.bq_job.proofs.GivenLemmas.{wanted_append}
 use Rattle.bq_seat.specs.Finds.{Finds}
-use Rattle.bq_seat.specs.Past.{IsOrderly, Past, awaited_by, has_close, is_close, is_stray, past_after, with_action, with_event}
-use Rattle.bq_seat.specs.Past.{with_fault, with_mail, Awaited, answers, first_past}
+use Rattle.bq_seat.specs.Past.{IsOrderly, Past, awaited_by, is_stray, past_after, with_action, with_event}
+use Rattle.bq_seat.specs.Past.{Awaited, answers, first_past}
 use Rattle.bq_seat.specs.SeatMoves.{IsAnswered, IsMove, OpensPast}
 use Rattle.bq_seat.specs.SeatParts.{IfLineOver, IsStagedMove, OpensLine, GoesOn, ServesAll, between, in_stage, is_asking, reads_on}
-use Rattle.bq_seat.specs.SeatStands.{AgreesWith, IsClosing, StandsInStage, StandsFor, awaited_at, end_if, IsOpen, awaited}
+use Rattle.bq_seat.specs.SeatStands.{AgreesWith, IsClosing, StandsInStage, StandsFor, awaited_at, IsOpen, awaited}
 use Rattle.bq_seat.specs.Served.{IsServed}
 use Rattle.bq_wire.specs.declared.reader.ReaderState.{ReaderState}
 use Rattle.bq_seat.specs.declared.machine.Action.{Action}
@@ -29,7 +26,7 @@ use Rattle.bq_wire.specs.Standing.{Stands}
 use Rattle.bq_seat.specs.declared.machine.Action.TheVariants as actions
 use Rattle.bq_seat.specs.declared.machine.Event.TheVariants as events
 use Rattle.bq_seat.specs.declared.machine.Stage.TheVariants as stages
-use Rattle.bq_seat.proofs.StepLemmas.{asks_at, closes_at, connects, few_missing, quits_at, tells_at, none_kept}
+use Rattle.bq_seat.proofs.StepLemmas.{asks_at, closes_at, connects, quits_at, tells_at, none_kept}
 use Rattle.bq_seat.proofs.LooksLemmas.{behind_request, wanted_open, read_on_is}
 use Rattle.bq_seat.proofs.OpenLemmas.{answered, opened, served_now, still_closing}
 
@@ -37,37 +34,21 @@ use Rattle.bq_seat.proofs.OpenLemmas.{answered, opened, served_now, still_closin
 few_at_close : (end : LineEnd) (p : Past) {size : ℕ} → IsClosing size end p → wanted p.steps ≤ length p.mail + 1
 few_at_close end p h =
     let served = h.served [] in
-    let line = served.line in
-    let few = few_missing end line.asked p.mail served.answered in
-    let more : List Step = line.end_steps ++ steps.Close ∷ [] in
-    let none : wanted more ≡ 0 = elim line.ends
-    [ inl none ↦ ap (λ t. wanted (t ++ steps.Close ∷ [])) none | inr one ↦ ap (λ t. wanted (t ++ steps.Close ∷ [])) one.0 ] in
-    let same = ap wanted (line.steps_are ∙ append_assoc (steps.Connect ∷ map steps.Ask line.asked) line.end_steps (steps.Close ∷ [])) in
-    let joined = wanted_append (map steps.Ask line.asked) more in
-    omega arith
+    grind (arith, wanted_append)
 
 -- The past with the event justifies the action, in the stage after it.
 found : (size : ℕ) (stage : Stage) (action : Action) (reader : ReaderState) (kept : List ℕ) (told : Bool) (q : Past)
     → awaited_by action ≡ Some (awaited_at stage) → StandsInStage stage reader kept told (with_action action q)
     → IfLineOver action (λ end. (written : List ℕ) → IsServed size written end q) → Finds size action q
 found size stages.Connecting (actions.Submit step) reader kept told q e h over = connects q.steps q.mail step h.2
-found size (stages.Asking waits) (actions.Submit step) reader kept told q e h over =
-    let o = h.0.0 in
-    asks_at o.asked q.steps q.mail step (o.stepped.steps_are ∙ ap (λ t. (steps.Connect ∷ map steps.Ask o.asked) ++ end_if t) h.1
-    ∙ append-nil (steps.Connect ∷ map steps.Ask o.asked)) o.handed.answered o.stepped.no_quit
-found size stages.TellingEnd (actions.Submit step) reader kept told q e h over =
-    let o = h.0.0 in
-    tells_at o.asked q.steps q.mail step (o.stepped.steps_are ∙ ap (λ t. (steps.Connect ∷ map steps.Ask o.asked) ++ end_if t) h.1)
-    o.stepped.no_quit o.handed.answered
+found size (stages.Asking waits) (actions.Submit step) reader kept told q e h over = grind (arith, asks_at, append-nil)
+found size stages.TellingEnd (actions.Submit step) reader kept told q e h over = grind (arith, tells_at)
 found size stages.AskingQuit (actions.Submit step) reader kept told q e h over = quits_at q.steps q.mail step h.2 refl refl
 found size (stages.Closing end) (actions.Submit step) reader kept told q e h over =
     let line = (h.served []).line in
-    closes_at line.asked line.end_steps q.steps q.mail step line.steps_are
-    (elim line.ends [ inl none ↦ inl none | inr one ↦ inr one.0 ]) (few_missing end line.asked q.mail (h.served []).answered)
-found size stages.Reading actions.Read reader kept told q e h over =
-    (h.0.stepped.closing_is, h.0.stepped.ended_is ∙ h.2, h.0.handed.fault_is)
-found size stages.ReadingOn actions.Read reader kept told q e h over =
-    (h.0.0.stepped.closing_is, h.0.0.stepped.ended_is ∙ h.2, h.0.0.handed.fault_is)
+    grind (arith, closes_at)
+found size stages.Reading actions.Read reader kept told q e h over = grind arith
+found size stages.ReadingOn actions.Read reader kept told q e h over = grind arith
 found size (stages.Polling waits) actions.PollMail reader kept told q e h over = let w = wanted_open h.0 in omega arith
 found size (stages.Leaving end) actions.PollMail reader kept told q e h over = few_at_close end q h
 found size stages.Writing (actions.Write answer) reader kept told q e h over = (h.0.stepped.closing_is, h.0.handed.fault_is)
@@ -77,28 +58,15 @@ found size _ _ reader kept told q e h over = absurd cc
 
 -- ---- pasts stay orderly
 
-closes_joined : (taken : List Step) (step : Step) → has_close (taken ++ step ∷ []) ≡ (has_close taken || is_close step)
-closes_joined taken step = grind (arith, common_steps, list_any-append)
-
-orderly_with_mail : (answer : Answer) (p : Past) → IsOrderly p → IsOrderly (with_mail answer p)
-orderly_with_mail answer p o = grind (arith, common_steps)
-
-orderly_with_fault : (fault : LineFault) (p : Past) → IsOrderly p → IsOrderly (with_fault fault p)
-orderly_with_fault fault p o = grind (arith, common_steps)
-
 orderly_with_event : (event : Event) (p : Past) → IsOrderly p → IsOrderly (with_event event p)
-orderly_with_event event p o = grind (arith, common_steps, orderly_with_fault, orderly_with_mail)
-
-orderly_with_action : (action : Action) (p : Past) → IsOrderly p → IsOrderly (with_action action p)
-orderly_with_action action p o = grind (arith, common_steps, closes_joined, or_parts)
+orderly_with_event event p o = grind (arith, common_steps)
 
 orderly_after : (event : Event) (action : Action) (p : Past) → IsOrderly p → IsOrderly (past_after event action p)
-orderly_after event action p o = grind (arith, common_steps, orderly_with_action, orderly_with_event)
+orderly_after event action p o = grind (arith, common_steps, orderly_with_event)
 
 opens_past : (event : Event) (action : Action) (new : SeatMachine) → OpensLine event action new → OpensPast event action new
 unfolding StandsFor
-opens_past events.Opened action new h = λ e. ((h e).0, ((h e).1, record { closing = refl; late = λ f. refl }))
-opens_past _ action new h = tt
+opens_past event action new h3 = grind arith
 
 over_at : (old : SeatMachine) (event : Event) (action : Action) (p : Past) → AgreesWith old p
     → IfLineOver action (λ end. (q : Past) → AgreesWith old q → (written : List ℕ)
@@ -122,11 +90,6 @@ is_move old event action new m = record {
       (over_at old event action p h.0 m.over);
   looks = λ e p h. m.looks e p h.0;
 }
-
--- A move by an event is one by an equal event.
-pub moves_by : (old : SeatMachine) (event same : Event) (action : Action) (new : SeatMachine) → event ≡ same
-    → IsMove old same action new → IsMove old event action new
-moves_by old event same action new e m = subst (λ (v : Event). IsMove old v action new) (sym e) m
 
 -- ---- the move of a machine in a stage
 

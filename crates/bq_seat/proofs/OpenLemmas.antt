@@ -1,13 +1,11 @@
 -- What happens to a connection that is open.
 use Rattle.std.proofs.Common.{◌≡◌, ℕ, ◌<◌, Bool, true, false, ◌||◌, List, [], ◌∷◌, ◌++◌, ◌⊎◌, inl, inr, Option, Some, refl, sym, ap}
 use Rattle.std.proofs.Common.{subst, ◌∙◌, append_assoc, append-nil, map, length, arith, length-append, rules, take, drop}
-use Rattle.std.proofs.Common.{take-append-drop, ◌==◌}
 use Rattle.std.proofs.lemmas.{Bool.cases_Bool, Grind.common_steps}
 use Rattle.std.proofs.lemmas.List.Folds.{list_any-append}
 use Rattle.std.proofs.Math.Bool.{or-true}
-use Rattle.std.proofs.lemmas.List.{drop_all, map-append}
+use Rattle.std.proofs.lemmas.List.{map-append}
 use Rattle.bq_job.specs.declared.answer.Answer.{Answer}
-use Rattle.bq_job.specs.declared.answer.Answer.TheVariants.{Closed}
 use Rattle.bq_job.specs.declared.line_end.LineEnd.{LineEnd}
 use Rattle.bq_job.specs.declared.line_end.LineFault.{LineFault}
 use Rattle.bq_job.specs.declared.request.Request.{Request}
@@ -31,8 +29,8 @@ use Rattle.bq_seat.specs.declared.machine.Action.{Action}
 use Rattle.bq_seat.specs.declared.machine.SeatMachine.{SeatMachine}
 use Rattle.bq_seat.specs.declared.machine.Action.TheVariants as actions
 use Rattle.bq_seat.specs.declared.machine.Stage.TheVariants as stages
-use Rattle.bq_seat.proofs.StepLemmas.{BeginsNoUnit-[], Reads-after, Reads-begun, none_kept, answered_count-asked, answered_count-quit}
-use Rattle.bq_seat.proofs.StepLemmas.{ends_by_wait-asked, has_quit-asked, no_quit_last, some_asked}
+use Rattle.bq_seat.proofs.StepLemmas.{BeginsNoUnit-[], Reads-after, Reads-begun, answered_count-asked, answered_count-quit}
+use Rattle.bq_seat.proofs.StepLemmas.{ends_by_wait-asked, no_quit_last, some_asked}
 
 -- a connection is opened
 pub opened : (r : ReaderState) → Stands r [] → StandsInStage stages.Connecting r [] false first_past
@@ -61,19 +59,7 @@ handed_in_waiting more w none untold = (handed_in more w.0 none untold, w.1)
 -- A reader that has taken all bytes, without a request.
 pub waited : (r next : ReaderState) (kept : List ℕ) (n : ℕ) (p : Past) → IsOpen r kept false 0 p → next.max_job_size ≡ r.max_job_size
     → ((text : List ℕ) → Stands r text → Waits next text kept n) → IsOpen next [] false 0 p
-waited r next kept n p o same waits = let w = waits o.read.begun o.read.stands in record {
-  asked = o.asked;
-  read = record {
-    units = o.read.units;
-    begun = o.read.begun ++ kept;
-    stands = w.stands;
-    no_unit = w.none;
-    are_units = subst (λ size. AreUnits size o.read.units o.asked) (sym same) o.read.are_units;
-    bytes_are = o.read.bytes_are ∙ ap (λ bytes. o.read.units ++ bytes) (sym (append-nil (o.read.begun ++ kept)));
-  };
-  stepped = grind (arith, common_steps);
-  handed = o.handed;
-}
+waited r next kept n p o same waits = grind (arith, common_steps)
 
 -- A reader that has taken a whole request. The end of the input was not submitted.
 module _ (r next : ReaderState) (kept : List ℕ) (n : ℕ) (q : Request) (p : Past) (o : IsOpen r kept false 0 p)
@@ -83,11 +69,7 @@ module _ (r next : ReaderState) (kept : List ℕ) (n : ℕ) (q : Request) (p : P
 
   -- the bytes that were read, up to the end of the request
   split_bytes : p.bytes ≡ (o.read.units ++ (o.read.begun ++ take n kept)) ++ drop n kept
-  split_bytes = o.read.bytes_are ∙ rw (
-    append_assoc o.read.units (o.read.begun ++ take n kept) (drop n kept),
-    append_assoc o.read.begun (take n kept) (drop n kept),
-    take-append-drop n kept,
-  ) refl
+  split_bytes = grind (arith, common_steps)
 
   -- the steps, with the request
   asked_steps : p.steps ++ steps.Ask q ∷ [] ≡ steps.Connect ∷ map steps.Ask (o.asked ++ q ∷ [])
@@ -107,7 +89,7 @@ module _ (r next : ReaderState) (kept : List ℕ) (n : ℕ) (q : Request) (p : P
         are_units = AreUnits-append next.max_job_size o.asked o.read.units (o.read.begun ++ take n kept) q units_before unit;
         bytes_are = split_bytes;
       };
-      stepped = grind (arith, common_steps, has_quit-asked o.asked q, asked_steps);
+      stepped = grind (arith, common_steps, asked_steps);
       handed = grind (arith, common_steps, length-append o.asked (q ∷ []));
     },
     ends_by_wait-asked o.asked q,
@@ -167,16 +149,7 @@ module _ {r : ReaderState} {kept : List ℕ} {told : Bool} {out : ℕ} {p : Past
       (with_action (actions.Submit steps.Close) (record p { ended = ended; fault = fault; written_at_fault = at }))
   closes end asked rest reads over answered broken is_fault h = record {
     served = λ written. record {
-      line = record {
-        requests = asked;
-        rest = rest;
-        asked = o.asked;
-        end_steps = end_if told;
-        reads = reads;
-        is_over = over;
-        ends = told_well h told refl;
-        steps_are = ap (λ x. x ++ steps.Close ∷ []) o.stepped.steps_are;
-      };
+      line = grind arith;
       handed_out = o.handed.written_is;
       answered = answered;
       broken = broken;
@@ -232,15 +205,7 @@ module _ {r : ReaderState} {kept : List ℕ} {told : Bool} {out : ℕ} {p : Past
 -- the outstanding answer comes, and is given for writing
 pub answered : {r : ReaderState} {kept : List ℕ} {told waits : Bool} {p : Past} (a : Answer) → IsWaiting r kept told waits p
     → StandsInStage stages.Writing r kept told (with_action (actions.Write a) (with_mail a p))
-answered {p = p} a w = let o = w.0 in rw o.stepped.closing_is (
-  record {
-    asked = o.asked;
-    read = o.read;
-    stepped = grind (arith, common_steps);
-    handed = grind (arith, common_steps, length-append p.mail (a ∷ []));
-  },
-  omega (arith, length-append p.written (a ∷ [])),
-)
+answered {p = p} a w = grind (arith, common_steps)
 
 -- while a reserve waits, the end of the input is submitted
 pub tells_end : {r : ReaderState} {kept : List ℕ} {told : Bool} {p : Past} → IsWaiting r kept told true p → kept ≡ [] → told ≡ false
@@ -249,9 +214,6 @@ tells_end w none untold = let o = w.0 in (
   record { asked = o.asked; read = o.read; stepped = grind (arith, common_steps); handed = o.handed },
   w.1,
 )
-
-closed_itself : (a : Answer) → is_closed_answer a ≡ true → a ≡ Closed
-closed_itself a e = grind (arith, common_steps)
 
 -- mail after the close is not part of what was served
 module _ (size : ℕ) (end : LineEnd) (p : Past) (a : Answer) (c : IsClosing size end p) where
@@ -272,18 +234,11 @@ module _ (size : ℕ) (end : LineEnd) (p : Past) (a : Answer) (c : IsClosing siz
 
   -- other mail
   pub still_closing : is_closed_answer a ≡ false → IsClosing size end (with_mail a p)
-  still_closing other = rw late_mail (record {
-    served = served_still;
-    closing_is = c.closing_is;
-    unclosed = grind (arith, common_steps, list_any-append);
-  })
+  still_closing other = grind (arith, served_still, list_any-append)
 
   -- the close's own answer
   pub served_now : is_closed_answer a ≡ true → (written : List ℕ) → IsServed size written end (with_mail a p)
-  served_now own written = rw late_mail (record {
-    to_close = served_still written;
-    late = record { others = p.late_mail; late_is = ap (λ x. p.late_mail ++ x ∷ []) (closed_itself a own); none_closed = c.unclosed };
-  })
+  served_now own written = grind (arith, served_still)
 
 -- ---- a machine that continues while no answer is outstanding
 
@@ -295,16 +250,6 @@ goes_told m new action kept told does is = rw (does, is) (record {
   awaits = refl;
   limit = refl;
   past = λ p o. ends_line o p.ended refl (o.stepped.told_well told).1 (o.stepped.ended_is ∙ told);
-})
-
--- nothing is kept, so the connection is read
-pub goes_reading : (m new : SeatMachine) (action : Action) → m.end_told ≡ false → (length m.kept == 0) ≡ true → action ≡ actions.Read
-    → new ≡ in_stage stages.Reading m → GoesOn m action new
-goes_reading m new action untold empty does is = rw (does, is) (record {
-  further = tt;
-  awaits = refl;
-  limit = refl;
-  past = λ p o. (o, none_kept m.kept empty, untold);
 })
 
 -- The reader has returned a request from these bytes, and it is submitted.
@@ -333,15 +278,4 @@ goes_taken m new bytes next taken kept q action untold kept_is t further = go ta
       past = λ p o. rw (kept_is, untold)
           (asking m bytes next taken.count q t.limit (rw e at t.hands_out) p (subst (λ t. IsOpen m.reader bytes t 0 p) untold o));
     })
-    go false e f = rw (f.0, f.1) (record {
-      further = tt;
-      awaits = refl;
-      limit = t.limit;
-      past = λ p o.
-          let waits = t.waits (rw e refl) in
-          let none : kept ≡ [] = kept_is ∙ drop_all taken.count bytes (omega (arith, (waits o.read.begun o.read.stands).all)) in (
-            rw (none, untold) (waited m.reader next bytes taken.count p (subst (λ t. IsOpen m.reader bytes t 0 p) untold o) t.limit waits),
-            none,
-            untold,
-          );
-    })
+    go false e f = grind (arith, common_steps)

@@ -1,20 +1,18 @@
 -- The steps of a connection, as requests are submitted one after another.
 use Rattle.std.proofs.Common.{◌≡◌, ◌≢◌, ◌+◌, ◌<◌, false, List, [], ◌∷◌, ◌++◌, refl, ap, ◌∙◌, map, length, arith, not, IsTrue, ◌==◌, ℕ}
-use Rattle.std.proofs.Common.{true, inr, append_assoc, append-nil, subst, sym, inl, ◌⊎◌, ◌≤◌}
+use Rattle.std.proofs.Common.{true, inr, append_assoc, append-nil, subst, sym, ◌⊎◌, ◌≤◌}
 use Rattle.std.proofs.lemmas.Bool.{or_parts}
 use Rattle.std.proofs.lemmas.Grind.{common_steps}
 use Rattle.std.proofs.lemmas.List.Folds.{list_any-append}
-use Rattle.std.proofs.lemmas.Bool.Decides.{nat_tests}
 use Rattle.std.proofs.lemmas.List.{length-append}
 use Rattle.bq_job.specs.reading.Reading.{is_quit, ends_by_quit, Reads, AreUnits, BeginsNoUnit}
-use Rattle.bq_job.specs.promise.LineSteps.{answered_count, is_waiting_request, ends_by_wait, AreAllAnswered, wanted}
+use Rattle.bq_job.specs.promise.LineSteps.{answered_count, is_waiting_request, ends_by_wait}
 use Rattle.bq_job.specs.declared.request.Request.{Request}
-use Rattle.bq_job.specs.declared.line_end.LineEnd.{LineEnd}
 use Rattle.bq_job.specs.declared.step.Step.{Step}
 use Rattle.bq_job.specs.declared.answer.Answer.{Answer}
 use Rattle.bq_job.specs.declared.request.Request.TheVariants as requests
 use Rattle.bq_job.specs.declared.step.Step.TheVariants as steps
-use Rattle.bq_job.proofs.{GivenLemmas.wanted_append, ListLemmas.heads, ReadsLemmas.Reads-onto}
+use Rattle.bq_job.proofs.{GivenLemmas.wanted_append, ReadsLemmas.Reads-onto}
 use Rattle.bq_seat.specs.SeatStands.{has_quit, HasAskedQuit}
 use Rattle.bq_seat.specs.InTurn.{IsInTurn}
 use Rattle.bq_seat.specs.Past.{Past}
@@ -42,15 +40,11 @@ no_quit_last (r ∷ []) q = let both = or_parts (is_quit r) false q in rw both.0
 no_quit_last (r ∷ s ∷ asked) q = let both = or_parts (is_quit r) (has_quit (s ∷ asked)) q in no_quit_last (s ∷ asked) both.1
 
 ends_by_wait-cons : (asked : List Request) (q r : Request) → ends_by_wait (r ∷ (asked ++ q ∷ [])) ≡ ends_by_wait (asked ++ q ∷ [])
-ends_by_wait-cons [] q r = refl
-ends_by_wait-cons (s ∷ asked) q r = refl
+ends_by_wait-cons asked q r = grind (arith, common_steps)
 
 pub ends_by_wait-asked : (asked : List Request) (q : Request) → ends_by_wait (asked ++ q ∷ []) ≡ is_waiting_request q
 ends_by_wait-asked [] q = refl
 ends_by_wait-asked (r ∷ asked) q = ends_by_wait-cons asked q r ∙ ends_by_wait-asked asked q
-
-pub has_quit-asked : (asked : List Request) (q : Request) → has_quit asked ≡ false → is_quit q ≡ false → has_quit (asked ++ q ∷ []) ≡ false
-has_quit-asked asked q none e = grind (arith, common_steps, list_any-append)
 
 pub has_quit-last : (asked : List Request) (q : Request) → has_quit (asked ++ q ∷ []) ≡ false
     → (has_quit asked ≡ false) × (is_quit q ≡ false)
@@ -67,8 +61,7 @@ BeginsNoUnit-[] size [] more request e u = u
 BeginsNoUnit-[] size (b ∷ first) more request e u = cc
 
 pub none_kept : (kept : List ℕ) → (length kept == 0) ≡ true → kept ≡ []
-none_kept [] e = refl
-none_kept (b ∷ kept) e = absurd (grind (arith, nat_tests))
+none_kept kept h1 = grind (arith, common_steps)
 
 -- submitted requests, none of them quit, and then a reading of what comes after them
 pub Reads-after : (size : ℕ) (text units after rest : List ℕ) (asked next : List Request)
@@ -94,12 +87,7 @@ pub last_same : {A : Type 0} (xs ys : List A) (x y : A) → xs ++ x ∷ [] ≡ y
 last_same [] [] x y e = (refl, cc)
 last_same [] (b ∷ ys) x y e = absurd (omega (arith, ap length e, length-append ys (y ∷ [])))
 last_same (a ∷ xs) [] x y e = absurd (omega (arith, ap length e, length-append xs (x ∷ [])))
-last_same (a ∷ xs) (b ∷ ys) x y e =
-    let both = heads a b (xs ++ x ∷ []) (ys ++ y ∷ []) e in
-    let more = last_same xs ys x y both.1 in
-    let tails = more.0 in
-    let first = both.0 in
-    (cc, more.1)
+last_same (a ∷ xs) (b ∷ ys) x y e = grind (arith, common_steps)
 
 -- the submitted requests, without the last one
 pub record EndsBy (asked : List Request) : Type 0 where
@@ -133,21 +121,14 @@ asks_at (r ∷ asked) taken mail step e count none =
     let last = last_same taken (steps.Connect ∷ map steps.Ask ends.before) step (steps.Ask ends.last)
     (e ∙ ap (λ xs. steps.Connect ∷ xs) ends.steps_are) in
     let quit : has_quit ends.before ≡ false = (has_quit-last ends.before ends.last (ap has_quit (sym ends.is) ∙ none)).0 in
-    let long = length-append ends.before (ends.last ∷ []) in
-    let same = ap length ends.is in
-    in_place taken mail last.1 (ends.before, record { steps_are = last.0; no_quit = quit }, omega arith)
+    grind (arith, common_steps)
 
 pub tells_at : (asked : List Request) (taken : List Step) (mail : List Answer) (step : Step)
     → taken ++ step ∷ [] ≡ (steps.Connect ∷ map steps.Ask asked) ++ steps.End ∷ [] → has_quit asked ≡ false → length mail + 1 ≡ length asked
     → IsInTurn step taken mail
 tells_at asked taken mail step e none count =
     let last = last_same taken (steps.Connect ∷ map steps.Ask asked) step steps.End e in
-    in_place taken mail last.1 (
-      asked,
-      record { steps_are = last.0; no_quit = none },
-      let same = ap wanted last.0 in
-          omega (arith, same, answered_count-asked asked none),
-    )
+    grind (arith, answered_count-asked)
 
 pub quits_at : (taken : List Step) (mail : List Answer) (step : Step) {p : Past} → HasAskedQuit p → p.steps ≡ taken ++ step ∷ []
     → p.mail ≡ mail → IsInTurn step taken mail
@@ -160,16 +141,4 @@ pub closes_at : (asked : List Request) (told : List Step) (taken : List Step) (m
     → answered_count asked ≤ length mail + 1 → IsInTurn step taken mail
 closes_at asked told taken mail step e ends count =
     let last = last_same taken ((steps.Connect ∷ map steps.Ask asked) ++ told) step steps.Close e in
-    let joined = wanted_append (steps.Connect ∷ map steps.Ask asked) told in
-    let same = ap wanted last.0 in
-    let few : told ≡ [] → wanted taken ≤ length mail + 1 = λ none. let zero_more : wanted told ≡ 0 = ap wanted none in omega arith in
-    let few_told : told ≡ steps.End ∷ [] → wanted taken ≤ length mail + 1 =
-    λ one. let zero_more : wanted told ≡ 0 = ap wanted one in omega arith in
-    in_place taken mail last.1 (elim ends [
-      | inl none ↦ (asked, false, last.0 ∙ ap (λ t. (steps.Connect ∷ map steps.Ask asked) ++ t) none, few none)
-      | inr one ↦ (asked, true, last.0 ∙ ap (λ t. (steps.Connect ∷ map steps.Ask asked) ++ t) one, few_told one)
-    ])
-
-pub few_missing : (end : LineEnd) (asked : List Request) (mail : List Answer) → AreAllAnswered end asked mail
-    → answered_count asked ≤ length mail + 1
-few_missing end asked mail h = grind (arith, common_steps)
+    grind (arith, wanted_append)

@@ -1,5 +1,6 @@
 -- The lines that are read in one pass.
-use Rattle.std.proofs.Common.{◌≡◌, ◌≤◌, ℕ, Bool, true, false, ◌==◌, not, List, [], ◌∷◌, ◌++◌, Option, Some, None, refl, sym, ◌∙◌, ap, arith}
+use Rattle.bq_job.proofs.ListLemmas.{all_weaker, list_all_from, all_pass}
+use Rattle.std.proofs.Common.{◌≡◌, ◌≤◌, ℕ, Bool, true, false, ◌==◌, not, List, [], ◌∷◌, ◌++◌, Option, Some, refl, sym, ◌∙◌, ap, arith}
 use Rattle.std.proofs.Common.{append_assoc, codes, length, length-append, nat_lt, take}
 use Rattle.std.proofs.lemmas.Bool.Decides.{nat_tests}
 use Rattle.std.proofs.lemmas.List.Folds.{list_all-append}
@@ -11,14 +12,14 @@ use Rattle.bq_job.specs.reading.Words.{is_digit, job_id, number, words}
 use Rattle.bq_job.specs.declared.request.Request.TheVariants as requests
 use Rattle.bq_wire.specs.Leading.{Leads}
 use Rattle.bq_wire.specs.Standing.{IsLineAsking}
-use Rattle.bq_wire.proofs.WordLemmas.{digits_are_letters, digits_pass, one_word, word_then}
+use Rattle.bq_wire.proofs.WordLemmas.{digits_are_letters, one_word, word_then}
 
 -- a byte that is no CR
 abbrev is_plain : ℕ → Bool
 is_plain b = not (b == 13)
 
 plain : (word : List ℕ) → list_all is_digit word ≡ true → list_all is_plain word ≡ true
-plain word all = digits_pass is_plain (λ b digit. grind (arith, nat_tests, digit)) word all
+plain word all = grind (arith, list_all_from, all_weaker, all_pass)
 
 -- a line without a CR ends at the first CR LF
 line_before : (line : List ℕ) → list_all is_plain line ≡ true → first_line (line ++ 13 ∷ 10 ∷ []) ≡ Some (line, [])
@@ -41,12 +42,7 @@ record Numbers (text rest : List ℕ) (these : List (List ℕ)) : Type 0 where
   words_are : words line ≡ these
 
 last_number : {read : List ℕ → Option ℕ} {n : ℕ} {text rest : List ℕ} (l : Leads read 13 n text rest) → Numbers text rest (l.word ∷ [])
-last_number l = record {
-  line = l.word;
-  text_is = l.text_is;
-  plain_is = plain l.word l.digits;
-  words_are = one_word l.word (digits_are_letters l.word l.digits);
-}
+last_number l = grind (arith, plain, one_word, digits_are_letters)
 
 one_more : {read : List ℕ → Option ℕ} {n : ℕ} {text later rest : List ℕ} {these : List (List ℕ)} (l : Leads read 32 n text later)
     → Numbers later rest these → Numbers text rest (l.word ∷ these)
@@ -87,8 +83,3 @@ pub put_is : (piece t0 t1 t2 t3 rest : List ℕ) (pri delay ttr bytes end : ℕ)
 put_is piece t0 t1 t2 t3 rest pri delay ttr bytes end is a b c d ends =
     asks_numbers (codes "put") piece t0 rest _ end _ is refl (one_more a (one_more b (one_more c (last_number d))))
     (λ line e. rw (e, a.read_is, b.read_is, c.read_is, d.read_is) refl) ends
-
--- a line that ends after the kept bytes of an unfinished line
-pub line_of_text : (asked : spec.LineRead) (bytes kept text : List ℕ) → text ≡ kept → first_line text ≡ None
-    → (first_line kept ≡ None → IsLineAsking asked (kept ++ bytes)) → IsLineAsking asked (text ++ bytes)
-line_of_text asked bytes kept text is none line = rw is (line (rw is at none))

@@ -1,10 +1,9 @@
 -- What consecutive calls read.
 use Rattle.std.proofs.Common.{◌≡◌, ◌<◌, ◌≤◌, ℕ, ◌+◌, false, List, [], ◌∷◌}
 use Rattle.std.proofs.Common.{◌++◌, ◌⊎◌, inl, inr, Option, Some, None, ◌∙◌, ap, arith, length}
-use Rattle.std.proofs.Common.{append_assoc, append-nil, take, drop, get_or, take-append-drop, ◌-◌, IsTrue, option_to_list}
+use Rattle.std.proofs.Common.{append_assoc, append-nil, take, drop, get_or, ◌-◌, IsTrue, option_to_list}
 use Rattle.std.proofs.lemmas.{Bool.cases_Bool, Grind.common_steps}
-use Rattle.std.proofs.lemmas.List.{drop_all}
-use Rattle.std.proofs.Math.Seq.{take-length, take-suc}
+use Rattle.std.proofs.Math.Seq.{take-suc}
 use Rattle.std.proofs.lemmas.Grind.{flat_map-append}
 use Rattle.std.specs.List.{flat_map}
 use Rattle.bq_job.specs.reading.Reading.{Reads, ends_by_quit}
@@ -15,22 +14,13 @@ use Rattle.bq_wire.specs.Standing.{Stands, StandsAt, Feeds, FeedsText, Waits, Ha
 use Rattle.bq_wire.specs.declared.reader.ReaderPlace.{ReaderPlace}
 use Rattle.bq_wire.specs.declared.reader.ReaderPlace.TheVariants.{Over}
 use Rattle.bq_wire.specs.declared.reader.ReaderState.{ReaderState}
-use Rattle.bq_wire.proofs.ReaderLemmas.{Stands-no_unit, take_two}
+use Rattle.bq_wire.proofs.ReaderLemmas.{Stands-no_unit}
 
 -- a call that returns no request
 HasRead-waits : (old new : ReaderState) (piece taken : List ℕ) (count : ℕ) (requests : List Request) → new.max_job_size ≡ old.max_job_size
     → (read : HasRead old taken requests) → ends_by_quit requests ≡ false → Waits new read.rest piece count
     → HasRead new (taken ++ take count piece) requests
-HasRead-waits old new piece taken count requests same read no_quit waits =
-    let all : take count piece ≡ piece = rw waits.all (take-length piece) in
-    record {
-      units = read.units;
-      rest = read.rest ++ piece;
-      taken_is = rw (all, read.taken_is) (append_assoc read.units read.rest piece);
-      are_units = rw same read.are_units;
-      last_quits = read.last_quits;
-      goes_on = inr (no_quit, waits.stands);
-    }
+HasRead-waits old new piece taken count requests same read no_quit waits = grind (arith, common_steps)
 
 -- a call that returns a request
 HasRead-hands_out : (old new : ReaderState) (piece taken : List ℕ) (count : ℕ) (requests : List Request) (r : Request)
@@ -82,12 +72,6 @@ pub Reads-more : (s : ReaderState) (taken more : List ℕ) (requests : List Requ
     → Reads s.max_job_size (taken ++ more) requests (read.rest ++ more)
 Reads-more s taken more requests read quit = grind (arith, common_steps, append_assoc, quit)
 
--- a request from the rest of a piece
-pub read_further : (old new : ReaderState) (taken piece : List ℕ) (from count : ℕ) (requests : List Request) (r : Request)
-    → HasRead old (taken ++ take from piece) requests → ReadsOn old new (take (length piece - from) (drop from piece)) count (Some r)
-    → HasRead new (taken ++ take (from + count) piece) (requests ++ r ∷ [])
-read_further old new taken piece from count requests r read reads = grind (arith, common_steps, take_two, append_assoc)
-
 -- no request from the rest of a piece
 pub read_to_end : (old new : ReaderState) (taken piece : List ℕ) (from count : ℕ) (requests : List Request) (request : Option Request)
     → request ≡ None → from ≤ length piece
@@ -100,10 +84,7 @@ read_to_end old new taken piece from count requests request none within read rea
   more = drop count rest;
   text_is = whole;
   read = now;
-  all = elim read.goes_on [
-    | inl h ↦ inr (rw (over h.1) h.1)
-    | inr h ↦ let all = (waits read.rest h.1).all in inl (drop_all count rest (omega (arith, all)))
-  ];
+  all = grind (arith, common_steps);
 }
   where
     rest : List ℕ
@@ -113,15 +94,7 @@ read_to_end old new taken piece from count requests request none within read rea
     now = rw (none, append-nil requests) at (reads (taken ++ take from piece) requests read)
 
     whole : taken ++ piece ≡ ((taken ++ take from piece) ++ take count rest) ++ drop count rest
-    whole =
-        let all : rest ≡ drop from piece = grind (arith, common_steps) in
-        rw (
-          append_assoc (taken ++ take from piece) (take count rest) (drop count rest),
-          take-append-drop count rest,
-          all,
-          append_assoc taken (take from piece) (drop from piece),
-          take-append-drop from piece,
-        )
+    whole = grind (arith, common_steps)
 
 -- one more piece of a text
 pub read_piece : (old new : ReaderState) (text piece : List ℕ) (before after : List Request)
@@ -133,13 +106,7 @@ read_piece old new text piece before after was reads over = go was.all
     whole e = was.text_is ∙ ap (λ x. was.taken ++ x) e ∙ append-nil was.taken
 
     same : old.place ≡ Over → HasReadText old (text ++ piece) before
-    same e = record {
-      taken = was.taken;
-      more = was.more ++ piece;
-      text_is = rw was.text_is (append_assoc was.taken was.more piece);
-      read = was.read;
-      all = inr e;
-    }
+    same e = grind (arith, append_assoc was.taken was.more piece)
 
     go : (was.more ≡ []) ⊎ (old.place ≡ Over) → HasReadText new (text ++ piece) after
     go (inl e) = rw (whole e) (reads was.taken was.read)
@@ -159,11 +126,6 @@ HasReadText-Reads s text requests read = go read.all read.read.goes_on
     go (inl e) on = (read.read.rest, rw (read.text_is, e, append-nil) (HasRead-Reads s read.taken requests read.read))
     go (inr e) (inl quit) = (read.read.rest ++ read.more, rw read.text_is (Reads-more s read.taken read.more requests read.read quit.0))
     go (inr e) (inr on) = absurd (nowhere s.place read.read.rest e on.1)
-
--- no request comes after a quit
-pub over_gives_none : (was now : ReaderState) (request : Option Request) (r : Request) → was.place ≡ Over → now ≡ was → request ≡ Some r
-    → (now.place ≡ Over → request ≡ None) → ⊥
-over_gives_none was now request r e same some over = grind (arith, common_steps, same)
 
 -- the same, with the limit on bodies
 pub read_of : (m : ℕ) (s : ReaderState) (text : List ℕ) (requests : List Request) → s.max_job_size ≡ m → HasReadText s text requests

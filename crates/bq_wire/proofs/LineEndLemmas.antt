@@ -1,7 +1,7 @@
 -- Where command lines end.
 use Rattle.std.proofs.Common.{◌≡◌, ◌<◌, ◌≤◌, ℕ, ◌+◌, ◌-◌, zero, suc, Bool, true, false, ◌&&◌}
-use Rattle.std.proofs.Common.{◌==◌, List, [], ◌∷◌, ◌++◌, ◌⊎◌, Option, Some, None, add-one}
-use Rattle.std.proofs.Common.{refl, sym, ◌∙◌, arith, length, length-append, take, drop, get_or, MatchOption, option_map, if◌then◌else◌}
+use Rattle.std.proofs.Common.{◌==◌, List, [], ◌∷◌, ◌++◌, Option, Some, None, add-one}
+use Rattle.std.proofs.Common.{refl, arith, length, length-append, take, drop, get_or, MatchOption, option_map, if◌then◌else◌}
 use Rattle.std.proofs.Math.Bool.{and-false, and-true}
 use Rattle.std.proofs.lemmas.Bool.{cases_Bool, Decides.nat_tests}
 use Rattle.std.proofs.lemmas.Grind.{common_steps}
@@ -10,9 +10,6 @@ use Rattle.std.proofs.Math.Seq.{drop-append-add, take-append-add}
 use Rattle.bq_job.specs.reading.Line.{first_line, onto_line}
 use Rattle.bq_wire.specs.LineEnds.{line_end_after, last_is_cr, later_by}
 use Rattle.memchr.specs.Find.{IsFirstByte, is_byte}
-
-pub option_map-same : (f g : ℕ → ℕ) → ((n : ℕ) → f n ≡ g n) → (o : Option ℕ) → option_map f o ≡ option_map g o
-option_map-same f g same o = grind (arith, common_steps)
 
 -- without an LF, no line ends
 pub line_end_none : (c : Bool) (bytes : List ℕ) → ((k : ℕ) → k < length bytes → (get_or bytes k 0 == 10) ≡ true → ⊥)
@@ -35,7 +32,7 @@ pub line_end_at : (c : Bool) (bytes : List ℕ) (k : ℕ) → k < length bytes �
     → line_end_after c bytes ≡ (if last_is_cr c (take k bytes) then Some (suc k) else option_map (λ n. suc k + n)
     (line_end_after false (drop (suc k) bytes)))
 line_end_at c [] k low here before = absurd (omega arith)
-line_end_at c (b ∷ bytes) zero low here before = grind (arith, common_steps, nat_tests, and-true, option_map-same)
+line_end_at c (b ∷ bytes) zero low here before = grind (arith, common_steps, nat_tests, and-true)
 line_end_at c (b ∷ bytes) (suc k) low here before =
     let not_here : (b == 10) ≡ false = grind (arith, nat_tests, before 0) in
     let later = line_end_at (b == 13) bytes k (omega arith) here (λ j less. before (suc j) (omega arith)) in
@@ -58,30 +55,25 @@ last_is_cr_last c [] some = absurd (omega arith)
 last_is_cr_last c (b ∷ []) some = refl
 last_is_cr_last c (b ∷ d ∷ bytes) some = grind (arith, common_steps, last_is_cr_last (b == 13) (d ∷ bytes) (omega arith))
 
--- a command line ends at the first byte, or later
-pub end_cases : (t : Bool) (o : Option ℕ) (e : ℕ) → (if t then Some 1 else option_map suc o) ≡ Some e
-    → ((t ≡ true) × (e ≡ 1)) ⊎ ((n : ℕ) × (t ≡ false) × (o ≡ Some n) × (e ≡ suc n))
-end_cases t o e h = grind (arith, common_steps, cases_Bool)
-
 no_end_cases : (t : Bool) (o : Option ℕ) → (if t then Some 1 else option_map suc o) ≡ None → (t ≡ false) × (o ≡ None)
 no_end_cases t o h = grind (arith, common_steps, cases_Bool)
 
 pub line_end_within : (c : Bool) (bytes : List ℕ) (e : ℕ) → line_end_after c bytes ≡ Some e → (0 < e) × (e ≤ length bytes)
 line_end_within c [] e h = cc
 line_end_within c (b ∷ bytes) e h =
-    grind (arith, common_steps, end_cases, line_end_within (b == 13) bytes)
+    grind (arith, common_steps, line_end_within (b == 13) bytes)
 
 -- a command line that ends with the first byte follows a CR
 pub line_end_one : (c : Bool) (bytes : List ℕ) → line_end_after c bytes ≡ Some 1 → c ≡ true
 line_end_one c [] h = cc
 line_end_one true (b ∷ bytes) h = refl
-line_end_one false (b ∷ bytes) h = grind (arith, common_steps, end_cases, line_end_within)
+line_end_one false (b ∷ bytes) h = grind (arith, common_steps, line_end_within)
 
 -- the bytes up to a command line's end have the same line end
 pub line_end-take : (c : Bool) (bytes : List ℕ) (e : ℕ) → line_end_after c bytes ≡ Some e → line_end_after c (take e bytes) ≡ Some e
 line_end-take c [] e h = cc
 line_end-take c (b ∷ bytes) e h =
-    grind (arith, common_steps, end_cases, line_end-take (b == 13) bytes)
+    grind (arith, common_steps, line_end-take (b == 13) bytes)
 
 later_by-zero : (o : Option ℕ) → o ≡ later_by 0 o
 later_by-zero o = grind (arith, common_steps)
@@ -117,12 +109,7 @@ first_line_at a (b ∷ bytes) =
 
 first_line_of : (text : List ℕ) → first_line text ≡ option_map (λ e. (take (e - 2) text, drop e text)) (line_end_after false text)
 first_line_of [] = refl
-first_line_of (a ∷ bytes) = first_line_at a bytes ∙ go (line_end_after (a == 13) bytes)
-  where
-    go : (o : Option ℕ) → option_map {U = List ℕ × List ℕ} (λ e. (take (e - 1) (a ∷ bytes), drop e bytes)) o
-        ≡ option_map (λ e. (take (e - 2) (a ∷ bytes), drop e (a ∷ bytes))) (option_map suc o)
-    go None = refl
-    go (Some e) = let less : suc e - 2 ≡ e - 1 = omega arith in rw less
+first_line_of (a ∷ bytes) = grind (arith, first_line_at)
 
 -- a text without a first line has no line end
 pub no_line_end : (text : List ℕ) → first_line text ≡ None → line_end_after false text ≡ None
@@ -152,9 +139,4 @@ ends_there text piece e none here =
     line_bytes : (text piece : List ℕ) (e : ℕ) → 0 < e → e ≤ length piece
         → take (length text + e - 2) (text ++ take e piece) ≡ take (length (text ++ take (e - 1) piece) - 1) (text ++ take (e - 1) piece)
     line_bytes text piece e some within =
-        let front : take (e - 1) (take e piece) ≡ take (e - 1) piece = take-take (e - 1) e piece (omega arith) in
-        let whole : take (length text + (e - 1)) (text ++ take e piece) ≡ text ++ take (e - 1) piece =
-        rw (take-append-add text (take e piece) (e - 1), front) in
-        let long : length (text ++ take (e - 1) piece) - 1 ≡ length text + e - 2 =
-        omega (arith, length-append text (take (e - 1) piece), length-take-le (e - 1) piece (omega arith)) in
-        rw (long, ← whole) (sym (take-take (length text + e - 2) (length text + (e - 1)) (text ++ take e piece) (omega arith)))
+        grind (arith, take-take, length-take-le, take-append-add text (take e piece) (e - 1), length-append text (take (e - 1) piece))

@@ -1,17 +1,16 @@
 -- What a reader represents as bytes arrive.
-use Rattle.std.proofs.Common.{◌≡◌, ◌<◌, ◌≤◌, ℕ, ◌+◌, ◌-◌, zero, suc, Bool, true, false, List, [], ◌∷◌, ◌++◌, inl, inr, Option, Some}
-use Rattle.std.proofs.Common.{None, refl, sym, subst, ◌∙◌, ap, arith, length, length-append, append_assoc, append-nil, take, drop, take-add}
+use Rattle.std.proofs.Common.{◌≡◌, ◌<◌, ◌≤◌, ℕ, ◌+◌, ◌-◌, zero, suc, Bool, true, false, List, [], ◌++◌, inl, Option, Some}
+use Rattle.std.proofs.Common.{None, refl, sym, ◌∙◌, arith, length, length-append, append_assoc, take, drop, take-add}
 use Rattle.std.proofs.Common.{take-append-drop, nat_lt, nat_le, if◌then◌else◌}
 use Rattle.std.proofs.lemmas.Grind.{common_steps}
-use Rattle.std.proofs.lemmas.Bool.{cases_Bool, Decides.nat_tests}
+use Rattle.std.proofs.lemmas.Bool.{Decides.nat_tests}
 use Rattle.std.proofs.lemmas.List.{length-take-le}
-use Rattle.bq_job.specs.reading.Line.{first_line}
+use Rattle.bq_job.specs.reading.Line.{line_end, first_line}
 use Rattle.bq_job.specs.reading.LineRead as line_read
 use Rattle.bq_job.specs.reading.LineRead.{longest_line}
 use Rattle.bq_job.specs.reading.Reading.{IsUnit, IsPutRequest, BeginsNoUnit, is_quit}
 use Rattle.bq_job.specs.beside.ComputedReading.{unit_after}
 use Rattle.bq_job.specs.reading.TubeName.{is_same_name}
-use Rattle.bq_job.specs.reading.Line.{line_end}
 use Rattle.bq_job.specs.declared.request.Request.{Request}
 use Rattle.bq_job.specs.declared.request.Request.TheVariants as requests
 use Rattle.bq_job.specs.declared.refusal.Refusal.TheVariants as refusals
@@ -22,7 +21,7 @@ use Rattle.bq_wire.specs.LineEnds.{line_end_after, last_is_cr}
 use Rattle.bq_wire.specs.PutBodies.{IsBodySoFar, TakesBytes}
 use Rattle.bq_wire.specs.Standing.{Stands, StandsAt, IsPutBegun, IsLineAsking, Waits}
 use Rattle.bq_wire.specs.declared.line_read.PutLine.{PutLine}
-use Rattle.bq_wire.specs.Standing.{HandsRequest, FeedsText, TakesMissing, length_beside_cr, but_last, Keeps}
+use Rattle.bq_wire.specs.Standing.{HandsRequest, FeedsText, length_beside_cr, but_last, Keeps}
 use Rattle.bq_wire.specs.declared.put_body.PutBody.{PutBody}
 use Rattle.bq_wire.specs.declared.reader.ReaderPlace.{ReaderPlace}
 use Rattle.bq_wire.specs.declared.reader.ReaderPlace.TheVariants.{InLine, InLongLine, InBody}
@@ -50,39 +49,18 @@ pub waits_by : (s : ReaderState) (text piece : List ℕ) (taken : ℕ) → taken
     → Waits s text piece taken
 waits_by s text piece taken all stands = record { all = all; none = Stands-no_unit s s.place (text ++ piece) stands; stands = stands }
 
--- the request of a put is no quit
-pub put_no_quit : (m : ℕ) (put : line_read.PutLine) (bytes : List ℕ) (r : Request) → IsPutRequest m put bytes r → is_quit r ≡ false
-put_no_quit m put bytes r h = grind (arith, common_steps, cases_Bool)
-
--- no more came than was missing, and nothing is missing any more
-pub all_missing : (old new : PutBody) (piece : List ℕ) (taken : ℕ) → new.put ≡ old.put → new.taken ≡ old.taken + taken
-    → taken ≤ length piece → nat_le (new.put.bytes + 2) new.taken ≡ true → TakesMissing (InBody old) piece taken
-all_missing old new piece taken put more within whole low =
-    let enough : new.put.bytes + 2 ≤ new.taken = grind (arith, nat_tests, whole) in
-    omega (arith, ap (λ p. p.bytes) put, more, within, enough, low)
-
 -- more of a put's body arrived
 pub begun_more : (old new : PutBody) (text bytes : List ℕ) → IsPutBegun old text → new.put ≡ old.put → TakesBytes old new bytes
     → new.taken < new.put.bytes + 2
     → IsPutBegun new (text ++ bytes)
 begun_more old new text bytes begun put takes less =
-    let so_far = takes begun.after begun.so_far in
-    record {
-      line = begun.line;
-      after = begun.after ++ bytes;
-      first_line_is = first_line-append text bytes (begun.line, begun.after) begun.first_line_is;
-      read_is = rw put begun.read_is;
-      so_far = so_far;
-      less = rw (← so_far.taken_is) less;
-    }
+    grind (arith, first_line-append text bytes (begun.line, begun.after) begun.first_line_is)
 
 -- a put whose bytes have all arrived is a unit, and no quit
 put_unit : (m : ℕ) (put : line_read.PutLine) (text bytes line after : List ℕ) (r : Request) → first_line text ≡ Some (line, after)
     → line_read.read_line line ≡ line_read.PutWaits put → length (after ++ bytes) ≡ put.bytes + 2 → IsPutRequest m put (after ++ bytes) r
     → IsUnit m (text ++ bytes) r × (is_quit r ≡ false)
-put_unit m put text bytes line after r first read long is =
-    let split : first_line (text ++ bytes) ≡ Some (line, after ++ bytes) = first_line-append text bytes (line, after) first in
-    (rw (split, read) (long, is), put_no_quit m put (after ++ bytes) r is)
+put_unit m put text bytes line after r first read long is = grind (arith, first_line-append text bytes (line, after) first)
 
 -- all of a put arrived
 pub begun_whole : (m : ℕ) (old new : PutBody) (text bytes : List ℕ) (r : Request) → IsPutBegun old text → new.put ≡ old.put
@@ -103,34 +81,8 @@ line_unit m text r line = rw (line.first_line_is, line.read_is) (refl, refl)
 pub feeds_behind : (new : ReaderState) (text piece rest : List ℕ) (end taken : ℕ) (r : Option Request) → end ≤ length piece
     → rest ≡ drop end piece
     → FeedsText new (text ++ take end piece) rest taken r → FeedsText new text piece (end + taken) r
-feeds_behind new text piece rest end taken r within is fed = go r fed
-  where
-    whole : (text ++ take end piece) ++ rest ≡ text ++ piece
-    whole = rw (is, append_assoc text (take end piece) (drop end piece), take-append-drop end piece)
-
-    parts : (text ++ take end piece) ++ take taken rest ≡ text ++ take (end + taken) piece
-    parts = rw (is, append_assoc text (take end piece) (take taken (drop end piece)), ← take-add end taken piece)
-
-    go : (r : Option Request) → FeedsText new (text ++ take end piece) rest taken r → FeedsText new text piece (end + taken) r
-    go None fed = record {
-      all = omega (
-        arith,
-        fed.all,
-        ap length whole,
-        length-append text piece,
-        length-append (text ++ take end piece) rest,
-        length-append text (take end piece),
-        length-take-le end piece within,
-      );
-      none = rw whole at fed.none;
-      stands = rw whole at fed.stands;
-    }
-    go (Some request) fed = record { unit = rw parts at fed.unit; next = fed.next }
-
--- a command line that is too long stays too long
-pub long_more : (text piece : List ℕ) → longest_line < length_beside_cr text → longest_line < length_beside_cr (text ++ piece)
-long_more text [] long = rw append-nil long
-long_more text (b ∷ piece) long = grind (arith, common_steps, cases_Bool, length-append text (b ∷ piece))
+feeds_behind new text piece rest end taken r within is fed =
+    grind (arith, append_assoc, take-append-drop, take-add, length-append, length-take-le)
 
 -- a command line that is too long is BAD_FORMAT when it ends
 pub long_line_read : (text piece : List ℕ) (e : ℕ) → first_line text ≡ None → longest_line < length_beside_cr text
@@ -172,17 +124,11 @@ pub hands_out : (m : ℕ) (kept text piece : List ℕ) (taken : ℕ) (r : Reques
     → is_quit r ≡ false → HandsRequest (in_line m kept) text piece taken r
 hands_out m kept text piece taken r nothing unit no_quit = record { unit = unit; next = rw no_quit (sym nothing, refl) }
 
--- a command line that does not fit is too long
-pub keep_long : (kept piece : List ℕ) (room : ℕ) (last : Bool) → room + length kept ≡ 223 → last_is_cr false (kept ++ piece) ≡ last
-    → room ≤ length piece → (length piece ≡ room → last ≡ false) → longest_line < length_beside_cr (kept ++ piece)
-keep_long kept piece room last most is long exact = grind (arith, common_steps, cases_Bool, length-append kept piece)
-
 -- what represents a command line that goes on
 pub kept_stands : (m : ℕ) (old new : List ℕ) (place : ReaderPlace) (text piece : List ℕ) → text ≡ old → first_line text ≡ None
     → line_end_after (last_is_cr false old) piece ≡ None → Keeps old new place piece
     → StandsAt (record { max_job_size = m; kept = new; place = place }) place (text ++ piece)
-kept_stands m old new InLine text piece is none more keeps = (rw is (sym keeps), goes_on text piece none (rw is more))
-kept_stands m old new place text piece is none more keeps = grind (arith, common_steps, goes_on, none)
+kept_stands m old new place text piece h6 h7 h8 h9 = grind (arith, goes_on)
 
 -- the kept bytes and those up to the line's end form the line
 pub kept_line : (old text piece : List ℕ) (e : ℕ) (asked : line_read.LineRead) → text ≡ old → first_line text ≡ None
@@ -195,28 +141,18 @@ pub long_stands : (m : ℕ) (kept text piece : List ℕ) (last after_cr : Bool) 
     → last_is_cr false text ≡ after_cr
     → longest_line < length_beside_cr text → line_end_after after_cr piece ≡ None → last ≡ last_is_cr after_cr piece
     → StandsAt (record { max_job_size = m; kept = kept; place = InLongLine last }) (InLongLine last) (text ++ piece)
-long_stands m kept text piece last after_cr nothing none cr long more last_is =
-    (nothing, goes_on text piece none (rw cr more), rw (last_is_cr-append false text piece, cr) (sym last_is), long_more text piece long)
+long_stands m kept text piece last after_cr nothing none cr long more last_is = grind (arith, goes_on, last_is_cr-append, common_steps)
 
 -- a command line that ends has at least one byte before its LF
 pub some_byte : (old piece : List ℕ) (e : ℕ) → line_end_after (last_is_cr false old) piece ≡ Some e
     → 0 < length old + length (take (e - 1) piece)
-some_byte [] piece (suc zero) here = let cr : false ≡ true = line_end_one false piece here in cc
-some_byte (b ∷ old) piece e here = omega arith
-some_byte [] piece e here = let within = line_end_within false piece e here in grind (arith, common_steps, line_end_one)
+some_byte old piece e h3 = grind (arith, common_steps, line_end_one, line_end_within)
 
 -- ---- bytes that are taken one part after another
 
 -- two parts, the second from what the first left
 pub take_two : (bytes : List ℕ) (a b : ℕ) → take (a + b) bytes ≡ take a bytes ++ take b (take (length bytes - a) (drop a bytes))
-take_two bytes a b = let all : take (length bytes - a) (drop a bytes) ≡ drop a bytes = grind (arith, common_steps) in
-    rw all (take-add a b bytes)
-
-pub takes_two : (old mid new : PutBody) (bytes : List ℕ) (a b : ℕ) → TakesBytes old mid (take a bytes)
-    → TakesBytes mid new (take b (take (length bytes - a) (drop a bytes))) → TakesBytes old new (take (a + b) bytes)
-takes_two old mid new bytes a b one two after so_far =
-    rw (take_two bytes a b, ← append_assoc after (take a bytes) (take b (take (length bytes - a) (drop a bytes))))
-    (two (after ++ take a bytes) (one after so_far))
+take_two bytes a b = grind (arith, common_steps, take-add)
 
 -- ---- a put whose body comes with its command line
 
@@ -227,17 +163,12 @@ fits size bytes low = grind (arith, nat_tests, low)
 pub put_good : (put : line_read.PutLine) (body end : List ℕ) (size : ℕ) → length body ≡ put.bytes → put.bytes ≤ size
     → is_same_name end line_end ≡ true
     → IsPutRequest size put (body ++ end) (requests.Put put.pri put.delay put.ttr body)
-put_good put body end size len low good =
-    let front : take put.bytes (body ++ end) ≡ body = grind (arith, common_steps, len) in
-    let back : drop put.bytes (body ++ end) ≡ end = grind (arith, common_steps, len) in
-    rw (fits size put.bytes low, front, back, good) (inr refl)
+put_good put body end size len low good = grind (arith, common_steps)
 
 pub put_bad : (put : line_read.PutLine) (body end : List ℕ) (size : ℕ) → length body ≡ put.bytes → put.bytes ≤ size
     → is_same_name end line_end ≡ false
     → IsPutRequest size put (body ++ end) (requests.Refused refusals.ExpectedCrlf)
-put_bad put body end size len low bad =
-    let back : drop put.bytes (body ++ end) ≡ end = grind (arith, common_steps, len) in
-    rw (fits size put.bytes low, back, bad) (inr refl)
+put_bad put body end size len low bad = grind (arith, common_steps)
 
 pub put_refused : (put : line_read.PutLine) (bytes : List ℕ) (size : ℕ) → put.bytes ≤ size
     → IsPutRequest size put bytes (requests.Refused refusals.OutOfMemory)
@@ -250,18 +181,6 @@ pub ruleset put_made = (put_good, put_bad, put_refused)
 pub two_parts : (piece : List ℕ) (n : ℕ) → take n piece ++ take (n + 2 - n) (drop n piece) ≡ take (n + 2) piece
 two_parts piece n = let two : n + 2 - n ≡ 2 = omega arith in rw two (sym (take-add n 2 piece))
 
--- the body of a put begins after its command line
-pub put_begins : (body : PutBody) (put : PutLine) (text : List ℕ) → IsLineAsking (line_read.PutWaits (put_line_of put)) text
-    → body.put ≡ put → IsBodySoFar body [] → IsPutBegun body text
-put_begins body put text line is so_far = record {
-  line = line.line;
-  after = [];
-  first_line_is = line.first_line_is;
-  read_is = rw is line.read_is;
-  so_far = so_far;
-  less = omega arith;
-}
-
 -- the request of a put is returned with the end of its body
 pub feeds_put : (state : ReaderState) (put : PutLine) (text piece body end : List ℕ) (q : Request)
     → state.kept ≡ [] → state.place ≡ InLine → IsLineAsking (line_read.PutWaits (put_line_of put)) text → put.bytes + 2 ≤ length piece
@@ -273,6 +192,4 @@ feeds_put state put text piece body end q nothing at line within parts low made 
     rw parts at (made state.max_job_size low) in
     let whole = put_unit state.max_job_size (put_line_of put) text (take (put.bytes + 2) piece) line.line [] q line.first_line_is
     line.read_is (length-take-le (put.bytes + 2) piece within) is in
-    subst (λ place. HandsRequest (record { max_job_size = state.max_job_size; kept = state.kept; place = place })
-    text piece (put.bytes + 2) q)
-    (sym at) (hands_out state.max_job_size state.kept text piece (put.bytes + 2) q nothing whole.0 whole.1)
+    grind arith

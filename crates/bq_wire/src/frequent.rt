@@ -87,6 +87,7 @@ fn reserve_line(place: &mut Request) -> EndedLine
 
 // The line of a delete. Its word was passed.
 #[inline(always)]
+#[tactic(auto, using(crate::proofs::FrequentLemmas::delete_is))]
 fn delete_line(piece: &[u8], numbers: &[u8], place: &mut Request) -> Option<EndedLine>
     requires { piece.now ≡ codes "delete " ++ numbers.now }
     ensures some { IfSome result (λ line. 0 < line.end) }
@@ -104,6 +105,7 @@ fn delete_line(piece: &[u8], numbers: &[u8], place: &mut Request) -> Option<Ende
 
 // The line of a put. Its word was passed.
 #[inline(always)]
+#[tactic(auto, using(crate::proofs::FrequentLemmas::put_is))]
 fn put_line(piece: &[u8], numbers: &[u8]) -> Option<EndedLine>
     requires { piece.now ≡ codes "put " ++ numbers.now }
     ensures some { IfSome result (λ line. 0 < line.end) }

@@ -284,6 +284,7 @@ fn line_in(kept: &mut KeptLine, piece: &[u8], place: &mut Request) -> Option<End
 
 // The same for any line.
 #[inline(never)]
+#[tactic(auto, using(crate::proofs::ReaderLemmas::some_byte, crate::proofs::ReaderLemmas::kept_line))]
 fn any_line_in(kept: &mut KeptLine, piece: &[u8], place: &mut Request) -> Option<EndedLine>
     ensures none { IfNone result ((kept.new ≡ kept.old) × (line_end_after (last_is_cr false kept.old) piece.now ≡ None)) }
     ensures some { IfSome result (λ line. 0 < line.end) }

@@ -49,6 +49,7 @@ impl Clock for ScriptClock {
       at_end = inl refl;
     } };
 
+    #[tactic(auto, using(crate::proofs::ReadingsLemmas::read_next, crate::proofs::ReadingsLemmas::read_again))]
     fn now(&mut self) -> Option<Moment> {
         let reading = reading_at(&self.script, self.place);
         if self.place < self.script.len() {

@@ -1,8 +1,8 @@
-use Rattle.std.proofs.Common.{◌≡◌, ◌+◌, ◌<◌, arith, length, nat_le, take, true}
+use Rattle.std.proofs.Common.{◌≡◌, ◌+◌, ◌<◌, arith, length, take}
 use Rattle.std.proofs.Math.Seq.{take-length}
 use Rattle.std.proofs.lemmas.Bool.Decides.{nat_tests}
 use Rattle.bq_wire.specs.PutBodies.{TakesBytes}
-use Rattle.bq_wire.proofs.ReaderLemmas.{all_missing, begun_more, begun_whole, waits_by, hands_out}
+use Rattle.bq_wire.proofs.ReaderLemmas.{begun_more, begun_whole, waits_by}
 use Rattle.bq_wire.proofs.reader.feed_body.Goals as goal
 
 pub returns-then-is_whole-clause-feeds : goal.returns-then-is_whole-clause-feeds
@@ -12,8 +12,7 @@ returns-then-is_whole-clause-feeds c = λ text stands.
     let whole = begun_whole c.args.state.now.max_job_size c.args.body taken.new.self text
     (take taken.result c.args.piece.now) c.into_request.result
     stands.1 taken.ensures.put taken.ensures.takes all c.into_request.ensures.request in
-    rw c.put_in.ensures (hands_out c.args.state.now.max_job_size c.args.state.now.kept text c.args.piece.now taken.result
-    c.into_request.result stands.0 whole.0 whole.1)
+    grind arith
 
 pub returns-else-is_whole-clause-feeds : goal.returns-else-is_whole-clause-feeds
 returns-else-is_whole-clause-feeds c = λ text stands.
@@ -22,16 +21,10 @@ returns-else-is_whole-clause-feeds c = λ text stands.
     let all : taken.result ≡ length c.args.piece.now = taken.ensures.all less in
     let piece : take taken.result c.args.piece.now ≡ c.args.piece.now = rw all (take-length c.args.piece.now) in
     let takes : TakesBytes c.args.body taken.new.self c.args.piece.now = rw piece at taken.ensures.takes in
-    waits_by _ text c.args.piece.now taken.result all
-    (stands.0, begun_more c.args.body taken.new.self text c.args.piece.now stands.1 taken.ensures.put takes less)
+    search (waits_by, begun_more)
 
 pub returns-then-is_whole-clause-missing : goal.returns-then-is_whole-clause-missing
-returns-then-is_whole-clause-missing c =
-    let taken = c.take-taken in
-    let whole : nat_le (taken.new.self.put.bytes + 2) taken.new.self.taken ≡ true = grind (arith, nat_tests) in
-    all_missing c.args.body taken.new.self c.args.piece.now taken.result taken.ensures.put taken.ensures.taken taken.ensures.within whole
+returns-then-is_whole-clause-missing c = grind arith
 
 pub returns-else-is_whole-clause-missing : goal.returns-else-is_whole-clause-missing
-returns-else-is_whole-clause-missing c = λ low.
-    let less : c.take-taken.new.self.taken < c.take-taken.new.self.put.bytes + 2 = grind (arith, nat_tests) in
-    c.take-taken.ensures.all less
+returns-else-is_whole-clause-missing c = grind arith

@@ -1,5 +1,4 @@
-use Rattle.std.proofs.Common.{refl, sym, length, ◌∙◌}
-use Rattle.bq_wire.proofs.FrequentLemmas.{line_of_text}
+use Rattle.std.proofs.Common.{refl, sym, length, ◌∙◌, arith}
 use Rattle.bq_wire.proofs.ReaderLemmas.{waits_by, kept_stands}
 use Rattle.bq_wire.proofs.reader.feed_line.Goals as goal
 
@@ -11,6 +10,4 @@ returns-in-None-clause-feeds c = λ text stands.
     (stands.0 ∙ sym same) stands.1 (rw same c.in-None.ensures.none.1) c.keep.ensures)
 
 pub returns-in-Some-clause-feeds : goal.returns-in-Some-clause-feeds
-returns-in-Some-clause-feeds c = λ text stands.
-    c.after_line.ensures.feeds _ refl c.in-Some.ensures.cleared text
-    (line_of_text _ _ c.args.state.now.kept text stands.0 stands.1 c.in-Some.ensures.asks)
+returns-in-Some-clause-feeds c = grind arith

@@ -1,10 +1,9 @@
-use Rattle.std.proofs.Common.{◌+◌, ◌-◌, refl, arith, drop, take}
-use Rattle.bq_wire.proofs.ReaderLemmas.{feeds_put, put_begins, two_parts}
+use Rattle.std.proofs.Common.{◌+◌, ◌-◌, arith, drop, take}
+use Rattle.bq_wire.proofs.ReaderLemmas.{feeds_put, two_parts}
 use Rattle.bq_wire.proofs.reader.feed_put.Goals as goal
 
 pub returns-then-is_at_hand-clause-fed : goal.returns-then-is_at_hand-clause-fed
-returns-then-is_at_hand-clause-fed c =
-    (rw c.requires tt, c.is_at_hand.ensures.whole c.if-is_at_hand.true, omega arith, refl)
+returns-then-is_at_hand-clause-fed c = grind arith
 
 pub returns-then-is_at_hand-clause-feeds : goal.returns-then-is_at_hand-clause-feeds
 returns-then-is_at_hand-clause-feeds c = λ nothing text line.
@@ -14,8 +13,4 @@ returns-then-is_at_hand-clause-feeds c = λ nothing text line.
     (c.is_at_hand.ensures.small c.if-is_at_hand.true) c.whole_put.ensures
 
 pub returns-clause-feeds : goal.returns-clause-feeds
-returns-clause-feeds c = λ nothing text line.
-    c.feed_body.ensures.feeds text (
-      nothing,
-      put_begins c.begun_body-body.result c.args.put text line c.begun_body-body.ensures.put c.begun_body-body.ensures.nothing,
-    )
+returns-clause-feeds c = grind arith

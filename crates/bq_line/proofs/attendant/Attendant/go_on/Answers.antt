@@ -1,9 +1,8 @@
-use Rattle.std.proofs.Common.{[], ◌∙◌, ap, refl, inl, inr}
+use Rattle.std.proofs.Common.{[], ◌∙◌, ap, refl, inl, inr, arith}
 use Rattle.bq_seat.specs.NextActions.{does_of}
 use Rattle.bq_line.specs.Tending.{door_seen}
 use Rattle.bq_line.proofs.CarriedLemmas.{ends_on, rests, uses_carried}
 use Rattle.bq_line.proofs.TendingLemmas.{from_place, on_action, tends_acted, tends_submitted}
-use Rattle.bq_line.proofs.SureLemmas.{sure_further}
 use Rattle.bq_line.proofs.attendant.Attendant.go_on.Goals as goal
 
 pub returns-in-LineOver-clause-went : goal.returns-in-LineOver-clause-went
@@ -44,8 +43,7 @@ returns-in_default-does-clause-still g c = λ moved.
     rests g.K.Link.went _ _ _ c.in-On.action h.0 h.1 h.2 h.3.1 h.3.0 moved
 
 pub returns-in_default-does-clause-sure : goal.returns-in_default-does-clause-sure
-returns-in_default-does-clause-sure g c = λ never sure.
-    sure_further g.L.Line.lies_over _ c.in-On.line c.carry_out.new.line _ _ _ _ _ c.in-On.is c.carry_out.ensures.stays sure
+returns-in_default-does-clause-sure g c = grind arith
 
 pub returns-in_default-does-clause-uses : goal.returns-in_default-does-clause-uses
 returns-in_default-does-clause-uses g c =

@@ -1,9 +1,8 @@
-use Rattle.std.proofs.Common.{refl}
+use Rattle.std.proofs.Common.{refl, arith}
 use Rattle.bq_seat.specs.SeatParts.{holding}
 use Rattle.bq_seat.proofs.LooksLemmas.{answered_all, one_unanswered}
 use Rattle.bq_seat.proofs.MoveLemmas.{goes_on, turn}
 use Rattle.bq_seat.proofs.OpenLemmas.{handed_in, handed_in_waiting}
-use Rattle.bq_seat.proofs.PieceLemmas.{room_on, room_to_read}
 use Rattle.bq_seat.proofs.machine.SeatMachine.came.Goals as goal
 
 pub returns-in-Reading : goal.returns-in-Reading
@@ -15,7 +14,7 @@ returns-in-ReadingOn c = turn c.in-ReadingOn.is c.keep.ensures.action c.keep.ens
     (λ p h. handed_in_waiting c.args.bytes.now h.0 h.1 h.2) (λ p h. rw (one_unanswered h.0.0) refl)
 
 pub take_in-requires : goal.take_in-requires
-take_in-requires c = room_to_read c.args.self.now _ c.in-Reading.is c.requires
+take_in-requires c = grind arith
 
 pub keep-requires : goal.keep-requires
-keep-requires c = room_on c.args.self.now _ c.in-ReadingOn.is c.requires
+keep-requires c = grind arith

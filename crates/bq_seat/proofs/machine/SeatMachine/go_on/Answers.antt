@@ -1,3 +1,5 @@
+use Rattle.std.proofs.Common.{arith}
+use Rattle.std.proofs.lemmas.Grind.{common_steps}
 use Rattle.bq_seat.proofs.OpenLemmas as going
 use Rattle.bq_seat.proofs.machine.SeatMachine.go_on.Goals as goal
 
@@ -6,5 +8,4 @@ returns-then-self c =
     going.goes_told c.args.self.now _ _ c.args.self.now.kept c.if-self.true c.close.ensures.action c.close.ensures.after
 
 pub returns-then-is_empty : goal.returns-then-is_empty
-returns-then-is_empty c = going.goes_reading c.args.self.now _ _ c.if-self.false (rw c.is_empty.ensures at c.if-is_empty.true)
-    c.read.ensures.action c.read.ensures.after
+returns-then-is_empty c = grind (arith, common_steps)

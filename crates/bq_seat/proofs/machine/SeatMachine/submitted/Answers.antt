@@ -20,5 +20,4 @@ returns-in-AskingQuit c = turn c.in-AskingQuit.is c.close.ensures.action c.close
     (λ p h. h.1) (λ p h. behind_quit p h.2)
 
 pub returns-in-Closing : goal.returns-in-Closing
-returns-in-Closing c = turn c.in-Closing.is c.leave.ensures.action c.leave.ensures.after (refl, refl, refl, tt, tt)
-    (λ p h. h) (λ p h. behind_close _ _ p h)
+returns-in-Closing c = search (turn, behind_close)
