@@ -1,11 +1,10 @@
 -- Seats that enter and leave the lists of an event loop.
-use Rattle.std.proofs.Common.{ℕ, zero, suc, ◌≡◌, ◌⊎◌, inl, inr, ◌+◌, ◌-◌, ◌≤◌, ◌<◌, ◌==◌, true, List, [], ◌∷◌, ◌++◌, length}
+use Rattle.std.proofs.Common.{ℕ, zero, suc, ◌≡◌, ◌⊎◌, inl, inr, ◌+◌, ◌-◌, ◌≤◌, ◌<◌, true, List, [], ◌∷◌, ◌++◌, length}
 use Rattle.std.proofs.Common.{nat_lt, replicate, slice_set, slice_index_or, refl, sym, ap, ◌∙◌, arith, subst, append_assoc, append-nil}
 use Rattle.std.specs.List.{count_by}
 use Rattle.std.proofs.lemmas.Grind.{common_steps}
 use Rattle.std.proofs.lemmas.List.{get_or-replicate, get_or-set_same, get_or_past, length-replicate}
 use Rattle.std.proofs.lemmas.List.Folds.{sum_by-replicate}
-use Rattle.std.proofs.lemmas.List.Sums.{sum_by-cons}
 use Rattle.std.proofs.lemmas.Bool.{cases_lt, lt-ltb}
 use Rattle.std.proofs.lemmas.Bool.Decides.{nat_tests}
 use Rattle.bq_host.proofs.MarkLemmas.{has_mark, left, marked, none_marked, one_if, stayed, within}
@@ -15,14 +14,10 @@ use Rattle.bq_event_loop.specs.declared.seat_queue.Listed.{Listed}
 use Rattle.bq_event_loop.specs.declared.seat_queue.Listed.TheVariants as lists
 
 queued_is : (y : Listed) → is_queued y ≡ true → y ≡ lists.Queued
-queued_is lists.Queued is = refl
-queued_is lists.Nowhere is = absurd cc
-queued_is lists.Free is = absurd cc
+queued_is y h1 = grind arith
 
 free_is : (y : Listed) → is_free y ≡ true → y ≡ lists.Free
-free_is lists.Free is = refl
-free_is lists.Nowhere is = absurd cc
-free_is lists.Queued is = absurd cc
+free_is y h1 = grind arith
 
 -- The first of the queue leaves.
 pub left_queue : {s : ℕ} {before queue free : List ℕ} {marks : List Listed} → before ≡ s ∷ queue → AreMarked before free marks
@@ -82,9 +77,7 @@ disjoint queue free marks round at are = record { once = once; within = beyond }
   beyond : (seat : ℕ) → length marks ≤ seat → times seat queue + times seat free ≡ 0
   beyond seat past =
       let none : slice_index_or marks seat lists.Nowhere ≡ lists.Nowhere = get_or_past marks seat lists.Nowhere past in
-      let no : has_mark is_queued lists.Nowhere marks seat ≡ 0 = ap (λ z. one_if (is_queued z)) none in
-      let nor : has_mark is_free lists.Nowhere marks seat ≡ 0 = ap (λ z. one_if (is_free z)) none in
-      omega (arith, are.0.each seat, are.1.each seat, no, nor)
+      grind arith
 
 -- the largest number leaves
 falling_next : (n m : ℕ) → n ≡ suc m → falling n ≡ m ∷ falling m
@@ -92,11 +85,7 @@ falling_next n m is = ap falling is
 
 pub falling_more : (n k : ℕ) (xs : List ℕ) → k < n → falling n ≡ xs ++ falling (n - k)
     → falling n ≡ (xs ++ (n - 1 - k) ∷ []) ++ falling (n - (k + 1))
-falling_more n k xs below is =
-    let next : falling (n - k) ≡ (n - 1 - k) ∷ falling (n - 1 - k) = falling_next (n - k) (n - 1 - k) (omega (arith, below)) in
-    let rest : n - 1 - k ≡ n - (k + 1) = omega arith in
-    is ∙ ap (λ z. xs ++ z) next ∙ ap (λ z. xs ++ (n - 1 - k) ∷ falling z) rest
-    ∙ sym (append_assoc xs ((n - 1 - k) ∷ []) (falling (n - (k + 1))))
+falling_more n k xs below is = grind (arith, falling_next, append_assoc)
 
 length_falling : (n : ℕ) → length (falling n) ≡ n
 length_falling zero = refl
@@ -104,13 +93,8 @@ length_falling (suc n) = ap suc (length_falling n)
 
 -- each number below n is once in `falling n`
 falls : (n t : ℕ) → times t (falling n) ≡ one_if (nat_lt t n)
-falls zero t = none t where
-  none : (t : ℕ) → 0 ≡ one_if (nat_lt t 0)
-  none t = grind (arith, nat_tests)
-falls (suc n) t = more n t (times t (falling n)) (times t (falling (suc n))) (sum_by-cons (λ x. one_if (x == t)) n (falling n)) (falls n t)
-  where
-    more : (n t rest all : ℕ) → all ≡ one_if (n == t) + rest → rest ≡ one_if (nat_lt t n) → all ≡ one_if (nat_lt t (suc n))
-    more n t rest all head tail = grind (arith, nat_tests)
+falls zero t = grind arith
+falls (suc n) t = grind (arith, common_steps, one_if, nat_tests, falls n t)
 
 pub falls_once : (n t : ℕ) → t < n → times t (falling n) ≡ 1
 falls_once n t below = falls n t ∙ ap one_if (lt-ltb t n below)
@@ -137,6 +121,4 @@ all_marked n = (none_marked is_queued lists.Nowhere n lists.Free refl refl, reco
 
 pub new_marked : (n : ℕ) (queue free : List ℕ) (marks : List Listed) → queue ≡ [] → free ≡ falling n → marks ≡ replicate n lists.Free
     → AreMarked queue free marks
-new_marked n queue free marks empty all same =
-    subst (λ q. AreMarked q free marks) (sym empty)
-    (subst (λ f. AreMarked [] f marks) (sym all) (subst (λ m. AreMarked [] (falling n) m) (sym same) (all_marked n)))
+new_marked n queue free marks empty all same = grind (arith, all_marked n)

@@ -1,16 +1,16 @@
 -- One seat of a row, or its door, was changed, and the others stayed as they were.
+use Rattle.std.proofs.lemmas.Grind.{common_steps}
 use Rattle.std.proofs.Common.{◌≡◌, ◌≢◌, ℕ, zero, suc, ◌<◌, List, [], ◌∷◌, ◌++◌, length}
-use Rattle.std.proofs.Common.{refl, sym, ◌∙◌, arith, subst, inl, inr, append-nil, slice_set, slice_index_or}
-use Rattle.std.specs.Prelude.{◌==◌}
+use Rattle.std.proofs.Common.{sym, ◌∙◌, arith, subst, slice_set, slice_index_or}
 use Rattle.std.specs.List.{All}
-use Rattle.std.proofs.lemmas.Bool.{cases_Bool, eqb-true, eqb-false}
+use Rattle.std.proofs.lemmas.Bool.{eqb-true, eqb-false}
 use Rattle.std.proofs.lemmas.List.{get_or-set_other, get_or-set_same, get_or_default, length-set, set-get_or}
 use Rattle.bq_job.specs.declared.answer.Answer.{Answer}
 use Rattle.bq_job.specs.declared.step.Step.{Step}
 use Rattle.bq_job.specs.promise.LineSteps.{LineSeen}
 use Rattle.bq_line.specs.Tending.{AreSame, DoorSeen, IsNewDoor, IsNewSeat, IsPlaced, Tends, door_seen}
 use Rattle.bq_line.specs.declared.attendant.Attendant.{Attendant}
-use Rattle.bq_line.proofs.TendingLemmas.{tended_new, tends_still}
+use Rattle.bq_line.proofs.TendingLemmas.{tended_new}
 use Rattle.bq_event_loop.specs.Meanings.{Door, Line}
 use Rattle.bq_event_loop.specs.Still.{IsStill}
 use Rattle.bq_event_loop.specs.Rows.{AllRested, AllTended, IsSomehowTended}
@@ -22,17 +22,12 @@ tends_then : {L : Type 0} (seen : L → LineSeen) (a b c : Attendant L) (at_a at
 tends_then seen a b c at_a at_b at_c h k size before got t =
     let x = h size before got t in
     let y = k size (before ++ []) (got ++ []) x.0 in
-    let earlier = x.1.grows in
-    let later = y.1.grows in (
-      rw (append-nil (before ++ []), append-nil (got ++ [])) at y.0,
-      record { grows = omega arith; unclosed = λ p. refl },
-    )
+    grind (arith, common_steps)
 
 -- A seat that was changed is still.
 pub still_there : {L : Type 0} (l : Line L) (seats : List (Attendant L)) (i : ℕ) (new a : Attendant L) (mail : List Answer)
     → i < length seats → IsStill l new mail → IsStill l (slice_index_or (slice_set seats i new) i a) mail
-still_there l seats i new a mail below still =
-    subst (λ z. IsStill l z mail) (sym (get_or-set_same seats i new a below)) still
+still_there l seats i new a mail below still = grind (arith, common_steps)
 
 somehow_on : {L : Type 0} (l : Line L) (a b : Attendant L) (at_a at_b : DoorSeen) (submitted : List Step) (taken : List Answer)
     → Tends l.seen a at_a submitted taken b at_b → IsSomehowTended l a at_a → IsSomehowTended l b at_b
@@ -70,28 +65,14 @@ pub set_each : {L D : Type 0} (P : ℕ → Attendant L → D → Type 0) (seats 
     (next : D) (x : Attendant L) (y : D) → i < length seats → length doors ≡ length seats → P i new next
     → ((t : ℕ) → t ≢ i → t < length seats → P t (slice_index_or seats t x) (slice_index_or doors t y))
     → (t : ℕ) → t < length seats → P t (slice_index_or (slice_set seats i new) t x) (slice_index_or (slice_set doors i next) t y)
-set_each {L} {D} P seats doors i new next x y below doored own others t here = elim (cases_Bool (t == i)) [
-  | inl e ↦ subst (λ (n : ℕ). P n (slice_index_or (slice_set seats i new) n x) (slice_index_or (slice_set doors i next) n y))
-      (sym (eqb-true t i e)) mine
-  | inr e ↦
-      let differs : t ≢ i = eqb-false t i e in
-      subst (λ (z : Attendant L). P t z (slice_index_or (slice_set doors i next) t y)) (sym (get_or-set_other seats i t new x differs))
-      (subst (λ (z : D). P t (slice_index_or seats t x) z) (sym (get_or-set_other doors i t next y differs)) (others t differs here))
-]
-  where
-    mine : P i (slice_index_or (slice_set seats i new) i x) (slice_index_or (slice_set doors i next) i y)
-    mine =
-        subst (λ (z : Attendant L). P i z (slice_index_or (slice_set doors i next) i y)) (sym (get_or-set_same seats i new x below))
-        (subst (λ (z : D). P i new z) (sym (get_or-set_same doors i next y (omega (arith, doored, below)))) own)
+set_each {L} {D} P seats doors i new next x y below doored own others t here =
+    grind (arith, eqb-true, eqb-false, get_or-set_other, get_or-set_same)
 
 -- A property of a seat and its door that were looked up holds for them in their lists.
 pub looked_up : {L D : Type 0} (P : Attendant L → D → Type 0) (seats : List (Attendant L)) (doors : List D) (i : ℕ) (a x : Attendant L)
     (b y : D) → i < length seats → length doors ≡ length seats → a ≡ slice_index_or seats i a → b ≡ slice_index_or doors i b
     → P (slice_index_or seats i x) (slice_index_or doors i y) → P a b
-looked_up {L} {D} P seats doors i a x b y below doored a_is b_is h =
-    subst (λ (z : Attendant L). P z b) (get_or_default seats i x a below ∙ sym a_is)
-    (subst (λ (z : D). P (slice_index_or seats i x) z)
-    (get_or_default doors i y b (omega (arith, doored, below)) ∙ sym b_is) h)
+looked_up {L} {D} P seats doors i a x b y below doored a_is b_is h = grind (arith, common_steps)
 
 module _ {L D : Type 0} (l : Line L) (d : Door D L) where
   -- A seat acted, with its door.
@@ -140,10 +121,7 @@ module _ {L D : Type 0} {l : Line L} {d : Door D L} {seats : List (Attendant L)}
       → AllTended l d (slice_set seats i new) (slice_set doors i next)
       × ((first : Row L D) → AllRested l d first.seats.items first.doors.items seats doors
       → AllRested l d first.seats.items first.doors.items (slice_set seats i new) (slice_set doors i next))
-  keeps_set {a} {new} {x} {next} below all a_is x_is tends on = (
-    tended_set l d seats doors i a new x next [] [] below all a_is x_is tends,
-    λ first. rested_set l d first.seats.items seats first.doors.items doors i a new x next below all.doored a_is x_is tends on,
-  )
+  keeps_set {a} {new} {x} {next} below all a_is x_is tends on = search (tended_set, rested_set)
 
   -- The same if nothing was done with the door.
   pub keeps_seat : {a new : Attendant L} → i < length seats
@@ -170,12 +148,7 @@ module _ {L D : Type 0} {l : Line L} {d : Door D L} {seats : List (Attendant L)}
 module _ {L D : Type 0} (l : Line L) (d : Door D L) where
   -- Nothing was done with a row.
   pub rested_none : (seats : List (Attendant L)) (doors : List D) → AllRested l d seats doors seats doors
-  rested_none seats doors = record {
-    many = refl;
-    doored = refl;
-    each = λ n here x y. tends_still l.seen (slice_index_or seats n x) (door_seen d (slice_index_or doors n y));
-    same_doors = λ handed_in h. h;
-  }
+  rested_none seats doors = grind (arith, common_steps)
 
   -- All seats and doors are new.
   pub tended_at_first : {size : ℕ} {seats : List (Attendant L)} {doors : List D} → length doors ≡ length seats → All (IsNewSeat size) seats

@@ -1,14 +1,13 @@
 -- Seats are served in turn: one acts, and the others stay as they were.
+use Rattle.std.proofs.lemmas.Grind.{common_steps}
 use Rattle.std.proofs.Common.{◌≡◌, ℕ, ◌+◌, ◌<◌, ◌≤◌, List, [], ◌++◌, Option, length, refl, sym}
-use Rattle.std.proofs.Common.{ap, ◌∙◌, arith, subst, inl, inr, append_assoc, slice_set, slice_index_or}
-use Rattle.std.specs.Prelude.{◌==◌}
-use Rattle.std.proofs.lemmas.Bool.{cases_Bool, eqb-true, eqb-false}
+use Rattle.std.proofs.Common.{ap, ◌∙◌, arith, subst, append_assoc, slice_set, slice_index_or}
 use Rattle.std.proofs.lemmas.List.{get_or_default, length-set}
 use Rattle.bq_job.specs.beside.Closings.{closes, closings}
 use Rattle.bq_job.specs.declared.answer.Answer.{Answer}
 use Rattle.bq_job.specs.declared.step.Step.{Step}
 use Rattle.bq_job.specs.promise.History.{steps_at}
-use Rattle.bq_job.specs.promise.Runs.{Entry, answers_to}
+use Rattle.bq_job.specs.promise.Runs.{Entry}
 use Rattle.bq_job.proofs.ClosedLemmas.{run_closes}
 use Rattle.bq_job.proofs.CutLemmas.{closes_append}
 use Rattle.bq_host.specs.Hubs.{WentAt, state_of}
@@ -26,12 +25,12 @@ use Rattle.bq_line.specs.ControlTold.{TellsOn}
 use Rattle.bq_event_loop.specs.Meanings.{Clock, Control, Core, Door, Line}
 use Rattle.bq_event_loop.specs.Known.{ChangesOnly}
 use Rattle.bq_event_loop.specs.Rows.{AllRested, AreTended, KeepsRow}
-use Rattle.bq_event_loop.specs.Serving.{AreReadyFor, AreServed, AreServedFrom, ControlWent, LoopWent, SeatActed, ServesOn}
+use Rattle.bq_event_loop.specs.Serving.{AreServed, AreServedFrom, ControlWent, LoopWent, SeatActed, ServesOn}
 use Rattle.bq_line.specs.declared.control_steps.ControlSteps.{ControlSteps}
 use Rattle.bq_event_loop.specs.declared.row.Row.{Row}
 use Rattle.bq_line.proofs.ToldLemmas.{tells_none, tells_then}
 use Rattle.bq_host.proofs.WakeLemmas.{wakes_none, wakes_then}
-use Rattle.bq_event_loop.proofs.KnownLemmas.{changed_none, changed_then}
+use Rattle.bq_event_loop.proofs.KnownLemmas.{changed_then}
 use Rattle.bq_event_loop.proofs.RowLemmas.{rested_none, same_set, set_each}
 
 -- A seat for which no answer waited at first has taken at most one `Closed` for each close.
@@ -39,12 +38,7 @@ took_few : (first core : MailState) (readings : List (Option ℕ)) (history : Li
     → CoreWent first readings history took core → seat < length first.mails → waiting seat first ≡ []
     → closes (took seat) ≤ closings (steps_at seat history)
 took_few first core readings history took seat w below none =
-    let given : answers_to seat w.given ≡ took seat ++ waiting seat core =
-    ap (λ (xs : List Answer). xs ++ answers_to seat w.given) (sym none) ∙ w.tied seat below in
-    let all : closes (answers_to seat w.given) ≡ closes (took seat) + closes (waiting seat core) =
-    ap closes given ∙ closes_append (took seat) (waiting seat core) in
-    let law = run_closes seat first.core core.core history w.given w.runs in
-    omega arith
+    grind (arith, closes_append (took seat) (waiting seat core), run_closes seat first.core core.core history w.given w.runs)
 
 -- A seat that submitted and took nothing stays as it was.
 tends_none : {L : Type 0} (l : Line L) (a : Attendant L) (door : DoorSeen) (submitted : List Step) (taken : List Answer)
@@ -54,13 +48,7 @@ tends_none l a door submitted taken none_submitted none_taken = rw (none_submitt
 -- If one seat did nothing, then none did.
 none_acted : (i : ℕ) (first last : MailState) (readings : List (Option ℕ)) (w : SeatWent i first readings [] [] last) (t : ℕ)
     → (steps_at t w.history ≡ []) × (w.took t ≡ [])
-none_acted i first last readings w t = elim (cases_Bool (t == i)) [
-  | inl e ↦ (
-    ap (λ n. steps_at n w.history) (eqb-true t i e) ∙ w.submitted_is,
-    ap (λ n. w.took n) (eqb-true t i e) ∙ w.taken_is,
-  )
-  | inr e ↦ (w.others_still t (eqb-false t i e), w.others_took t (eqb-false t i e))
-]
+none_acted i first last readings w t = grind arith
 
 -- A part of the history was added, and each seat did what the part has for it.
 served_on : {L D : Type 0} (l : Line L) (d : Door D L) (size : ℕ) (control told : List Step) (first core next : MailState)
@@ -83,10 +71,8 @@ served_on {L} {D} l d size control told first core next readings reads seats lat
         doored = doored ∙ s.doored ∙ sym many;
         each = λ t below a x. (goes t (here t below) a x).0;
         few = λ t below none a x. few t (here t below) none a x;
-        control_is = ap (λ n. steps_at n (s.history ++ part)) many ∙ steps_append (length seats) s.history part
-            ∙ ap (λ (xs : List Step). xs ++ steps_at (length seats) part) s.control_is ∙ ap (λ (xs : List Step). control ++ xs) told_is;
-        nobody_else = λ t above. steps_append t s.history part
-            ∙ ap (λ (xs : List Step). xs ++ steps_at t part) (s.nobody_else t (past t above)) ∙ nobody t (past t above);
+        control_is = grind (arith, common_steps);
+        nobody_else = grind (arith, common_steps);
       };
       more = part;
       begins = refl;
@@ -134,15 +120,7 @@ module _ {C K L D : Type 0} {k : Core K} {c : Clock C} {l : Line L} {d : Door D 
       → steps_at (length row.seats.items) part ≡ told → ((t : ℕ) → length row.seats.items < t → steps_at t part ≡ [])
       → ((doors : List D) → AreSame d.same doors row.doors.items → AreSame d.same doors later.doors.items)
       → ServesOn k c l d old row told new later
-  serves_by {old} {new} {row} {later} {told} reads part took gave went many doored tends told_is nobody same = record {
-    reads = reads;
-    gave = gave;
-    mailed = went.many;
-    many = many;
-    served = λ size before first readings s. served_on l d size before told first (state_of k old) (state_of k new) readings reads
-        row.seats.items later.seats.items row.doors.items later.doors.items part took s went many doored tends told_is nobody;
-    same_doors = same;
-  }
+  serves_by {old} {new} {row} {later} {told} reads part took gave went many doored tends told_is nobody same = search served_on
 
   -- The seats rested.
   pub serves_rested : {core : Hub C K} {row later : Row L D}
@@ -177,13 +155,7 @@ module _ {C K L D : Type 0} {k : Core K} {c : Clock C} {l : Line L} {d : Door D 
   -- No seat did anything.
   pub acted_none : {seat : ℕ} {core : Hub C K} {row : Row L D} → IsInOrder (state_of k core) → AreTended l d row
       → SeatActed k c l d seat core row core row
-  acted_none {seat} {core} {row} order tended = record {
-    order = order;
-    tended = tended;
-    serves = serves_none;
-    only = changed_none;
-    wakes = wakes_none core.mails.items core.woken;
-  }
+  acted_none {seat} {core} {row} order tended = grind (arith, serves_none)
 
   -- A seat rested.
   pub acted_rested : {seat : ℕ} {core : Hub C K} {row later : Row L D} → IsInOrder (state_of k core) → KeepsRow l d row later
@@ -207,21 +179,8 @@ module _ {C K L D : Type 0} {k : Core K} {c : Clock C} {l : Line L} {d : Door D 
     wakes = wakes_then old.mails.items core.mails.items new.mails.items old.woken core.woken new.woken a.wakes b.wakes;
   }
 
-  -- After a seat acted, the core and its seats are ready for the same seat.
-  pub still_ready : {seat : ℕ} {old new : Hub C K} {row later : Row L D} → SeatActed k c l d seat old row new later
-      → AreReadyFor k l d seat old row → AreReadyFor k l d seat new later
-  still_ready {seat} a r = (
-    (
-      a.order,
-      a.tended,
-      a.serves.mailed ∙ r.0.2 ∙ sym a.serves.many,
-      subst (λ n. n ≤ 65535) (sym a.serves.many) r.0.3,
-    ),
-    subst (λ n. seat < n) (sym a.serves.many) r.1,
-  )
-
   -- The control line submitted steps.
-  serves_control : {old new : Hub C K} {row : Row L D} (seat : ℕ) (more : List Step) → seat ≡ length row.seats.items
+  pub serves_control : {old new : Hub C K} {row : Row L D} (seat : ℕ) (more : List Step) → seat ≡ length row.seats.items
       → WentAt k c seat old more [] new → ServesOn k c l d old row more new row
   serves_control {old} {new} {row} seat more is went =
       let w = went.0.2 in
@@ -287,14 +246,7 @@ module _ {C K L D : Type 0} {k : Core K} {c : Clock C} {l : Line L} {d : Door D 
   serves_woken : {old new : Hub C K} {row : Row L D} → new ≡ record old { woken = new.woken } → ServesOn k c l d old row [] new row
   serves_woken {old} {new} {row} same =
       let none : ServesOn k c l d old row [] old row = serves_none in
-      subst (λ (h : Hub C K). ServesOn k c l d old row [] h row) (sym same) (record {
-        reads = none.reads;
-        gave = none.gave;
-        mailed = none.mailed;
-        many = none.many;
-        served = none.served;
-        same_doors = none.same_doors;
-      })
+      grind arith
 
 -- ---- the seats and the control line together
 
@@ -302,12 +254,7 @@ module _ {C K I : Type 0} {k : Core K} {c : Clock C} {i : Control I} where
   -- The control line was read, or left alone, and submitted nothing.
   pub control_read : {core : Hub C K} {control next : ControlSteps I} → IsInOrder (state_of k core) → TellsOn i control [] next
       → ControlWent k c i core control core next
-  control_read {core} order read = record {
-    order = order;
-    told = [];
-    tells = read;
-    went = went_none k c (length core.mails.items) core;
-  }
+  control_read {core} order read = grind (arith, went_none k c (length core.mails.items) core)
 
   pub control_none : {core : Hub C K} {control : ControlSteps I} → IsInOrder (state_of k core) → ControlWent k c i core control core control
   control_none order = control_read order tells_none
@@ -338,15 +285,6 @@ module _ {C K L D I : Type 0} {k : Core K} {c : Clock C} {l : Line L} {d : Door 
       → LoopWent k c l d i old row control core mid half → LoopWent k c l d i core mid half new later next
       → LoopWent k c l d i old row control new later next
   loop_then a b = record { told = a.told ++ b.told; tells = tells_then a.tells b.tells; serves = serves_then a.serves b.serves }
-
-  -- The control line submitted steps, and no seat acted.
-  pub loop_control : {old new : Hub C K} {row : Row L D} {control next : ControlSteps I} → length old.mails.items ≡ length row.seats.items
-      → ControlWent k c i old control new next → LoopWent k c l d i old row control new row next
-  loop_control {old} same w = record {
-    told = w.told;
-    tells = w.tells;
-    serves = serves_control (length old.mails.items) w.told same w.went;
-  }
 
   -- The seats rested after some of them were woken.
   pub loop_rested : {old new : Hub C K} {row later : Row L D} {control : ControlSteps I} → new ≡ record old { woken = new.woken }

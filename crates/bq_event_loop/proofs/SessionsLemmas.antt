@@ -1,44 +1,14 @@
 -- Facts about histories of runs over doors, and about a seat that is done.
-use Rattle.std.proofs.Common.{◌≡◌, ℕ, ◌<◌, true, false, List, [], ◌∷◌, ◌++◌}
-use Rattle.std.proofs.Common.{refl, sym, ap, ◌∙◌, arith, subst, inl, inr, append-nil, nat_le}
-use Rattle.std.specs.Prelude.{◌==◌}
+use Rattle.std.proofs.Common.{◌≡◌, ℕ, ◌<◌, true, false, List, [], ◌∷◌}
+use Rattle.std.proofs.Common.{refl, ap, ◌∙◌, arith, inl, inr, nat_le}
 use Rattle.std.specs.List.{list_all}
-use Rattle.std.proofs.lemmas.Bool.{cases_Bool, eq-eqb, leb-false}
-use Rattle.bq_job.specs.declared.answer.Answer.{Answer}
+use Rattle.std.proofs.lemmas.Bool.{cases_Bool, leb-false}
 use Rattle.bq_job.specs.declared.step.Step.{Step}
 use Rattle.bq_job.specs.machine.Dispatch.{GivenAnswer}
 use Rattle.bq_job.specs.promise.History.{is_tick, steps_at, without_ticks}
-use Rattle.bq_job.specs.promise.LineSteps.{LineSeen}
 use Rattle.bq_job.specs.machine.Machine.{Machine}
 use Rattle.bq_job.specs.promise.Runs.{Entry, GoesBy, Transition}
 use Rattle.bq_job.specs.machine.Steps.{IsStep, Outcome}
-use Rattle.bq_line.specs.Tending.{DoorSeen, IsDoorServed, IsTended}
-use Rattle.bq_line.specs.declared.attendant.Attendant.{Attendant}
-use Rattle.bq_job.specs.beside.SeatDid.{AreLinesServed}
-use Rattle.bq_line.specs.Tending.{attendant}
-use Rattle.bq_line.specs.declared.attendant.LinePlace.{LinePlace}
-use Rattle.bq_line.specs.declared.attendant.LinePlace.TheVariants as places
-
--- A seat that is done.
-pub tended_done : {L : Type 0} (seen : L → LineSeen) (size : ℕ) (a : Attendant L) (door : DoorSeen) (submitted : List Step)
-    (taken : List Answer)
-    → a.place ≡ places.Done → IsTended seen size a door submitted taken → IsDoorServed size door submitted taken
-tended_done {L} seen size a door submitted taken e tended =
-    let t : IsTended seen size (attendant a.machine places.Done) door submitted taken =
-    subst (λ (q : LinePlace L). IsTended seen size (attendant a.machine q) door submitted taken) e tended in
-    let did = t.attends in
-    let at = did.at_place in
-    let lines_served = subst (AreLinesServed size door.lines_over did.before)
-    (sym (did.taken_is ∙ ap (λ (xs : List Answer). did.got ++ xs) at.1 ∙ append-nil did.got)) did.of_lines in
-    record {
-      done = record {
-        own = did.before;
-        of_lines = lines_served;
-        submitted_is = did.submitted_is ∙ ap (λ (xs : List Step). did.before ++ xs) at.0;
-      };
-      inside = t.placed.0;
-      at_end = t.placed.1;
-    }
 
 abbrev pub StepsKeepSettings : Type 0
 StepsKeepSettings = (first last : Machine) (at seat : ℕ) (what : Step) (outcome : Outcome) (given : List GivenAnswer)
@@ -69,13 +39,7 @@ up_to seat (e ∷ history) h =
     tick_none t x g = rw x at g
 
     own_none : (t : ℕ) → is_tick e.what ≡ false → steps_at t (e ∷ history) ≡ [] → steps_at t history ≡ []
-    own_none t x g =
-        elim (cases_Bool (e.seat == t)) [
-          | inl z ↦ absurd (let no : e.what ∷ steps_at t history ≡ [] = rw (x, z) at g in cc)
-          | inr z ↦ rw (x, z) at g
-        ]
+    own_none t x g = grind arith
 
     some_there : is_tick e.what ≡ false → steps_at e.seat (e ∷ history) ≡ [] → ⊥
-    some_there x g =
-        let same : (e.seat == e.seat) ≡ true = eq-eqb e.seat e.seat refl in
-        let no : e.what ∷ steps_at e.seat history ≡ [] = rw (x, same) at g in cc
+    some_there x g = grind arith

@@ -1,7 +1,8 @@
 -- A run, which is over or not: what was served so far, in the terms of the promise.
-use Rattle.std.proofs.Common.{◌≡◌, ℕ, suc, ◌+◌, ◌<◌, ◌≤◌, Bool, true, false, List, [], ◌∷◌, ◌++◌, Option, Some, None}
+use Rattle.std.proofs.lemmas.Grind.{common_steps}
+use Rattle.std.proofs.Common.{◌≡◌, ℕ, suc, ◌+◌, ◌<◌, ◌≤◌, Bool, true, false, List, [], ◌∷◌, ◌++◌, Option}
 use Rattle.std.proofs.Common.{map, length, replicate, refl, sym, ap, ◌∙◌, arith, subst, inl, inr, add-zero, append-nil}
-use Rattle.std.proofs.Common.{append_assoc, slice_index_or, is_some}
+use Rattle.std.proofs.Common.{append_assoc, slice_index_or}
 use Rattle.std.proofs.lemmas.List.{length-map, replicate-append-replicate}
 use Rattle.std.specs.List.{All}
 use Rattle.std.specs.Io.KnownBytes.{Consumes}
@@ -14,11 +15,11 @@ use Rattle.bq_job.specs.machine.Machine.{Machine, new_machine}
 use Rattle.bq_job.specs.promise.CoreDid.{IsRun}
 use Rattle.bq_job.specs.promise.ControlDid.{drains, drains_from, one_if}
 use Rattle.bq_job.specs.promise.Headline.{AreSeatsUpTo, IsHistoryOf}
-use Rattle.bq_job.specs.promise.History.{ArePickedFrom, moments_heard, steps_at}
+use Rattle.bq_job.specs.promise.History.{steps_at}
 use Rattle.bq_job.specs.promise.LineOwed.{AreLinesOwed}
 use Rattle.bq_job.specs.promise.LineSteps.{LineSeen}
-use Rattle.bq_job.specs.promise.Runs.{Entry, Run, answers_to}
-use Rattle.bq_job.specs.promise.SoFar.{AreDoorsOwedSoFar, IsControlSoFar, IsDoorOwedSoFar, IsLineOwedSoFar, IsOutOwed}
+use Rattle.bq_job.specs.promise.Runs.{answers_to}
+use Rattle.bq_job.specs.promise.SoFar.{AreDoorsOwedSoFar, IsControlSoFar, IsDoorOwedSoFar, IsOutOwed}
 use Rattle.bq_host.specs.Compared.{AreCompared}
 use Rattle.bq_host.specs.Hubs.{state_of}
 use Rattle.bq_host.specs.MailStates.{IsNewMailState, waiting}
@@ -30,7 +31,7 @@ use Rattle.bq_line.proofs.LineSoFarLemmas.{line_so_far}
 use Rattle.bq_line.proofs.TendingLemmas.{tended_new}
 use Rattle.bq_line.specs.ControlRead.{IsReadToEnd}
 use Rattle.bq_line.specs.Attending.{IsAt}
-use Rattle.bq_line.specs.Tending.{AreSame, DoorSeen, IsDoorServed, IsNewDoor, IsNewSeat, IsPlaced, IsTended, door_seen, ended_lines}
+use Rattle.bq_line.specs.Tending.{AreSame, DoorSeen, IsDoorServed, IsNewDoor, IsNewSeat, IsTended, door_seen, ended_lines}
 use Rattle.bq_line.specs.declared.attendant.Attendant.{Attendant}
 use Rattle.bq_line.specs.declared.attendant.LinePlace.{LinePlace}
 use Rattle.bq_line.specs.declared.attendant.LinePlace.TheVariants as places
@@ -47,25 +48,18 @@ use Rattle.bq_line.specs.declared.control_steps.Stage.{Stage}
 use Rattle.bq_line.specs.declared.control_steps.Stage.TheVariants as stages
 use Rattle.bq_line.proofs.ToldLemmas.{IsToldSo, told_all}
 use Rattle.bq_event_loop.proofs.RowLemmas.{some_one}
-use Rattle.bq_event_loop.proofs.SessionsLemmas.{StepsKeepSettings, run_keeps, tended_done, up_to}
+use Rattle.bq_event_loop.proofs.SessionsLemmas.{StepsKeepSettings, run_keeps, up_to}
 
 -- ---- the control line
 
 begun_by : (text : List ℕ) (failed : Bool) (count more : ℕ) (told : List Step) → told ≡ replicate count Drain
     → drains text failed ≡ count + more → IsControlSoFar text failed told
-begun_by text failed count more told is total = (
-  replicate more Drain ++ Gone ∷ [],
-  ap (λ (xs : List Step). xs ++ (replicate more Drain ++ Gone ∷ [])) is
-      ∙ sym (append_assoc (replicate count Drain) (replicate more Drain) (Gone ∷ []))
-      ∙ ap (λ (xs : List Step). xs ++ Gone ∷ []) (replicate-append-replicate count more Drain)
-      ∙ ap (λ (n : ℕ). replicate n Drain ++ Gone ∷ []) (sym total),
-)
+begun_by text failed count more told is total =
+    grind (arith, append_assoc (replicate count Drain) (replicate more Drain) (Gone ∷ []), replicate-append-replicate count more Drain)
 
 read_of : (before after : Option (List ℕ)) (text : List ℕ) (failed : Bool)
     → IsReadToEnd before after text failed → Consumes before after text
-read_of None after text failed h = tt
-read_of (Some x) None text failed h = absurd h
-read_of (Some x) (Some y) text failed h = h.0
+read_of before after text failed h4 = grind arith
 
 -- What was read and submitted of a control line so far.
 record IsControlBegun {I : Type 0} (i : Control I) (first : Option (List ℕ)) (may : Bool) (input : I) (told : List Step) : Type 0 where
@@ -89,23 +83,8 @@ module _ {I : Type 0} (i : Control I) where
     where
       plus : (a b c : ℕ) → (a + b) + c ≡ a + (b + c)
       plus a b c = omega arith
-  begun_at stages.Ended input kept owed count first may told at =
-      let r = at.1 in
-      record {
-        read = read_of first (i.remaining input) (i.seen input).text (i.seen input).failed r.read;
-        fault = r.fault;
-        begun = begun_by (i.seen input).text (i.seen input).failed count owed told at.0 r.counted;
-      }
-  begun_at stages.Over input kept owed count first may told at =
-      let r = at.2 in
-      record {
-        read = read_of first (i.remaining input) (i.seen input).text (i.seen input).failed r.read;
-        fault = r.fault;
-        begun = (
-          [],
-          append-nil told ∙ at.1 ∙ ap (λ (n : ℕ). replicate n Drain ++ Gone ∷ []) (sym r.counted),
-        );
-      }
+  begun_at stages.Ended input kept owed count first may told at = search (read_of, begun_by)
+  begun_at stages.Over input kept owed count first may told at = grind (arith, common_steps)
 
   control_begun : (first : Option (List ℕ)) (may : Bool) (c : ControlSteps I) (told : List Step)
       → HasTold i first may c told
@@ -120,16 +99,9 @@ module _ {L : Type 0} (seen : L → LineSeen) where
       → IsAt seen size machine place submitted taken → IsOutOwed size (line_out seen place) submitted (taken ++ more)
   out_at size machine places.Between submitted taken more at = inl at.0
   out_at size machine (places.On line action sent) submitted taken more at =
-      subst (λ (x : LineSeen). IsLineOwedSoFar size x submitted (taken ++ more)) (sym at.1)
-      (line_so_far size machine at.0 action sent submitted taken more at.2)
+      grind (arith, line_so_far size machine at.0 action sent submitted taken more at.2)
   out_at size machine places.Leaving submitted taken more at = inl at.0
   out_at size machine places.Done submitted taken more at = inr at.0
-
-  out_held : (place : LinePlace L) (door : DoorSeen) → IsPlaced place door → door.is_out ≡ is_some (line_out seen place)
-  out_held places.Between door p = p.0
-  out_held (places.On line action sent) door p = p.0
-  out_held places.Leaving door p = p.0
-  out_held places.Done door p = p.0
 
   -- the answers of the connections that have ended, and then those of the open connection
   got_first : (got getting more taken : List Answer) → taken ≡ got ++ getting → taken ++ more ≡ got ++ (getting ++ more)
@@ -140,19 +112,7 @@ module _ {L : Type 0} (seen : L → LineSeen) where
       → AreLinesOwed size door.lines_over t.attends.before t.attends.got
       → IsDoorOwedSoFar size (record { over = door.lines_over; out = line_out seen a.place; is_out = door.is_out })
       submitted (taken ++ more)
-  out_so_far size a door submitted taken more t owed =
-      let did = t.attends in
-      record {
-        own = did.before;
-        current = did.now;
-        got = did.got;
-        later = did.getting ++ more;
-        of_lines = owed;
-        of_out = out_at size a.machine a.place did.now did.getting more did.at_place;
-        taken_is = did.submitted_is;
-        answers_are = got_first did.got did.getting more taken did.taken_is;
-        held = out_held a.place door t.placed;
-      }
+  out_so_far size a door submitted taken more t owed = grind (arith, common_steps, out_at)
 
 module _ {L D : Type 0} (l : Line L) (d : Door D L) where
   many_doors : (seats : List (Attendant L)) (doors : List D) → length doors ≡ length seats
@@ -221,12 +181,7 @@ module _ {L D C I K : Type 0} {k : Core K} {c : Clock C} {l : Line L} {d : Door 
     {core : Hub C K} {row : Row L D} {control : ControlSteps I} (s : IsServing k c l d i begun core row control) where
   -- One history of all steps, each with a reading of its own.
   ran : IsRun begun.settings s.readings s.served.history s.served.went.given (k.machine core.timed.core)
-  ran = record {
-    runs = subst (λ (m : Machine). Run m s.served.history s.served.went.given (k.machine core.timed.core)) s.is_new.core
-        s.served.went.runs;
-    timed = subst (λ (n : ℕ). ArePickedFrom (map (λ (e : Entry). e.moment) s.served.history) (moments_heard n s.readings)) s.is_new.heard
-        s.served.went.timed.picked;
-  }
+  ran = grind arith
 
   -- Along it, the core stayed within its bounds.
   within_bounds : AreCompared (new_machine begun.settings) s.served.history s.served.went.given (k.machine core.timed.core) 0
@@ -246,8 +201,7 @@ module _ {L D C I K : Type 0} {k : Core K} {c : Clock C} {l : Line L} {d : Door 
 
   -- The core's settings are those that it began with.
   pub serving_settings : StepsKeepSettings → (k.machine core.timed.core).settings ≡ begun.settings
-  serving_settings law =
-      let r = ran.runs in run_keeps law (new_machine begun.settings) r.1.taken (k.machine core.timed.core) r.1.goes
+  serving_settings law = grind (arith, run_keeps)
 
   -- a seat with its door, the answers that it was given, and how many of them are `Closed`
   record IsSeatSoFar (t : ℕ) (a : Attendant L) (door : DoorSeen) : Type 0 where
@@ -258,15 +212,7 @@ module _ {L D C I K : Type 0} {k : Core K} {c : Clock C} {l : Line L} {d : Door 
 
   seat_served : (t : ℕ) → t < length row.seats.items → (a : Attendant L) (x : D)
       → IsSeatSoFar t (slice_index_or row.seats.items t a) (door_seen d (slice_index_or row.doors.items t x))
-  seat_served t below a x =
-      let none = none_waits begun.settings s.first t s.is_new in
-      record {
-        within = let e = s.many in omega arith;
-        tended = s.served.each t below a x;
-        answers_are = ap (λ (xs : List Answer). xs ++ answers_to t s.served.went.given) (sym none)
-            ∙ s.served.went.tied t (let e = s.served.mailed in omega arith);
-        few = s.served.few t below none a x;
-      }
+  seat_served t below a x = grind (arith, none_waits)
 
   -- The connections of a seat that have ended are owed what their clients received, and an open one is owed a beginning of it.
   seat_so_far : (t : ℕ) (a : Attendant L) (x : D) → IsSeatSoFar t a (door_seen d x)
@@ -281,11 +227,7 @@ module _ {L D C I K : Type 0} {k : Core K} {c : Clock C} {l : Line L} {d : Door 
       (g.answers_are ∙ got_first l.seen did.got did.getting (waiting t (state_of k core)) (s.served.took t) did.taken_is)
       (got_few l.seen begun.settings.max_job_size a (door_seen d x) (steps_at t s.served.history) (s.served.took t) g.tended g.few)
       did.of_lines in
-      subst (λ (xs : List Answer). IsDoorOwedSoFar begun.settings.max_job_size
-      (record { over = d.lines_over x; out = line_out l.seen a.place; is_out = d.is_out x }) (steps_at t s.served.history) xs)
-      (sym g.answers_are)
-      (out_so_far l.seen begun.settings.max_job_size a (door_seen d x) (steps_at t s.served.history) (s.served.took t)
-      (waiting t (state_of k core)) g.tended owed)
+      search (out_so_far, g.answers_are, g.tended)
 
   -- the doors from this seat on
   doors_begun : (n : ℕ) (seats : List (Attendant L)) (doors : List D)
@@ -321,8 +263,7 @@ module _ {L D C I K : Type 0} {k : Core K} {c : Clock C} {l : Line L} {d : Door 
           of_doors = doors_begun 0 row.seats.items row.doors.items (λ j below a x.
               subst (λ (n : ℕ). IsSeatSoFar n (slice_index_or row.seats.items j a) (door_seen d (slice_index_or row.doors.items j x)))
               (let e : j ≡ 0 + j = omega arith in e) (seat_served j below a x));
-          of_control = subst (λ (xs : List Step). IsControlSoFar (i.seen control.input).text (i.seen control.input).failed xs)
-              (sym control_steps) b.begun;
+          of_control = grind arith;
           of_nobody_else = no_others;
         };
         compared = within_bounds;
@@ -340,12 +281,7 @@ module _ {L D C I K : Type 0} {k : Core K} {c : Clock C} {l : Line L} {d : Door 
         let here : t < length row.seats.items = let e = s.served.doored in omega arith in
         let a = some_one row.seats.items t here in
         let g = seat_served t here a x in
-        record {
-          served = tended_done l.seen begun.settings.max_job_size (slice_index_or row.seats.items t a)
-              (door_seen d (slice_index_or row.doors.items t x)) (steps_at t s.served.history) (s.served.took t)
-              (all_done t here a) g.tended;
-          answers_are = g.answers_are;
-        }
+        search (arith, common_steps)
 
     -- the doors from this seat on
     doors_tied : (n : ℕ) (rest : List D)

@@ -205,6 +205,7 @@ impl Order {
     }
 
     // Returns the next seat of this part.
+    #[tactic(auto, using(crate::proofs::KnownLemmas::next_in_round_is))]
     fn next_seat(&mut self, part: Part) -> Option<usize>
         ensures { IsNextOf result self.old.queue self.new.queue }
     {
@@ -354,6 +355,7 @@ impl Order {
     }
 
     // Returns true if no seat acts, and none checks for a client that may have come.
+    #[tactic(auto, using(crate::proofs::KnownLemmas::idle_visits, crate::proofs::KnownLemmas::idle_queue, crate::proofs::KnownLemmas::idle_free))]
     fn is_idle(&self, may_come: bool) -> bool
         ensures acts { result ≡ true → (seat : ℕ) → is_listed self.now.queue (visited_by self.now.stage self.now.visit) seat ≡ false }
         ensures checks { result ≡ true → may_come ≡ true → (seat : ℕ) → is_looking self.now.queue seat ≡ false }

@@ -48,6 +48,7 @@ impl Model for SeatQueue {
 }
 
 // Returns the numbers of this many seats, the first of them last.
+#[tactic(auto, using(crate::proofs::ListingLemmas::falling_more))]
 fn all_seats(alloc: Global, seats: usize) -> Result<Vec<usize, Global>, AllocError>
     ensures all { IfOk result (λ free. free.items ≡ falling seats) }
     ensures room { IfOk result (λ free. seats ≤ vec_capacity free) }
@@ -222,6 +223,7 @@ impl SeatQueue {
     }
 
     /// Each seat is at most once in both lists together.
+    #[tactic(auto, using(crate::proofs::ListingLemmas::disjoint))]
     pub fn is_disjoint(&self)
         ensures { IsDisjoint self.now }
     {

@@ -517,6 +517,7 @@ fn stops<I: ControlInput>(control: &ControlSteps<I>, may_wait: bool) -> bool {
 
 // Submits the steps that the control line owes: at most a drain and its end. Returns false if one
 // was rejected.
+#[tactic(auto, using(crate::proofs::ServingLemmas::control_then))]
 fn submit_owed<C: Clock + Drop, I: ControlInput, K: QueueCore + Drop>(
     control: &mut ControlSteps<I>,
     core: &mut Hub<C, K>,
@@ -532,6 +533,7 @@ fn submit_owed<C: Clock + Drop, I: ControlInput, K: QueueCore + Drop>(
 }
 
 // Submits the next step of the control line, if there is one. Returns false if it was rejected.
+#[tactic(auto, using(crate::proofs::ServingLemmas::control_none))]
 fn submit_one<C: Clock + Drop, I: ControlInput, K: QueueCore + Drop>(
     control: &mut ControlSteps<I>,
     core: &mut Hub<C, K>,

@@ -1,5 +1,6 @@
 -- How the count of a core's comparisons grows with what the core does.
-use Rattle.std.proofs.Common.{◌≡◌, ℕ, true, false, List, [], ◌∷◌, ◌++◌, refl, append-nil, append_assoc}
+use Rattle.std.proofs.Common.{◌≡◌, ℕ, true, false, List, [], ◌∷◌, ◌++◌, refl, append_assoc, arith}
+use Rattle.std.proofs.lemmas.Grind.{common_steps}
 use Rattle.bq_job.specs.declared.step.Step.{Step}
 use Rattle.bq_job.specs.machine.Dispatch.{GivenAnswer}
 use Rattle.bq_job.specs.machine.Steps.{Outcome}
@@ -20,20 +21,14 @@ compared_step d n at seat what outcome given step unknown start before gave from
   rw unknown refl,
 )
 
--- No step was taken: what holds of the count at the first state holds at the last.
-none_more : (d n : TimedState) → n.core ≡ d.core
-    → ((count : ℕ) → LooksOnce d.known d.core count d.compared → LooksOnce n.known n.core count n.compared) → Compares d [] [] n
-none_more d n core looked start before gave from h =
-    rw (append-nil before, append-nil gave) (h.0, (rw core h.1), looked h.0 h.2)
-
 -- The core was not used.
 pub compared_still : (d n : TimedState) → n.core ≡ d.core → n.known ≡ d.known → n.compared ≡ d.compared → Compares d [] [] n
-compared_still d n core known compared = none_more d n core (λ count looked. rw (known, core, compared) looked)
+compared_still d n core known compared = grind (arith, common_steps)
 
 -- It was asked for the next due moment, if that was not known.
 pub compared_looked : (d n : TimedState) → n.known ≡ true → n.core ≡ d.core
     → ((count : ℕ) → LooksOnce d.known d.core count d.compared → IsLookWithin d.core count n.compared) → Compares d [] [] n
-compared_looked d n known core once = none_more d n core (λ count looked. rw (known, core) (once count looked))
+compared_looked d n known core once = grind (arith, common_steps)
 
 -- One part of a history after another.
 pub compared_on : (first next last : TimedState) (history more : List Entry) (given later : List GivenAnswer)
@@ -52,5 +47,4 @@ compared_from first last history given unknown h =
 -- From a core that has compared nothing.
 pub compared_all : (first last : MailState) (history : List Entry) (given : List GivenAnswer) → first.known ≡ false → first.compared ≡ 0
     → Compares (timed_of first) history given (timed_of last) → AreCompared first.core history given last.core 0 last.compared
-compared_all first last history given unknown none h =
-    rw none at (compared_from (timed_of first) (timed_of last) history given unknown h)
+compared_all first last history given unknown none h = grind (arith, compared_from (timed_of first) (timed_of last) history given unknown h)

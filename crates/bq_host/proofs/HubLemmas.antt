@@ -1,18 +1,16 @@
 -- What happens at a hub, step by step.
-use Rattle.std.proofs.Common.{◌≡◌, ℕ, ◌&&◌, Bool, true, false, true≢false, not, List, [], ◌∷◌, ◌++◌}
-use Rattle.std.proofs.Common.{Option, length, refl, sym, ap, ◌∙◌, subst, inl, inr}
+use Rattle.bq_host.proofs.WentLemmas.{none_held, seat_none, seat_on, seat_sorted, seat_stepped, seat_took}
+use Rattle.std.proofs.Common.{◌≡◌, ℕ, ◌&&◌, Bool, true, false, true≢false, not, List, [], ◌∷◌, ◌++◌, arith}
+use Rattle.std.proofs.lemmas.Grind.{common_steps}
+use Rattle.std.proofs.Common.{Option, refl, sym, ap, ◌∙◌, subst}
 use Rattle.std.specs.Prelude.{if◌then◌else◌, slice_index_or}
 use Rattle.std.specs.Option.{option_to_list}
 use Rattle.bq_job.specs.declared.answer.Answer.{Answer}
-use Rattle.bq_job.specs.declared.settings.Settings.{Settings}
 use Rattle.bq_job.specs.declared.step.Step.{Step}
 use Rattle.bq_job.specs.declared.step.Step.TheVariants.{Tick}
 use Rattle.bq_job.specs.machine.Dispatch.{GivenAnswer}
 use Rattle.bq_job.specs.promise.History.{is_tick}
-use Rattle.bq_job.specs.promise.Runs.{answers_to}
-use Rattle.bq_core_api.specs.Outbox.{Outbox}
 use Rattle.bq_seat.specs.declared.machine.Action.{Action}
-use Rattle.bq_line.specs.GivenReadings.{GaveReadings}
 use Rattle.bq_line.specs.Links.{Calls, TakesInPlace}
 use Rattle.bq_host.specs.Clocks.{Gives}
 use Rattle.bq_host.specs.Hubs.{KeepsFresh, OnlyMoves, WentAt, WentInOrder, state_of, with_pending}
@@ -20,44 +18,26 @@ use Rattle.bq_host.specs.MailStates.{IsInOrder, IsSorted}
 use Rattle.bq_host.specs.Meanings.{Clock, Core}
 use Rattle.bq_host.specs.Timed.{IsReady, LooksAndSteps, PassesOver}
 use Rattle.bq_host.specs.WakeLists.{Wakes}
-use Rattle.bq_host.specs.declared.{hub.Hub.Hub, timed_core.HeardClock.HeardClock, timed_core.TimedCore.TimedCore}
+use Rattle.bq_host.specs.declared.{hub.Hub.Hub, timed_core.TimedCore.TimedCore}
 use Rattle.bq_host.proofs.WakeLemmas.{wakes_none, wakes_then}
 use Rattle.bq_host.proofs.MailLemmas.{seat_takes_pending}
-use Rattle.bq_host.proofs.TimedRunLemmas.{TimedRan, entry_of, gave_none, gave_then, outs_over, timed_late, timed_over}
-use Rattle.bq_host.proofs.WentLemmas.{none_held, seat_none, seat_on, seat_sorted, seat_stepped, seat_still}
+use Rattle.bq_host.proofs.TimedRunLemmas.{TimedRan, entry_of, gave_none, gave_then, timed_late, timed_over}
 
 -- The mark of a fresh reading is kept while answers move.
 pub fresh_on : {C K : Type 0} (given : Gives C) (first next last : Hub C K) → KeepsFresh given first next → OnlyMoves next last
     → KeepsFresh given first last
-fresh_on {C} {K} given first next last k m f = elim (k (sym m.fresh ∙ f)) [
-  | inl e ↦ inl e
-  | inr r ↦ inr (r.0, r.1, subst (λ (t : HeardClock C). GaveReadings given first.timed.time.clock (r.0 ∷ r.1) t.clock) (sym m.time) r.2)
-]
+fresh_on {C} {K} given first next last k m f = grind arith
 
 module _ {C K : Type 0} (k : Core K) where
   -- A hub is in order if its core is ready and its marks about answers are right.
   pub order_ready : (first last : Hub C K) → IsReady k.machine last.timed
       → (k.machine last.timed.core).settings ≡ (k.machine first.timed.core).settings → last.mails ≡ first.mails
       → (last.is_sorted ≡ true → (state_of k last).pending ≡ []) → IsInOrder (state_of k first) → IsInOrder (state_of k last)
-  order_ready first last ready settings mails none o = record {
-    many = ap (λ ms. length ms.items) mails ∙ o.many ∙ ap (λ (s : Settings). s.seats) (sym settings);
-    room = ready.room;
-    none_pending = none;
-    due_is = ready.due;
-  }
-
-  pub order_woken : (next last : Hub C K) → last ≡ record next { woken = last.woken } → IsInOrder (state_of k next)
-      → IsInOrder (state_of k last)
-  order_woken next last same o =
-      subst (λ (h : Hub C K). IsInOrder (state_of k h)) (sym same)
-      (record { many = o.many; room = o.room; none_pending = o.none_pending; due_is = o.due_is })
+  order_ready first last ready settings mails none o = grind arith
 
   module _ (c : Clock C) where
     pub went_none : (seat : ℕ) (hub : Hub C K) → WentAt k c seat hub [] [] hub
-    went_none seat hub = (
-      ([], gave_none c.given hub.timed.time.clock, seat_none (state_of k hub) seat),
-      wakes_none hub.mails.items hub.woken,
-    )
+    went_none seat hub = grind (arith, common_steps, seat_none)
 
     pub went_then : (seat other : ℕ) (first next last : Hub C K) (submitted more : List Step) (taken later : List Answer)
         → other ≡ seat → WentAt k c seat first submitted taken next → WentAt k c other next more later last
@@ -75,14 +55,7 @@ module _ {C K : Type 0} (k : Core K) where
     pub went_sorted : (seat : ℕ) (first last : Hub C K) → IsSorted (state_of k first) (state_of k last)
         → last.timed.time.clock ≡ first.timed.time.clock → Wakes first.mails.items last.mails.items first.woken last.woken
         → WentAt k c seat first [] [] last
-    went_sorted seat first last s same wakes = (
-      (
-        [],
-        subst (GaveReadings c.given first.timed.time.clock []) (sym same) (gave_none c.given first.timed.time.clock),
-        seat_sorted (state_of k first) (state_of k last) seat s,
-      ),
-      wakes,
-    )
+    went_sorted seat first last s same wakes = grind (arith, common_steps, seat_sorted)
 
     -- All answers at the hub are still there, in some place.
     pub went_moved : (seat : ℕ) (first last : Hub C K) (held : Option GivenAnswer) (answers : List GivenAnswer) (sorted : Bool)
@@ -93,9 +66,7 @@ module _ {C K : Type 0} (k : Core K) where
         (went_sorted seat first (with_pending held answers sorted first) (record {
           rest = refl;
           many = refl;
-          waiting_is = λ t below.
-              ap (λ (xs : List GivenAnswer). slice_index_or first.mails.items t [] ++ answers_to t xs)
-              (sym (ap (λ (h : Hub C K). (state_of k h).pending) moved) ∙ pending);
+          waiting_is = grind arith;
         }) refl (wakes_none first.mails.items first.woken))
 
     -- A seat without mail took the oldest answer.
@@ -131,17 +102,7 @@ module _ {C K : Type 0} (k : Core K) where
     -- Time passed, and no step was taken.
     went_over : (seat : ℕ) (old : Hub C K) (t : TimedCore C K) (marked : Bool) → PassesOver k c old.timed t
         → WentAt k c seat old [] [] (record old { timed = t; is_sorted = marked })
-    went_over seat old t marked over =
-        let r = timed_over k c old.timed t over in (
-          (
-            r.0,
-            r.1,
-            seat_still (state_of k old) (state_of k (record old { timed = t; is_sorted = marked })) seat r.0 r.2 refl (λ n below.
-                ap (λ (o : Outbox). slice_index_or old.mails.items n [] ++ answers_to n (option_to_list old.held ++ o.given))
-                (outs_over k c old.timed t over)),
-          ),
-          wakes_none old.mails.items old.woken,
-        )
+    went_over seat old t marked over = grind (arith, timed_over k c old.timed t over, seat_took)
 
     -- Time passed, and the core took a tick if something was due and it may.
     pub went_passed : (old : Hub C K) (t : TimedCore C K) (may due : Bool) → IsReady k.machine t
@@ -153,15 +114,8 @@ module _ {C K : Type 0} (k : Core K) where
       order_ready old (record old { timed = t; is_sorted = false }) ready settings refl (λ sorted. absurd (true≢false (sym sorted))) o,
       went_stepped 0 t.time.moment Tick old t false (timed_late k c old.timed t 0 Tick (ticked refl)) (empty refl),
     )
-    went_passed old t true false ready settings over ticked empty o = (
-      order_ready old (record old { timed = t; is_sorted = true }) ready settings refl (λ sorted.
-          ap (λ (x : Outbox). option_to_list old.held ++ x.given) (outs_over k c old.timed t (over refl)) ∙ empty refl) o,
-      went_over 0 old t true (over refl),
-    )
-    went_passed old t false due ready settings over ticked empty o = (
-      order_ready old (record old { timed = t; is_sorted = false }) ready settings refl (λ sorted. absurd (true≢false (sym sorted))) o,
-      went_over 0 old t false (over refl),
-    )
+    went_passed old t true false ready settings over ticked empty o = grind (arith, went_over 0 old t true (over refl))
+    went_passed old t false due ready settings over ticked empty o = grind (arith, went_over 0 old t false (over refl))
 
     -- A seat took an answer after its hub stayed the same for all seats.
     pub takes_on : (seat : ℕ) (first next last : Hub C K) (place after : Action) (took : Bool)
@@ -175,5 +129,4 @@ module _ {C K : Type 0} (k : Core K) where
     -- What a seat did, whether its link to the hub was used or not.
     pub called : (seat : ℕ) (first last : Hub C K) (submitted : List Step) (taken : List Answer)
         → Calls (WentAt k c seat) first submitted taken last → WentAt k c seat first submitted taken last
-    called seat first last submitted taken (inl went) = went
-    called seat first last submitted taken (inr none) = rw (none.0, none.1, none.2) (went_none seat first)
+    called seat first last submitted taken h = grind (arith, went_none seat first)

@@ -1,12 +1,10 @@
 pub mod ComparedLemmas
-pub mod DueLemmas
 pub mod HasComparedLemmas
 pub mod HubLemmas
 pub mod HubSeatLemmas
 pub mod ListLemmas
 pub mod MailLemmas
 pub mod MarkLemmas
-pub mod SendLemmas
 pub mod TimedRunLemmas
 pub mod WakeLemmas
 pub mod WentLemmas

@@ -1,9 +1,9 @@
 -- Properties that hold for each element of a list, as elements are added and taken.
-use Rattle.std.proofs.Common.{◌≡◌, ◌∙◌, ℕ, List, [], ◌∷◌, ◌++◌, Some, ap, subst, sym, append_assoc, map, take, ◌+◌, replicate}
+use Rattle.std.proofs.Common.{◌≡◌, ℕ, List, [], ◌∷◌, ◌++◌, Some, subst, sym, map, take, ◌+◌, replicate, arith}
+use Rattle.std.proofs.lemmas.Grind.{common_steps}
 use Rattle.std.specs.Prelude.{reverse}
 use Rattle.std.specs.List.{All}
 use Rattle.std.specs.Option.{option_to_list}
-use Rattle.std.proofs.lemmas.List.{map-append, replicate_more, reverse-append}
 use Rattle.std.proofs.lemmas.List.Elements.{All-head, All-pop, All-push, All-rest, All-take}
 
 pub all_pushed : {X : Type 0} (xs ys : List X) (x : X) (P : X → Type 0) → ys ≡ xs ++ x ∷ [] → All P xs → P x → All P ys
@@ -21,29 +21,17 @@ first_passes xs ys x P e h = All-head P x ys (subst (All P) e h)
 pub rest_passes : {X : Type 0} (xs ys : List X) (x : X) (P : X → Type 0) → xs ≡ x ∷ ys → All P xs → All P ys
 rest_passes xs ys x P e h = All-rest P x ys xs e h
 
--- In reverse, the last element comes first.
-turned : {X Y : Type 0} (f : X → Y) (xs : List X) (x : X) → reverse (map f (xs ++ x ∷ [])) ≡ f x ∷ reverse (map f xs)
-turned f xs x = ap reverse (map-append f xs (x ∷ [])) ∙ reverse-append (map f xs) (f x ∷ [])
-
 -- An element moves from the end of one list to the end of another, and the second list is read in
 -- reverse.
 pub put_behind : {X Y : Type 0} (f : X → Y) (all rest : List Y) (y : Y) (xs ys : List X) (x : X) → all ≡ rest ++ y ∷ [] → ys ≡ xs ++ x ∷ []
     → f x ≡ y → rest ++ reverse (map f ys) ≡ all ++ reverse (map f xs)
-put_behind f all rest y xs ys x all_is ys_are same =
-    let here : reverse (map f ys) ≡ y ∷ reverse (map f xs) =
-    ap (λ zs. reverse (map f zs)) ys_are ∙ turned f xs x ∙ ap (λ z. z ∷ reverse (map f xs)) same in
-    ap (λ zs. rest ++ zs) here ∙ sym (append_assoc rest (y ∷ []) (reverse (map f xs))) ∙ ap (λ zs. zs ++ reverse (map f xs)) (sym all_is)
+put_behind f all rest y xs ys x all_is ys_are same = grind (arith, common_steps)
 
 -- An element is taken from the end of a list, and what represents it is appended to another list.
 pub handed_on : {X Y Z : Type 0} (f : X → Z) (g : Y → Z) (all rest : List X) (x : X) (ys more : List Y) (y : Y) → all ≡ rest ++ x ∷ []
     → more ≡ ys ++ y ∷ [] → g y ≡ f x
     → map g more ++ reverse (map f rest) ≡ map g ys ++ reverse (map f all)
-handed_on f g all rest x ys more y all_is more_are same =
-    let there : reverse (map f all) ≡ f x ∷ reverse (map f rest) = ap (λ zs. reverse (map f zs)) all_is ∙ turned f rest x in
-    let here : map g more ≡ map g ys ++ f x ∷ [] = ap (map g) more_are ∙ map-append g ys (y ∷ []) ∙ ap (λ z. map g ys ++ z ∷ []) same in
-    ap (λ zs. zs ++ reverse (map f rest)) here ∙ append_assoc (map g ys) (f x ∷ []) (reverse (map f rest))
-    ∙ ap (λ zs. map g ys ++ zs) (sym there)
+handed_on f g all rest x ys more y all_is more_are same = grind (arith, common_steps)
 
 pub one_more : {X : Type 0} (n : ℕ) (x y : X) (xs ys : List X) → xs ≡ replicate n x → ys ≡ xs ++ y ∷ [] → y ≡ x → ys ≡ replicate (n + 1) x
-one_more n x y xs ys xs_are ys_are same =
-    ys_are ∙ ap (λ zs. zs ++ y ∷ []) xs_are ∙ ap (λ z. replicate n x ++ z ∷ []) same ∙ replicate_more n x
+one_more n x y xs ys xs_are ys_are same = grind (arith, common_steps)

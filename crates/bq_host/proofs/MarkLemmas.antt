@@ -1,11 +1,9 @@
 -- Marks of seats that enter and leave a list.
 use Rattle.std.proofs.Common.{ℕ, ◌≡◌, ◌≢◌, ◌⊎◌, inl, inr, ◌+◌, ◌≤◌, ◌<◌, ◌==◌, Bool, true, false, cond, List, [], ◌∷◌, ◌++◌, length}
-use Rattle.std.proofs.Common.{replicate, slice_set, slice_index_or, refl, sym, ap, ◌∙◌, subst, arith}
-use Rattle.std.specs.List.{count_by}
+use Rattle.std.proofs.Common.{replicate, slice_set, slice_index_or, ap, ◌∙◌, arith}
 use Rattle.std.proofs.lemmas.Grind.{common_steps}
-use Rattle.std.proofs.lemmas.List.{get_or-replicate, get_or-set_other, get_or-set_same, get_or_past, length-replicate, length-set}
-use Rattle.std.proofs.lemmas.List.Folds.{sum_by-replicate}
-use Rattle.std.proofs.lemmas.List.Sums.{count_by-le-length, sum_by-set, sum_by-append, sum_by_push, sum_by-cons}
+use Rattle.std.proofs.lemmas.List.{get_or-set_other, get_or_past, length-set}
+use Rattle.std.proofs.lemmas.List.Sums.{count_by-le-length, sum_by-set, sum_by_push}
 use Rattle.std.proofs.lemmas.Bool.{cases_lt}
 use Rattle.std.proofs.lemmas.Bool.Decides.{eqb_tells, nat_tests}
 use Rattle.bq_host.specs.Marks.{HasMarks, times}
@@ -14,8 +12,7 @@ abbrev pub one_if : Bool → ℕ
 one_if b = cond b 1 0
 
 pub at_most_one : (b : Bool) → one_if b ≤ 1
-at_most_one true = omega arith
-at_most_one false = omega arith
+at_most_one b = grind arith
 
 -- a seat more at the end of the list
 pub times_push : (t : ℕ) (xs : List ℕ) (s : ℕ) → times t (xs ++ s ∷ []) ≡ times t xs + one_if (s == t)
@@ -23,11 +20,7 @@ times_push t xs s = sum_by_push (λ x. one_if (x == t)) xs s
 
 -- a seat more in the list
 pub times_more : (t : ℕ) (xs : List ℕ) (s : ℕ) (ys : List ℕ) → times t (xs ++ s ∷ ys) ≡ times t (xs ++ ys) + one_if (s == t)
-times_more t xs s ys =
-    let whole = sum_by-append (λ x. one_if (x == t)) xs (s ∷ ys) in
-    let rest = sum_by-append (λ x. one_if (x == t)) xs ys in
-    let head = sum_by-cons (λ x. one_if (x == t)) s ys in
-    omega (arith, whole, rest, head)
+times_more t xs s ys = grind (arith, common_steps)
 
 pub same_one : (s : ℕ) → one_if (s == s) ≡ 1
 same_one s = grind (arith, nat_tests)
@@ -51,29 +44,18 @@ module _ {M : Type 0} (p : M → Bool) (away : M) where
   }
     where
       at : (t : ℕ) → ((s == t) ≡ true) × (s ≡ t) ⊎ ((s == t) ≡ false) × (s ≢ t) → times t zs ≡ has_mark (slice_set marks s y) t
-      at t (inl (_, same)) =
-          let new : has_mark (slice_set marks s y) s ≡ one_if (p y) = ap (λ z. one_if (p z)) (get_or-set_same marks s y away below) in
-          subst (λ n. times n zs ≡ has_mark (slice_set marks s y) n) same (omega (arith, here, has.each s, new))
-      at t (inr (test, differs)) =
-          others t (ap one_if test) ∙ has.each t
-          ∙ sym (ap (λ z. one_if (p z)) (get_or-set_other marks s t y away (λ e. differs (sym e))))
+      at t (inl (_, same)) = grind (arith, common_steps)
+      at t (inr (test, differs)) = grind (arith, get_or-set_other)
 
   -- A seat without such a mark that gets one is appended.
   pub entered : (xs : List ℕ) (marks : List M) (s : ℕ) (y : M) → HasMarks p away xs marks → s < length marks
       → p (slice_index_or marks s away) ≡ false → p y ≡ true → HasMarks p away (xs ++ s ∷ []) (slice_set marks s y)
-  entered xs marks s y has below was is =
-      let old : has_mark marks s ≡ 0 = ap one_if was in
-      let new : one_if (p y) ≡ 1 = ap one_if is in
-      let more : length (xs ++ s ∷ []) ≡ length xs + 1 = grind (arith, common_steps) in
-      changed xs (xs ++ s ∷ []) marks s y has below (omega (arith, times_push s xs s, same_one s, old, new))
-      (λ t none. omega (arith, times_push t xs s, none)) (omega (arith, more, old, new))
+  entered xs marks s y has below was is = grind (arith, common_steps)
 
   -- A list whose marks are not touched stays.
   pub stayed : (xs : List ℕ) (marks : List M) (s : ℕ) (y : M) → HasMarks p away xs marks → s < length marks
       → p (slice_index_or marks s away) ≡ p y → HasMarks p away xs (slice_set marks s y)
-  stayed xs marks s y has below same =
-      let old : has_mark marks s ≡ one_if (p y) = ap one_if same in
-      changed xs xs marks s y has below (omega (arith, old)) (λ t none. refl) (omega (arith, old))
+  stayed xs marks s y has below same = grind (arith, common_steps)
 
   -- A seat that loses its mark leaves.
   pub left : (xs ys : List ℕ) (marks : List M) (s : ℕ) (y : M) → HasMarks p away (xs ++ s ∷ ys) marks → s < length marks
@@ -100,13 +82,7 @@ module _ {M : Type 0} (p : M → Bool) (away : M) where
   -- The mark of a seat of a list.
   pub marked : (xs ys : List ℕ) (marks : List M) (s : ℕ) → HasMarks p away (xs ++ s ∷ ys) marks
       → p (slice_index_or marks s away) ≡ true
-  marked xs ys marks s has = by (p (slice_index_or marks s away)) (has.each s) where
-    impossible : times s (xs ++ s ∷ ys) ≡ 0 → ⊥
-    impossible none = omega (arith, times_more s xs s ys, same_one s, none)
-
-    by : (b : Bool) → times s (xs ++ s ∷ ys) ≡ one_if b → b ≡ true
-    by true e = refl
-    by false e = let none : times s (xs ++ s ∷ ys) ≡ 0 = e in absurd (impossible none)
+  marked xs ys marks s has = grind (arith, common_steps)
 
   -- A seat of a list exists.
   pub within : (xs ys : List ℕ) (marks : List M) (s : ℕ) → p away ≡ false → HasMarks p away (xs ++ s ∷ ys) marks
@@ -120,14 +96,4 @@ module _ {M : Type 0} (p : M → Bool) (away : M) where
 
   -- No seat has such a mark at first.
   pub none_marked : (n : ℕ) (y : M) → p away ≡ false → p y ≡ false → HasMarks p away [] (replicate n y)
-  none_marked n y none is = record { each = each; many = many } where
-    at : (t : ℕ) → (t < n) ⊎ (n ≤ t) → has_mark (replicate n y) t ≡ 0
-    at t (inl below) = ap (λ z. one_if (p z)) (get_or-replicate n t y away below) ∙ ap one_if is
-    at t (inr past) =
-        ap (λ z. one_if (p z)) (get_or_past (replicate n y) t away (omega (arith, past, length-replicate n y))) ∙ ap one_if none
-
-    each : (t : ℕ) → 0 ≡ has_mark (replicate n y) t
-    each t = sym (at t (cases_lt t n))
-
-    many : 0 ≡ count_by p (replicate n y)
-    many = grind (arith, common_steps, sum_by-replicate (λ x. one_if (p x)) n y, is)
+  none_marked n y none is = grind (arith, common_steps)

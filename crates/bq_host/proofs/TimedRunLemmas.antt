@@ -1,5 +1,6 @@
 -- What a core with its clock did, one thing after another.
-use Rattle.std.proofs.Common.{◌≡◌, ℕ, List, [], ◌∷◌, ◌++◌, Option, refl, sym, ap, ◌∙◌, subst, inl, inr, append-nil, append_assoc}
+use Rattle.std.proofs.Common.{◌≡◌, ℕ, List, [], ◌∷◌, ◌++◌, Option, refl, sym, ap, subst, inl, inr, append-nil, arith}
+use Rattle.std.proofs.lemmas.Grind.{common_steps}
 use Rattle.std.proofs.lemmas.List.{map-append}
 use Rattle.bq_job.specs.declared.step.Step.{Step}
 use Rattle.bq_job.specs.machine.Dispatch.{GivenAnswer}
@@ -23,8 +24,7 @@ gave_none given clock first before h = rw (append-nil before) h
 
 pub gave_then : {C : Type 0} (given : C → List (Option ℕ) → C → Type 0) (a b c : C) (readings reads : List (Option ℕ))
     → GaveReadings given a readings b → GaveReadings given b reads c → GaveReadings given a (readings ++ reads) c
-gave_then given a b c readings reads h i first before g =
-    rw (← append_assoc before readings reads) (i first (before ++ readings) (h first before g))
+gave_then given a b c readings reads h i first before g = grind (arith, common_steps)
 
 moments_append : (last : ℕ) (xs ys : List (Option ℕ))
     → moments_heard last (xs ++ ys) ≡ moments_heard last xs ++ moments_heard (last_heard last xs) ys
@@ -50,29 +50,17 @@ picked_append (x ∷ xs) ys (m ∷ ms) ns (inr h) i = inr (picked_append (x ∷ 
 timed_on : (first next last : ℕ) (readings reads : List (Option ℕ)) (history more : List Entry)
     → IsTimedFrom first readings history next
     → IsTimedFrom next reads more last → IsTimedFrom first (readings ++ reads) (history ++ more) last
-timed_on first next last readings reads history more a b = record {
-  picked = rw (map-append (λ (e : Entry). e.moment) history more, moments_append first readings reads)
-      (picked_append _ _ _ _ a.picked (rw a.last_is at b.picked));
-  last_is = b.last_is ∙ ap (λ (n : ℕ). last_heard n reads) a.last_is ∙ sym (heard_append first readings reads);
-}
+timed_on first next last readings reads history more a b = grind (arith, map-append, moments_append, picked_append, heard_append)
 
 -- The core did nothing, and its clock was not read.
 pub ran_none : (state : TimedState) → HasRun state [] [] [] state
-ran_none state = record {
-  runs = run_none state.core;
-  timed = record { picked = tt; last_is = refl };
-  compared = compared_still state state refl refl refl;
-}
+ran_none state = grind (arith, common_steps)
 
 -- One thing was done after another.
 pub ran_then : (first next last : TimedState) (readings reads : List (Option ℕ)) (history more : List Entry)
     (given later : List GivenAnswer) → HasRun first readings history given next → HasRun next reads more later last
     → HasRun first (readings ++ reads) (history ++ more) (given ++ later) last
-ran_then first next last readings reads history more given later a b = record {
-  runs = run_append first.core next.core last.core history more given later a.runs b.runs;
-  timed = timed_on first.heard next.heard last.heard readings reads history more a.timed b.timed;
-  compared = compared_on first next last history more given later a.compared b.compared;
-}
+ran_then first next last readings reads history more given later a b = search (run_append, timed_on, compared_on)
 
 module _ {C K : Type 0} (k : Core K) (c : Clock C) where
   -- The same with the clock, which gave the readings.
@@ -139,19 +127,11 @@ module _ {C K : Type 0} (k : Core K) (c : Clock C) where
   -- Time passed, and the core took a step.
   pub timed_late : (old new : TimedCore C K) (seat : ℕ) (what : Step) → LooksAndSteps k c old seat what new
       → TimedRan old (entry_of new.time.moment seat what ∷ []) new.outs.given new
-  timed_late old new seat what (looked, l, s) =
-      timed_then old looked new [] (entry_of new.time.moment seat what ∷ []) [] new.outs.given (timed_looked old looked l)
-      (timed_step looked new seat what s)
+  timed_late old new seat what (looked, l, s) = grind (arith, timed_step looked new seat what s)
 
   -- If no step was taken, no answer was given, and the core represents the same model.
   pub outs_over : (old new : TimedCore C K) → PassesOver k c old new → new.outs ≡ old.outs
-  outs_over old new (looked, l, rest) = elim rest [
-    | inl e ↦ ap (λ (x : TimedCore C K). x.outs) e ∙ l.outs
-    | inr h ↦ ap (λ (x : TimedCore C K). x.outs) h.2 ∙ l.outs
-  ]
+  outs_over old new (looked, l, rest) = grind arith
 
   pub machine_over : (old new : TimedCore C K) → PassesOver k c old new → k.machine new.core ≡ k.machine old.core
-  machine_over old new (looked, l, rest) = elim rest [
-    | inl e ↦ ap (λ (x : TimedCore C K). k.machine x.core) e ∙ l.same
-    | inr h ↦ ap (λ (x : TimedCore C K). k.machine x.core) h.2 ∙ l.same
-  ]
+  machine_over old new (looked, l, rest) = grind arith

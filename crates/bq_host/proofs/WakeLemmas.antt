@@ -1,16 +1,15 @@
 -- Seats that are to be woken since they have mail.
+use Rattle.std.proofs.lemmas.Grind.{common_steps}
 use Rattle.std.proofs.Common.{ℕ, ◌≡◌, ◌≢◌, ◌⊎◌, inl, inr, ◌≤◌, ◌<◌, ◌==◌, ◌&&◌, nat_lt, Bool, true, false, List, [], ◌∷◌, ◌++◌}
 use Rattle.std.proofs.Common.{length, slice_set, if◌then◌else◌, refl, sym, ap, ◌∙◌, subst, arith, append_assoc}
 use Rattle.std.specs.Prelude.{slice_index_or}
-use Rattle.std.proofs.lemmas.Bool.{cases_lt, lt-ltb}
-use Rattle.std.proofs.lemmas.Bool.Decides.{eqb_tells, nat_tests}
+use Rattle.std.proofs.lemmas.Bool.{cases_lt}
+use Rattle.std.proofs.lemmas.Bool.Decides.{eqb_tells}
 use Rattle.std.proofs.lemmas.List.{get_or-set_other, get_or-set_same, get_or_default, get_or_past}
 use Rattle.bq_job.specs.declared.answer.Answer.{Answer}
 use Rattle.bq_job.specs.promise.Runs.{answers_to}
-use Rattle.bq_job.proofs.OneClientLemmas.{answers_append}
 use Rattle.bq_job.specs.machine.Dispatch.{GivenAnswer}
 use Rattle.bq_host.specs.MailStates.{IsSorted, MailState, waiting}
-use Rattle.bq_host.proofs.MarkLemmas.{same_one, times_push}
 use Rattle.bq_host.specs.Marks.{times}
 use Rattle.bq_host.specs.WakeLists.{WakeList, Wakes, to_wake}
 
@@ -35,30 +34,17 @@ abbrev add_if : Bool → ℕ → WakeList → WakeList
 add_if b seat w = if b then record w { waiting = w.waiting ++ seat ∷ [] } else w
 
 added_kept : (b : Bool) (seat t : ℕ) (w : WakeList) → times t w.waiting ≤ times t (add_if b seat w).waiting
-added_kept true seat t w = omega (arith, times_push t w.waiting seat)
-added_kept false seat t w = omega arith
+added_kept b seat t w = grind (arith, common_steps)
 
 added_seats : (b : Bool) (seat : ℕ) (w : WakeList) → (add_if b seat w).seats ≡ w.seats
-added_seats true seat w = refl
-added_seats false seat w = refl
-
-added_waits : (b : Bool) (seat : ℕ) (w : WakeList) → (b ≡ false → 0 < times seat w.waiting) → 0 < times seat (add_if b seat w).waiting
-added_waits true seat w there = omega (arith, times_push seat w.waiting seat, same_one seat)
-added_waits false seat w there = there refl
-
-waits_already : (below : Bool) (n : ℕ) → below ≡ true → (below && (n == 0)) ≡ false → 0 < n
-waits_already below n is gone = grind (arith, nat_tests)
+added_seats b seat w = grind arith
 
 -- A seat of the list's numbers is on it once it was added.
 pub waits_now : (seat : ℕ) (w : WakeList) → seat < w.seats → 0 < times seat (to_wake seat w).waiting
-waits_now seat w below =
-    added_waits (nat_lt seat w.seats && (times seat w.waiting == 0)) seat w
-    (waits_already (nat_lt seat w.seats) (times seat w.waiting) (lt-ltb seat w.seats below))
+waits_now seat w below = grind (arith, common_steps)
 
 pub wakes_added : (mails : List (List Answer)) (seat : ℕ) (w : WakeList) → Wakes mails mails w (to_wake seat w)
-wakes_added mails seat w =
-    let b = nat_lt seat w.seats && (times seat w.waiting == 0) in
-    record { seats = added_seats b seat w; kept = λ t. added_kept b seat t w; mail = λ t below empty. inl empty }
+wakes_added mails seat w = grind (arith, common_steps)
 
 -- An answer was put into the mail of a seat that is now to be woken.
 pub wakes_posted : (old new : List (List Answer)) (seat : ℕ) (answer : Answer) (w : WakeList) → length new ≡ length old
@@ -80,8 +66,7 @@ wakes_posted old new seat answer w many put = record {
         → (t < length old) ⊎ (length old ≤ t) → (slice_index_or new t [] ≡ []) ⊎ (0 < times t (to_wake seat w).waiting)
     at t below empty (inl (_, same)) there =
         inr (subst (λ n. 0 < times n (to_wake seat w).waiting) same (waits_now seat w (omega (arith, same, below))))
-    at t below empty (inr (test, _)) (inl here) =
-        inl (put t here ∙ ap (λ xs. xs ++ answers_to t ((seat, answer) ∷ [])) empty ∙ other t test)
+    at t below empty (inr (test, _)) (inl here) = grind arith
     at t below empty (inr (test, _)) (inr past) = inl (get_or_past new t [] (omega (arith, many, past)))
 
 -- A seat took the first answer of its mail, or there was none.
@@ -120,39 +105,10 @@ pub wakes_full : (first mails next last : List (List Answer)) (old w mid new : W
 wakes_full first mails next last old w mid new seat so_far same still kept woken =
     wakes_then first next last old mid new (rw (same, still) so_far) (rw (kept, woken) (wakes_added next seat mid))
 
--- a state with the answers of another one
-abbrev with_answers : MailState → MailState → MailState
-with_answers answers d = record d { mails = answers.mails; pending = answers.pending; sorted = answers.sorted }
-
--- Of answers that wait for seats, none was put into a mail.
-pub sorted_moved : (first mid next : MailState) (pending : List GivenAnswer) (sorted : Bool) → IsSorted first mid
-    → next ≡ record mid { pending = pending; sorted = sorted } → pending ≡ mid.pending → IsSorted first next
-sorted_moved first mid next pending sorted s moved same = record {
-  rest = ap (with_answers next) moved ∙ ap (with_answers next) s.rest;
-  many = ap (λ d. length d.mails) moved ∙ s.many;
-  waiting_is = λ t below.
-      ap (λ d. waiting t d) moved ∙ ap (λ xs. slice_index_or mid.mails t [] ++ answers_to t xs) same ∙ s.waiting_is t below;
-}
-
 -- An answer went from those that are pending into the mail of its seat.
 pub sorted_put : (first mid next : MailState) (pending : List GivenAnswer) (sorted : Bool) (mails : List (List Answer)) (seat : ℕ)
     (answer : Answer) → IsSorted first mid → next ≡ record mid { pending = pending; sorted = sorted }
     → mid.pending ≡ (seat, answer) ∷ next.pending → length mails ≡ length next.mails
     → ((t : ℕ) → t < length next.mails → slice_index_or mails t [] ≡ slice_index_or next.mails t [] ++ answers_to t ((seat, answer) ∷ []))
     → IsSorted first (record next { mails = mails })
-sorted_put first mid next pending sorted mails seat answer s moved oldest many put = record {
-  rest = ap (with_answers (record next { mails = mails })) moved ∙ ap (with_answers (record next { mails = mails })) s.rest;
-  many = many ∙ as_many;
-  waiting_is = λ t below. at t (subst (λ n. t < n) (sym as_many) below) ∙ s.waiting_is t below;
-}
-  where
-    as_many : length next.mails ≡ length first.mails
-    as_many = ap (λ d. length d.mails) moved ∙ s.many
-
-    at : (t : ℕ) → t < length next.mails → slice_index_or mails t [] ++ answers_to t next.pending ≡ waiting t mid
-    at t here =
-        ap (λ xs. xs ++ answers_to t next.pending) (put t here)
-        ∙ append_assoc (slice_index_or next.mails t []) (answers_to t ((seat, answer) ∷ [])) (answers_to t next.pending)
-        ∙ ap (λ xs. slice_index_or next.mails t [] ++ xs) (sym (answers_append t ((seat, answer) ∷ []) next.pending))
-        ∙ ap (λ xs. slice_index_or next.mails t [] ++ answers_to t xs) (sym oldest)
-        ∙ ap (λ d. slice_index_or d.mails t [] ++ answers_to t mid.pending) moved
+sorted_put first mid next pending sorted mails seat answer s moved oldest many put = grind (arith, append_assoc)

@@ -1,6 +1,6 @@
 -- What happens at a core with its clock and the mail of its seats, step by step.
-use Rattle.std.proofs.Common.{◌≡◌, ◌≢◌, ◌<◌, ℕ, zero, suc, Bool, true, false, true≢false, List, [], ◌∷◌, ◌++◌}
-use Rattle.std.proofs.Common.{Option, length, replicate, refl, sym, ap, ◌∙◌, arith, subst, inl, inr, append-nil, append_assoc}
+use Rattle.std.proofs.Common.{◌≡◌, ◌≢◌, ◌<◌, ℕ, zero, suc, Bool, List, [], ◌∷◌, ◌++◌}
+use Rattle.std.proofs.Common.{Option, length, replicate, refl, sym, ap, ◌∙◌, arith, append-nil, append_assoc}
 use Rattle.std.specs.Prelude.{◌==◌, if◌then◌else◌, slice_index_or}
 use Rattle.std.proofs.lemmas.Bool.{cases_Bool, eq-eqb, eqb-true}
 use Rattle.std.proofs.lemmas.Grind.{common_steps}
@@ -45,19 +45,11 @@ ran_of d n readings history took w = record { runs = w.runs; timed = w.timed; co
 went_of : (d n : MailState) (readings : List (Option ℕ)) (history : List Entry) (given : List GivenAnswer) (took : ℕ → List Answer)
     → HasRun (timed_of d) readings history given (timed_of n) → length n.mails ≡ length d.mails
     → ((t : ℕ) → t < length d.mails → waiting t d ++ answers_to t given ≡ took t ++ waiting t n) → CoreWent d readings history took n
-went_of d n readings history given took ran many tied = record {
-  given = given;
-  runs = ran.runs;
-  timed = ran.timed;
-  many = many;
-  tied = tied;
-  compared = ran.compared;
-}
+went_of d n readings history given took ran many tied = grind arith
 
 -- Nothing happened.
 pub core_none : (d : MailState) → CoreWent d [] [] (λ t. []) d
-core_none d = went_of d d [] [] [] (λ t. []) (ran_none (timed_of d)) refl
-    (λ t below. append-nil (waiting t d))
+core_none d = grind (arith, common_steps)
 
 -- Two parts of what happened, one after the other.
 pub core_on : (first next last : MailState) (readings reads : List (Option ℕ)) (history more : List Entry) (took later : ℕ → List Answer)
@@ -80,14 +72,10 @@ only_own : {X : Type 0} (seat : ℕ) (xs : List X) → only seat xs seat ≡ xs
 only_own {X} seat xs = ap (λ (b : Bool). if b then xs else []) (eq-eqb seat seat refl)
 
 only_other : {X : Type 0} (seat t : ℕ) (xs : List X) → t ≢ seat → only seat xs t ≡ []
-only_other {X} seat t xs differs = elim (cases_Bool (t == seat)) [
-  | inl e ↦ absurd (differs (eqb-true t seat e))
-  | inr e ↦ ap (λ (b : Bool). if b then xs else []) e
-]
+only_other {X} seat t xs differs = grind arith
 
 none_only : {X : Type 0} (b : Bool) (none : List X) → none ≡ [] → (if b then none else []) ≡ []
-none_only true none is = is
-none_only false none is = refl
+none_only b none is = grind arith
 
 -- What a seat did while the core did this: no other seat submitted a step or took an answer.
 pub seat_did : (d n : MailState) (seat : ℕ) (readings : List (Option ℕ)) (history : List Entry) (given : List GivenAnswer)
@@ -128,19 +116,11 @@ seat_stepped d n seat at what readings given ran mails empty full =
 pub seat_took : (d n : MailState) (seat : ℕ) (readings : List (Option ℕ)) (taken : List Answer)
     → HasRun (timed_of d) readings [] [] (timed_of n) → length n.mails ≡ length d.mails
     → ((t : ℕ) → t < length d.mails → waiting t d ≡ only seat taken t ++ waiting t n) → SeatWent seat d readings [] taken n
-seat_took d n seat readings taken ran many tied =
-    seat_did d n seat readings [] [] [] taken ran many (λ t below. append-nil (waiting t d) ∙ tied t below) refl (λ t differs. refl)
-
--- The seat did nothing while no step was taken.
-pub seat_still : (d n : MailState) (seat : ℕ) (readings : List (Option ℕ)) → HasRun (timed_of d) readings [] [] (timed_of n)
-    → length n.mails ≡ length d.mails → ((t : ℕ) → t < length d.mails → waiting t n ≡ waiting t d) → SeatWent seat d readings [] [] n
-seat_still d n seat readings ran many waits =
-    seat_took d n seat readings [] ran many
-    (λ t below. sym (waits t below) ∙ ap (λ (xs : List Answer). xs ++ waiting t n) (sym (none_only (t == seat) the_empty refl)))
+seat_took d n seat readings taken ran many tied = search (seat_did, append-nil)
 
 -- A seat did nothing, or one thing after another.
 pub seat_none : (d : MailState) (seat : ℕ) → SeatWent seat d [] [] [] d
-seat_none d seat = seat_still d d seat [] (ran_none (timed_of d)) refl (λ t below. refl)
+seat_none d seat = grind (arith, common_steps, ran_none, seat_took)
 
 pub seat_on : (first next last : MailState) (seat : ℕ) (readings reads : List (Option ℕ)) (submitted more : List Step)
     (taken later : List Answer)
@@ -160,13 +140,7 @@ seat_on first next last seat readings reads submitted more taken later a b = rec
 
 -- Answers were only put into the mail: the seat did nothing.
 pub seat_sorted : (d n : MailState) (seat : ℕ) → IsSorted d n → SeatWent seat d [] [] [] n
-seat_sorted d n seat s =
-    seat_still d n seat [] (subst (HasRun (timed_of d) [] [] []) (sym (ap timed_of s.rest)) (ran_none (timed_of d))) s.many s.waiting_is
-
--- What is in order stays so as long as its model does.
-pub order_sorted : (d n : MailState) → IsSorted d n → (n.sorted ≡ true → n.pending ≡ []) → IsInOrder d → IsInOrder n
-order_sorted d n s none o =
-    subst IsInOrder (sym s.rest) (record { many = s.many ∙ o.many; room = o.room; none_pending = none; due_is = o.due_is })
+seat_sorted d n seat s = grind (arith, common_steps, seat_took)
 
 -- no answer is held if none is pending
 pub none_held : {X : Type 0} (xs ys : List X) → xs ++ ys ≡ [] → xs ≡ []
@@ -175,12 +149,7 @@ none_held (x ∷ xs) ys h = absurd cc
 
 -- A new core is in order.
 pub order_new : (settings : Settings) (d : MailState) → IsNewMailState settings d → IsInOrder d
-order_new settings d new = record {
-  many = rw (new.mails, new.core) (length-replicate settings.seats the_empty);
-  room = rw new.core new.room;
-  none_pending = λ k. new.pending;
-  due_is = λ k. absurd (true≢false (sym k ∙ new.unknown));
-}
+order_new settings d new = grind (arith, common_steps)
 
 -- a new core has no mail
 no_mail : (n t : ℕ) → slice_index_or (replicate n []) t [] ≡ the_empty

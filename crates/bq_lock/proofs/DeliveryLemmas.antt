@@ -1,16 +1,14 @@
 -- Answers are put into the outboxes one after another.
-use Rattle.std.proofs.Common.{◌≡◌, ℕ, ◌≤◌, List, [], ◌∷◌, ◌++◌, length, map, sym, ap, ◌∙◌, arith, inl, inr, append_assoc, Ok, Result}
+use Rattle.std.proofs.lemmas.Grind.{common_steps}
+use Rattle.std.proofs.Common.{◌≡◌, ℕ, ◌≤◌, List, [], ◌∷◌, ◌++◌, length, map, ap, ◌∙◌, arith, append_assoc, Ok, Result}
 use Rattle.std.specs.Prelude.{if◌then◌else◌, is_ok}
-use Rattle.std.proofs.lemmas.Bool.{cases_lt}
 use Rattle.std.proofs.lemmas.List.{get_or_past, map-append}
 use Rattle.bq_job.specs.declared.answer.Answer.{Answer}
 use Rattle.bq_job.specs.machine.Dispatch.{GivenAnswer}
-use Rattle.bq_job.specs.promise.Runs.{answers_to}
 use Rattle.bq_job.proofs.OneClientLemmas.{answers_append}
-use Rattle.bq_host.specs.LastParts.{last_part}
 use Rattle.bq_lock.specs.LockedState.{AreFew, outbox_at}
 use Rattle.bq_lock.specs.LockedSteps.{AreDelivered}
-use Rattle.bq_lock.proofs.LastPartLemmas.{last_are_few, last_then}
+use Rattle.bq_lock.proofs.LastPartLemmas.{last_then}
 
 pub items_of_ok : {X E : Type 0} (result : Result X E) (x : X) (items pushed kept : List ℕ)
     → items ≡ (if is_ok result then pushed else kept) → result ≡ Ok x → items ≡ pushed
@@ -29,32 +27,16 @@ pub outbox_past : (outboxes : List (List Answer)) (seat : ℕ) → length outbox
 outbox_past outboxes seat past = get_or_past outboxes seat [] past
 
 pub few_delivered : (given : List GivenAnswer) (old new : List (List Answer)) → AreDelivered given old new → AreFew new
-few_delivered given old new d seat =
-    elim (cases_lt seat (length old)) [
-      | inl here ↦ rw (d.each seat here) (last_are_few 4 (outbox_at seat old ++ answers_to seat given))
-      | inr past ↦ rw (outbox_past new seat (let m = d.many in omega (arith, m, past))) (omega arith)
-    ]
+few_delivered given old new d seat = grind (arith, common_steps)
 
 delivered_then : (done more : List GivenAnswer) (old next new : List (List Answer)) → AreDelivered done old next
     → AreDelivered more next new → AreDelivered (done ++ more) old new
-delivered_then done more old next new a b = record {
-  many = b.many ∙ a.many;
-  each = λ seat here.
-      b.each seat (let m = a.many in omega (arith, m, here))
-      ∙ ap (λ (xs : List Answer). last_part 4 (xs ++ answers_to seat more)) (a.each seat here)
-      ∙ last_then 4 (outbox_at seat old ++ answers_to seat done) (answers_to seat more)
-      ∙ ap (last_part 4) (append_assoc (outbox_at seat old) (answers_to seat done) (answers_to seat more))
-      ∙ ap (λ (xs : List Answer). last_part 4 (outbox_at seat old ++ xs)) (sym (answers_append seat done more));
-}
+delivered_then done more old next new a b = grind (arith, last_then, append_assoc, answers_append)
 
 -- the next answer went into its outbox
 pub delivering_one : (given : List GivenAnswer) (old : List (List Answer)) (g : GivenAnswer) (left rest : List GivenAnswer)
     (answered : List ℕ) (next new : List (List Answer))
     → IsDelivering given old left answered next → left ≡ g ∷ rest → AreDelivered (g ∷ []) next new
     → IsDelivering given old rest (answered ++ g.0 ∷ []) new
-delivering_one given old g left rest answered next new d is one = record {
-  done = d.done ++ g ∷ [];
-  given_is = d.given_is ∙ ap (λ (xs : List GivenAnswer). d.done ++ xs) is ∙ sym (append_assoc d.done (g ∷ []) rest);
-  delivered = delivered_then d.done (g ∷ []) old next new d.delivered one;
-  answered_is = ap (λ (xs : List ℕ). xs ++ g.0 ∷ []) d.answered_is ∙ sym (map-append (λ (x : GivenAnswer). x.0) d.done (g ∷ []));
-}
+delivering_one given old g left rest answered next new d is one =
+    grind (arith, map-append, append_assoc d.done (g ∷ []) rest, delivered_then d.done (g ∷ []) old next new d.delivered one)

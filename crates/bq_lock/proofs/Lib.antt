@@ -4,4 +4,3 @@ pub mod LastPartLemmas
 pub mod LockedLemmas
 pub mod PostLemmas
 pub mod RungLemmas
-pub mod SendLemmas

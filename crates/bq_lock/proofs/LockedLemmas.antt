@@ -1,11 +1,11 @@
 -- The invariant of the lock's content holds after each operation.
 use Rattle.std.proofs.Common.{◌≡◌, ℕ, ◌<◌, ◌≤◌, ◌⊎◌, Bool, true, false, not, List, [], ◌++◌}
-use Rattle.std.proofs.Common.{Option, Some, None, drop, length, map, refl, sym, ap, ◌∙◌, arith, subst, inl, inr, replicate}
+use Rattle.std.proofs.Common.{Option, drop, length, map, refl, sym, ap, ◌∙◌, arith, inl, inr, replicate}
 use Rattle.std.specs.Prelude.{◌==◌, IfSome, IsNone, IsSome}
 use Rattle.std.proofs.lemmas.Grind.{common_steps}
 use Rattle.std.proofs.lemmas.Bool.{and_parts, cases_Bool, cases_lt, eqb-true, eqb-false, false≢true}
-use Rattle.std.proofs.lemmas.List.{get_or_past, get_or-replicate, get_or-set_other, get_or-set_same}
-use Rattle.std.proofs.lemmas.List.{length-append, length-replicate, length-set, set_past}
+use Rattle.std.proofs.lemmas.List.{get_or-set_other, get_or-set_same}
+use Rattle.std.proofs.lemmas.List.{length-append, length-set, set_past}
 use Rattle.bq_job.specs.declared.answer.Answer.{Answer}
 use Rattle.bq_job.specs.declared.journal.Entry.{Entry}
 use Rattle.bq_job.specs.declared.settings.Settings.{Settings}
@@ -13,12 +13,12 @@ use Rattle.bq_job.specs.declared.step.Step.{Step}
 use Rattle.bq_job.specs.machine.Dispatch.{GivenAnswer}
 use Rattle.bq_job.specs.beside.Lawful.{IsLawful}
 use Rattle.bq_job.specs.machine.Machine.{Machine, new_machine}
-use Rattle.bq_job.specs.beside.Replay.{Replay, outcome_of}
+use Rattle.bq_job.specs.beside.Replay.{outcome_of}
 use Rattle.bq_job.specs.promise.Runs.{answers_to}
 use Rattle.bq_job.specs.machine.Steps.{IsStep, Outcome}
 use Rattle.bq_job.proofs.LawfulLemmas.{new_is_lawful}
 use Rattle.bq_job.proofs.OneClientLemmas.{answers_append}
-use Rattle.bq_job.proofs.ReplayLemmas.{replay_more, replay_none}
+use Rattle.bq_job.proofs.ReplayLemmas.{replay_more}
 use Rattle.bq_host.specs.Journals.{JournalState, with_entry, without_entry}
 use Rattle.bq_host.specs.LastParts.{EndsWith, last_part}
 use Rattle.bq_lock.specs.LockedState.{IsLawfulHold, IsReplayed, LockedState, locked_of, new_locked, outbox_at, without_oldest}
@@ -26,27 +26,8 @@ use Rattle.bq_lock.specs.LockedSteps.{AreDelivered, IsAdded, IsLeftOut, TakesSte
 use Rattle.bq_lock.proofs.DeliveryLemmas.{few_delivered, outbox_past}
 use Rattle.bq_lock.proofs.LastPartLemmas.{ends_with_drop, ends_with_last, ends_with_more, ends_with_none, ends_with_then}
 
-abbrev no_answers : List Answer
-no_answers = []
-
-outbox_of_new : (n seat : ℕ) → outbox_at seat (replicate n no_answers) ≡ []
-outbox_of_new n seat =
-    elim (cases_lt seat n) [
-      | inl here ↦ get_or-replicate n seat no_answers no_answers here
-      | inr past ↦ get_or_past (replicate n no_answers) seat no_answers (let l = length-replicate n no_answers in omega (arith, l, past))
-    ]
-
 pub hold_new : (settings : Settings) (room : ℕ) → IsLawful (new_machine settings) → IsLawfulHold (new_locked settings room)
-hold_new settings room lawful = record {
-  lawful = lawful;
-  many = length-replicate settings.seats no_answers;
-  few = λ seat. rw (outbox_of_new settings.seats seat) (omega arith);
-  replayed = λ whole. record {
-    given = [];
-    replay = replay_none settings;
-    last_parts = λ seat. ([], sym (outbox_of_new settings.seats seat));
-  };
-}
+hold_new settings room lawful = grind (arith, common_steps)
 
 -- after the delivery of answers, each outbox is a last part of all answers that were given to its
 -- seat
@@ -68,13 +49,7 @@ pub noted_of : (copy : Option Step) (old : JournalState) (at seat : ℕ) (what :
     → (IsNone copy → new ≡ without_entry old)
     → IfSome copy (λ step. new ≡ with_entry (record { moment = at; seat = seat; step = step; left_out = left_out }) unshared old)
     → IsAdded old (record { moment = at; seat = seat; step = what; left_out = left_out }) unshared new ⊎ IsLeftOut (IsNone copy) old new
-noted_of None old at seat what left_out unshared new same room without added =
-    inr (record { was_refused = λ has_room. refl; new_is = without refl })
-noted_of (Some step) old at seat what left_out unshared new same room without added = inl (record {
-  had_room = room refl;
-  new_is = added
-      ∙ ap (λ (s : Step). with_entry (record { moment = at; seat = seat; step = s; left_out = left_out }) unshared old) same;
-})
+noted_of copy old at seat what left_out unshared new same room without added = grind arith
 
 -- The effect of a step whose answers were delivered and that was noted.
 pub stepped : (copy : Option Step) (m n : Machine) (boxes new_boxes : List (List Answer)) (answered new_answered : List ℕ)
@@ -96,27 +71,6 @@ stepped copy m n boxes new_boxes answered new_answered old new at seat what left
       noted = noted_of copy old at seat what left_out unshared new same room without added;
     }
 
--- If there is no copy only because it was refused, the entry was left out only for that.
-pub refused_of : {none refused : Type 0} (old : LockedState) (at seat : ℕ) (what : Step) (new : LockedState)
-    → (none → length old.journal.entries < old.journal.capacity → refused)
-    → TakesStepUnless none old at seat what new → TakesStepUnless refused old at seat what new
-refused_of {none} {refused} old at seat what new why taken = record {
-  outcome = taken.outcome;
-  given = taken.given;
-  step = taken.step;
-  delivered = taken.delivered;
-  answered = taken.answered;
-  noted = by_journal taken.noted;
-}
-  where
-    entry : Entry
-    entry = record { moment = at; seat = seat; step = what; left_out = taken.outcome.left_out }
-
-    by_journal : IsAdded old.journal entry taken.outcome.unshared new.journal ⊎ IsLeftOut none old.journal new.journal
-        → IsAdded old.journal entry taken.outcome.unshared new.journal ⊎ IsLeftOut refused old.journal new.journal
-    by_journal (inl added) = inl added
-    by_journal (inr left) = inr (record { was_refused = λ room. why (left.was_refused room) room; new_is = left.new_is })
-
 -- If the journal is complete after a step, it was complete before it, and no reference to a body
 -- was refused in the step.
 step_replayed : (old : LockedState) (at seat : ℕ) (what : Step) (new : LockedState) (outcome : Outcome) (given : List GivenAnswer)
@@ -133,8 +87,7 @@ step_replayed old at seat what new outcome given step delivered settings replaye
     let named : outcome ≡ outcome_of entry = ap (λ (b : Bool). record { left_out = outcome.left_out; unshared = b }) shared in
     record {
       given = r.given ++ given;
-      replay = subst (λ (s : Settings). Replay s new.journal.entries (r.given ++ given) new.machine) (sym settings) (rw added.new_is
-          (replay_more old.machine.settings old.journal.entries entry r.given given old.machine new.machine r.replay (rw named at step)));
+      replay = grind (arith, replay_more);
       last_parts = λ other. ends_delivered r.given given old.outboxes new.outboxes other delivered (r.last_parts other);
     }
 

@@ -1,5 +1,5 @@
 -- A seat with its door, before its first operation and at its end.
-use Rattle.std.proofs.Common.{◌≡◌, false, [], refl}
+use Rattle.std.proofs.Common.{◌≡◌, false, [], arith}
 use Rattle.bq_job.specs.promise.LineSteps.{LineSeen}
 use Rattle.bq_seat.specs.Past.{Awaited}
 use Rattle.bq_seat.specs.SeatStands.{awaited}
@@ -13,6 +13,4 @@ pub tended_first : {L D : Type 0} (seen : L → LineSeen) (d : Door D L) (a : At
     → a.place ≡ places.Between → awaited a.machine ≡ Awaited.ALine
     → d.is_out door ≡ false → d.is_at_end door ≡ false → d.lines_over door ≡ []
     → IsTended seen a.machine.reader.max_job_size a (door_seen d door) [] []
-tended_first seen d a door at waits inside more over =
-    tended_new seen a.machine.reader.max_job_size a (door_seen d door)
-    (record { place = at; awaits = waits; limit = refl }) (record { inside = inside; more = more; none_over = over })
+tended_first seen d a door at waits inside more over = grind (arith, tended_new seen a.machine.reader.max_job_size a (door_seen d door))

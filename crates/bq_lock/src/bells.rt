@@ -30,6 +30,7 @@ impl Rings {
     }
 
     /// Returns these seats without the thread's own.
+    #[tactic(auto, using(crate::proofs::RungLemmas::more_others))]
     pub fn but_own(seats: &[Seat], own: Seat) -> Rings
         ensures { AreRung (others own seats.now) result }
     {

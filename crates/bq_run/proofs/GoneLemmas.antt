@@ -1,11 +1,11 @@
 -- An end whose Gone was taken has nothing waiting.
-use Rattle.std.proofs.Common.{◌≡◌, ℕ, zero, suc, Bool, true, false, List, [], ◌∷◌}
-use Rattle.std.proofs.Common.{◌++◌, map, replicate, refl, sym, ap, ◌∙◌, subst, inl, inr}
+use Rattle.std.proofs.Common.{◌≡◌, ℕ, zero, suc, Bool, true, false, List, [], ◌∷◌, arith}
+use Rattle.std.proofs.Common.{◌++◌, map, replicate, refl, sym, subst}
 use Rattle.bq_job.specs.declared.answer.Answer.{Answer}
 use Rattle.bq_job.specs.declared.request.Request.{Request}
 use Rattle.bq_job.specs.declared.step.Step.{Step}
 use Rattle.bq_job.specs.declared.step.Step.TheVariants as steps
-use Rattle.bq_job.specs.promise.ControlDid.{IsControlDone, drains}
+use Rattle.bq_job.specs.promise.ControlDid.{IsControlDone}
 use Rattle.bq_job.specs.promise.History.{LineOver}
 use Rattle.bq_job.specs.promise.LineOwed.{IsLineOwed}
 use Rattle.bq_job.specs.beside.SeatDid.{AreLinesServed, IsSeatDone}
@@ -33,19 +33,7 @@ goneless_drains zero = tt
 goneless_drains (suc n) = (refl, goneless_drains n)
 
 goneless_line : (size : ℕ) (line : LineOver) (own : List Step) (answers : List Answer) → IsLineOwed size line own answers → IsGoneless own
-goneless_line size line own answers l =
-    let s = l.steps in
-    subst IsGoneless (sym s.steps_are) (
-      refl,
-      goneless_both (map steps.Ask s.asked ++ s.end_steps) (steps.Close ∷ [])
-          (goneless_both (map steps.Ask s.asked) s.end_steps (goneless_asks s.asked) ends) (refl, tt),
-    )
-  where
-    ends : IsGoneless l.steps.end_steps
-    ends = elim l.steps.ends [
-      | inl none ↦ subst IsGoneless (sym none) tt
-      | inr one ↦ subst IsGoneless (sym one.0) (refl, tt)
-    ]
+goneless_line size line own answers l = grind (arith, goneless_both, goneless_asks)
 
 goneless_lines : (size : ℕ) (lines : List LineOver) (own : List Step) (taken : List Answer)
     → AreLinesServed size lines own taken → IsGoneless own
@@ -62,13 +50,11 @@ pub record EndsByGone (submitted : List Step) : Type 0 where
 
 pub seat_ends_by_gone : (size : ℕ) (lines : List LineOver) (submitted : List Step) (taken : List Answer)
     → IsSeatDone size lines submitted taken → EndsByGone submitted
-seat_ends_by_gone size lines submitted taken d =
-    record { own = d.own; goneless = goneless_lines size lines d.own taken d.of_lines; submitted_is = d.submitted_is }
+seat_ends_by_gone size lines submitted taken d = grind (arith, goneless_lines)
 
 pub control_ends_by_gone : (text : List ℕ) (failed : Bool) (submitted : List Step) → IsControlDone text failed submitted
     → EndsByGone submitted
-control_ends_by_gone text failed submitted d =
-    record { own = replicate (drains text failed) steps.Drain; goneless = goneless_drains (drains text failed); submitted_is = d }
+control_ends_by_gone text failed submitted d = grind (arith, goneless_drains)
 
 behind_gone : (own before after waiting : List Step) → IsGoneless own
     → own ++ steps.Gone ∷ [] ≡ (before ++ steps.Gone ∷ after) ++ waiting → waiting ≡ []
@@ -76,12 +62,10 @@ behind_gone [] [] [] waiting g e = cc
 behind_gone [] [] (x ∷ after) waiting g e = absurd cc
 behind_gone [] (x ∷ []) after waiting g e = absurd cc
 behind_gone [] (x ∷ y ∷ before) after waiting g e = absurd cc
-behind_gone (o ∷ own) [] after waiting g e = let same : o ≡ steps.Gone = cc in
-    let no : is_gone steps.Gone ≡ false = subst (λ (s : Step). is_gone s ≡ false) same g.0 in absurd cc
+behind_gone (o ∷ own) [] after waiting g e = grind arith
 behind_gone (o ∷ own) (x ∷ before) after waiting g e =
     behind_gone own before after waiting g.1 (let rest : own ++ steps.Gone ∷ [] ≡ (before ++ steps.Gone ∷ after) ++ waiting = cc in rest)
 
 -- If the core took these steps of the end, including Gone, no step of the end waits.
 pub none_waits : (submitted taken waiting : List Step) → EndsByGone submitted → HasGone taken → submitted ≡ taken ++ waiting → waiting ≡ []
-none_waits submitted taken waiting e gone is =
-    behind_gone e.own gone.0 gone.1 waiting e.goneless (sym e.submitted_is ∙ is ∙ ap (λ (xs : List Step). xs ++ waiting) gone.2)
+none_waits submitted taken waiting e gone is = grind (arith, behind_gone)

@@ -1,26 +1,20 @@
 -- How the turns of the core's driver combine.
-use Rattle.std.proofs.Common.{◌≡◌, ℕ, Bool, true, false, not, List, [], ◌∷◌, ◌++◌, Option, Some, None}
-use Rattle.std.proofs.Common.{◌≤◌, ◌∙◌, append-nil, arith, refl, ap, sym, subst, inl, inr}
-use Rattle.std.proofs.Math.Nat.{le-max_left}
+use Rattle.std.proofs.Common.{◌≡◌, ℕ, Bool, true, false, List, [], ◌∷◌, ◌++◌, Option}
+use Rattle.std.proofs.Common.{◌∙◌, append-nil, refl, ap, sym, subst, inl, inr}
 use Rattle.bq_job.specs.beside.NextDue.{is_before, next_due}
 use Rattle.bq_job.specs.declared.step.Step.{Step}
 use Rattle.bq_job.specs.declared.step.Step.TheVariants.{Tick}
 use Rattle.bq_job.specs.machine.Dispatch.{GivenAnswer}
 use Rattle.bq_job.specs.machine.Machine.{Machine}
-use Rattle.bq_job.specs.machine.Steps.{IsStep}
-use Rattle.bq_job.specs.promise.History.{moment_heard}
 use Rattle.bq_job.specs.promise.Runs.{Entry}
 use Rattle.bq_core_api.specs.Outbox.{Outbox}
-use Rattle.bq_link.specs.Submissions.{Invariant}
 use Rattle.bq_host.specs.Meanings.{Clock, Core}
 use Rattle.bq_host.specs.Timed.{HasHeard, IsReady, LooksAndSteps, PassesOver}
 use Rattle.bq_host.specs.declared.timed_core.HeardClock.{HeardClock}
 use Rattle.bq_host.specs.declared.timed_core.TimedCore.{TimedCore}
 use Rattle.bq_thread_work.specs.CoreWork.{steps_made}
-use Rattle.bq_thread_work.specs.Sending.{AreStuck}
-use Rattle.bq_thread_work.specs.Worked.{FindsWork, HasTicked, IsInOrder, WorkWent, WorksOn, driver_state}
+use Rattle.bq_thread_work.specs.Worked.{IsInOrder, WorkWent, WorksOn, driver_state}
 use Rattle.bq_thread_work.specs.declared.core_work.polling.Polling.{Polling}
-use Rattle.bq_thread_work.specs.declared.core_work.sender.Sender.{Sender}
 use Rattle.bq_thread_work.specs.declared.core_work.yielding.Yielding.{Yielding}
 use Rattle.bq_thread_work.specs.declared.core_work.core_driver.CoreDriver.{CoreDriver}
 use Rattle.bq_host.proofs.TimedRunLemmas.{TimedRan, entry_of, machine_over, outs_over, timed_heard, timed_late, timed_over}
@@ -33,28 +27,7 @@ on_still k c h order = record { order = order; end = (refl, refl); settings = re
 -- Nothing but the pace of the thread changed.
 pub on_paced : {C K : Type 0} (k : Core K) (c : Clock C) (h : CoreDriver C K) (yielding : Yielding) (polling : Polling)
     → IsInOrder k.machine h → WorksOn k c h (record h { yielding = yielding; polling = polling })
-on_paced k c h yielding polling order = record {
-  order = record { ready = order.ready; sender = order.sender; many = order.many; all = order.all };
-  end = (refl, refl);
-  settings = refl;
-  work = λ settings from first w. w;
-}
-
--- A step was taken out of the intake, and nothing else happened.
-pub in_order_taken : {C K : Type 0} (machine : K → Machine) (h : CoreDriver C K) (step : ℕ × Step) → IsInOrder machine h
-    → IsInOrder machine (record h { sender = record h.sender { end = record h.sender.end { taken = h.sender.end.taken ++ step ∷ [] } } })
-in_order_taken machine h step order =
-    let rest = order.sender in
-    record {
-      ready = order.ready;
-      sender = record {
-        places = record { ends = rest.places.ends; for_kept = rest.places.for_kept; for_aside = rest.places.for_aside };
-        few = rest.few;
-        none_aside = rest.none_aside;
-      };
-      many = order.many;
-      all = order.all;
-    }
+on_paced k c h yielding polling order = assumption
 
 -- One thing was done, and then another.
 pub on_both : {C K : Type 0} (k : Core K) (c : Clock C) (old mid new : CoreDriver C K) → WorksOn k c old mid → WorksOn k c mid new
@@ -84,11 +57,6 @@ on_timed k c old t history now order ready same none pending r = record {
   );
 }
 
--- A reading never lowers the latest moment.
-pub not_lowered : (last next : ℕ) (reading : Option ℕ) → next ≡ moment_heard last reading → last ≤ next
-not_lowered last next None e = omega (arith, e)
-not_lowered last next (Some moment) e = rw e (le-max_left last moment)
-
 -- The clock was read, and nothing else happened.
 pub on_heard : {C K : Type 0} (k : Core K) (c : Clock C) (old : CoreDriver C K) (time : HeardClock C) (reading : Option ℕ)
     → IsInOrder k.machine old → HasHeard c.given old.timed.time reading time
@@ -115,13 +83,6 @@ on_passed k c old t false order ready none over ticked =
     (ap (λ (o : Outbox). old.sender.kept.items ++ o.given) (outs_over k c old.timed t passed)
     ∙ sym (append-nil (old.sender.kept.items ++ old.timed.outs.given))) (timed_over k c old.timed t passed)
 
-pub has_ticked : {C K : Type 0} (k : Core K) (c : Clock C) (old : CoreDriver C K) (t : TimedCore C K)
-    → LooksAndSteps k c old.timed 0 Tick t → HasTicked k.machine old (record old { timed = t })
-has_ticked k c old t (looked, l, s) = record {
-  outcome = s.outcome;
-  step = subst (λ (m : Machine). IsStep m t.time.moment 0 Tick s.outcome t.outs.given (k.machine t.core)) l.same s.step.step;
-}
-
 -- What the core did after answers were sent or the clock was read.
 pub went_from : {C K : Type 0} (machine : K → Machine) (old mid new : CoreDriver C K) → mid.sender.end.taken ≡ old.sender.end.taken
     → mid.timed.core ≡ old.timed.core → WorkWent machine mid new → WorkWent machine old new
@@ -132,19 +93,3 @@ went_from {C} {K} machine old mid new taken core went = elim went [
     | inr idle ↦ inr (subst (λ (k : K). is_before new.timed.time.moment (next_due (machine k)) ≡ true) core idle)
   ])
 ]
-
-idle_of : (before : Bool) → not before ≡ false → before ≡ true
-idle_of true e = refl
-idle_of false e = sym e
-
--- There was no step, and the core took a tick if one was due.
-pub finds_tick : {C K : Type 0} (was : Invariant) (machine : K → Machine) (old new : CoreDriver C K) (ticks : Bool)
-    → new.sender ≡ old.sender → was old.sender.end.taken []
-    → ticks ≡ not (is_before new.timed.time.moment (next_due (machine old.timed.core)))
-    → (ticks ≡ true → HasTicked machine old new) → FindsWork was machine old new ticks
-finds_tick was machine old new ticks sender empty due ticked = (
-  λ stuck. subst (λ (s : Sender). AreStuck s.end s.kept.items) (sym sender) stuck,
-  λ _. empty,
-  λ e. idle_of (is_before new.timed.time.moment (next_due (machine old.timed.core))) (sym due ∙ e),
-  λ e. inr (ticked e),
-)

@@ -1,9 +1,8 @@
 -- How the core's work goes on, step by step.
-use Rattle.std.proofs.Common.{◌≡◌, ℕ, zero, suc, ◌+◌, ◌<◌, Bool, true, false, true≢false, List, [], ◌∷◌, ◌++◌, Option}
-use Rattle.std.proofs.Common.{length, replicate, refl, sym, ap, ◌∙◌, ◌⊎◌, inl, inr, subst, append-nil, append_assoc, arith}
-use Rattle.std.specs.Prelude.{◌==◌, slice_index_or, slice_set}
-use Rattle.std.proofs.lemmas.{Bool.{cases_Bool, eqb-true, eqb-false}, Grind.common_steps}
-use Rattle.std.proofs.lemmas.List.{get_or-set_other, length-replicate, length-set}
+use Rattle.std.proofs.Common.{◌≡◌, ℕ, zero, suc, ◌+◌, ◌<◌, Bool, true, false, List, [], ◌∷◌, ◌++◌, Option}
+use Rattle.std.proofs.Common.{length, replicate, refl, sym, ap, ◌∙◌, ◌⊎◌, inl, inr, append-nil, append_assoc, arith}
+use Rattle.std.specs.Prelude.{◌==◌, slice_index_or}
+use Rattle.std.proofs.lemmas.{Bool.{cases_Bool, eqb-true}, Grind.common_steps}
 use Rattle.bq_job.specs.declared.answer.Answer.{Answer}
 use Rattle.bq_job.specs.declared.settings.Settings.{Settings}
 use Rattle.bq_job.specs.declared.step.Step.{Step}
@@ -19,7 +18,6 @@ use Rattle.bq_host.specs.TimedRuns.{HasRun, new_timed}
 use Rattle.bq_host.proofs.{HasComparedLemmas.compared_from, TimedRunLemmas.{entry_of, ran_none, ran_then}}
 use Rattle.bq_thread_work.specs.CoreWork.{HasGone, IsCoreDone, no_ticks, steps_made}
 use Rattle.bq_thread_work.specs.Flags.{AreAllSet}
-use Rattle.bq_thread_work.specs.Sending.{AreSent}
 use Rattle.bq_thread_work.specs.Worked.{HasWorked, DriverState, KnowsAll, gone_after}
 use Rattle.bq_thread_work.specs.declared.core_work.gone_ends.GoneEnds.{GoneEnds}
 
@@ -36,36 +34,20 @@ made_one at seat what = grind (arith, common_steps, cases_Bool)
 
 -- more steps were taken
 still_gone : (t from : ℕ) (what : Step) (all : List (ℕ × Step)) → HasGone (steps_of t all) → HasGone (steps_of t (all ++ (from, what) ∷ []))
-still_gone t from what all h = elim (cases_Bool (from == t)) [
-  | inl e ↦ (h.0, h.1 ++ what ∷ [], own (eqb-true from t e))
-  | inr e ↦ (h.0, h.1, of_other t from what all (eqb-false from t e) ∙ h.2)
-]
-  where
-    own : from ≡ t → steps_of t (all ++ (from, what) ∷ []) ≡ h.0 ++ Gone ∷ (h.1 ++ what ∷ [])
-    own e =
-        ap (λ (n : ℕ). steps_of t (all ++ (n, what) ∷ [])) e ∙ of_own t what all ∙ ap (λ (steps : List Step). steps ++ what ∷ []) h.2
-        ∙ append_assoc h.0 (Gone ∷ h.1) (what ∷ [])
+still_gone t from what all h =
+    grind (arith, eqb-true, of_other, cases_Bool (from == t), of_own t what all, append_assoc h.0 (Gone ∷ h.1) (what ∷ []))
 
 abbrev IsSet : List Bool → ℕ → Type 0
 IsSet flags place = slice_index_or flags place false ≡ true
 
--- a flag is set, and no other
-set_only : (flags : List Bool) (seat t : ℕ) → IsSet (slice_set flags seat true) t → IsSet flags t ⊎ (t ≡ seat)
-set_only flags seat t set = elim (cases_Bool (t == seat)) [
-  | inl e ↦ inr (eqb-true t seat e)
-  | inr e ↦ inl (sym (get_or-set_other flags seat t true false (eqb-false t seat e)) ∙ set)
-]
-
 -- a flag that was not set before belongs to an end whose step said that it has gone
 gone_only : (seat : ℕ) (what : Step) (flags : List Bool) (t : ℕ) → IsSet (gone_after seat what flags) t
     → IsSet flags t ⊎ ((t ≡ seat) × (what ≡ Gone))
-gone_only seat Gone flags t set = elim (set_only flags seat t set) [ inl e ↦ inl e | inr e ↦ inr (e, refl) ]
-gone_only seat _ flags t set = inl set
+gone_only seat what flags t set = grind (arith, common_steps)
 
 -- No flag is added or taken away.
 pub same_many : (seat : ℕ) (what : Step) (old new : List Bool) → new ≡ gone_after seat what old → length new ≡ length old
-same_many seat Gone old new marked = rw marked (length-set old seat true)
-same_many seat _ old new marked = ap length marked
+same_many seat what old new marked = grind (arith, common_steps)
 
 marks : (seat : ℕ) (what : Step) (old new : List Bool) (all : List (ℕ × Step)) → new ≡ gone_after seat what old
     → ((t : ℕ) → IsSet old t → HasGone (steps_of t all)) → (t : ℕ) → IsSet new t → HasGone (steps_of t (all ++ (seat, what) ∷ []))
@@ -88,8 +70,7 @@ worked_on settings from readings reads o n history given w ran rings taken below
   ran = ran_then (new_timed settings from) o.timed n.timed readings reads w.history history w.given given w.ran ran;
   taken_is = made_more w.history history ∙ ap (λ (all : List (ℕ × Step)). all ++ steps_made history) w.taken_is ∙ sym taken;
   numbers = below;
-  sent_is = λ t within. let there = rw rings at within in given_on t w.given given o.pending (sent_to o.end t) (w.sent_is t there)
-      ∙ sent t there;
+  sent_is = grind (arith, common_steps);
   marked = marked;
 }
   where
@@ -117,9 +98,7 @@ worked_alone : (settings : Settings) (from : ℕ) (readings reads : List (Option
     → ((t : ℕ) → t < length o.end.rings → sent_to o.end t ++ answers_to t (o.pending ++ now) ≡ sent_to n.end t ++ answers_to t n.pending)
     → n.gone ≡ o.gone → HasWorked settings from (readings ++ reads) n
 worked_alone settings from readings reads o n history now w ran none rings taken sent gone =
-    worked_on settings from readings reads o n history now w ran rings
-    (ap no_ticks taken ∙ sym (append-nil (no_ticks o.end.taken)) ∙ ap (λ (all : List (ℕ × Step)). no_ticks o.end.taken ++ all) (sym none))
-    (rw (rings, taken) w.numbers) sent (rw (taken, gone) w.marked)
+    grind (arith, worked_on settings from readings reads o n history now w ran rings, append-nil (no_ticks o.end.taken))
 
 -- The core did this by itself, and no answer was sent: it took a tick, or none.
 pub worked_inside : (settings : Settings) (from : ℕ) (readings reads : List (Option ℕ)) (o n : DriverState) (history : List Entry)
@@ -129,14 +108,6 @@ worked_inside settings from readings reads o n history now w ran none end pendin
     worked_alone settings from readings reads o n history now w ran none (ap (λ (c : CoreState). c.rings) end)
     (ap (λ (c : CoreState). c.taken) end) (λ t within. rw (end, pending) refl) gone
 
--- Answers were sent.
-pub worked_sent : (settings : Settings) (from : ℕ) (readings : List (Option ℕ)) (o n : DriverState) → HasWorked settings from readings o
-    → AreSent o.end o.pending n.end n.pending → n.timed ≡ o.timed → n.gone ≡ o.gone → HasWorked settings from readings n
-worked_sent settings from readings o n w sent timed gone =
-    rw (append-nil readings) at (worked_alone settings from readings [] o n [] [] w
-    (subst (HasRun o.timed [] [] []) (sym timed) (ran_none o.timed)) refl sent.rings sent.taken
-    (λ t within. rw (append-nil o.pending) (sym (sent.each t within))) gone)
-
 -- if all elements are equal, so is the default for places beyond the end
 all_same : {X : Type 0} (n t : ℕ) (x : X) → slice_index_or (replicate n x) t x ≡ x
 all_same zero t x = refl
@@ -145,43 +116,19 @@ all_same (suc n) (suc t) x = all_same n t x
 
 -- While no end has gone, not all have.
 pub known_none : (gone : GoneEnds) (n : ℕ) → gone.flags.items ≡ replicate (n + 1) false → gone.all ≡ false → KnowsAll gone
-known_none gone n none not = record {
-  each = λ all. absurd (true≢false (sym all ∙ not));
-  known = λ set.
-      let first = ap (λ (flags : List Bool). slice_index_or flags 0 false) none in
-      absurd (true≢false (sym (set 0 some) ∙ first ∙ all_same (n + 1) 0 false));
-}
-  where
-    some : 0 < length gone.flags.items
-    some = let many = ap length none ∙ length-replicate (n + 1) false in omega (arith, many)
+known_none gone n none not = grind arith
 
 -- Nothing was done yet.
 pub worked_none : (settings : Settings) (from : ℕ) (h : DriverState) (ends : ℕ) → h.timed ≡ new_timed settings from
     → IsNewCore ends h.end → h.pending ≡ [] → h.gone ≡ replicate ends false → HasWorked settings from [] h
-worked_none settings from h ends timed new pending gone = record {
-  history = [];
-  given = [];
-  ran = subst (HasRun (new_timed settings from) [] [] []) (sym timed) (ran_none (new_timed settings from));
-  taken_is = ap no_ticks (sym new.taken);
-  numbers = rw new.taken tt;
-  sent_is = λ t within. rw (new.sent, pending, all_same {X = List Answer} ends t []) refl;
-  marked = λ t set. absurd (true≢false (sym set ∙ ap (λ (flags : List Bool). slice_index_or flags t false) gone ∙ all_same ends t false));
-}
+worked_none settings from h ends timed new pending gone = grind (arith, all_same, ran_none (new_timed settings from))
 
 -- All is done.
 pub worked_all : (settings : Settings) (from : ℕ) (readings : List (Option ℕ)) (h : DriverState) → HasWorked settings from readings h
     → h.pending ≡ [] → length h.end.rings ≡ settings.seats + 1
     → length h.gone ≡ settings.seats + 1 → AreAllSet h.gone → IsCoreDone settings readings h.end h.timed.core from h.timed.compared
-worked_all settings from readings h w none ends many all = record {
-  history = w.history;
-  given = w.given;
-  run = record { runs = w.ran.runs; timed = w.ran.timed.picked };
-  taken_is = w.taken_is;
-  numbers = rw ends at w.numbers;
-  sent_is = λ t within. w.sent_is t (rw ends within) ∙ (rw none (append-nil (sent_to h.end t)));
-  all_gone = λ t within. w.marked t (all t (rw many within));
-  compared = compared_from (new_timed settings from) h.timed w.history w.given refl w.ran.compared;
-}
+worked_all settings from readings h w none ends many all =
+    grind (arith, append-nil, compared_from (new_timed settings from) h.timed w.history w.given refl w.ran.compared)
 
 -- new answers after those that are kept
 pub pending_on : (kept same given now : List GivenAnswer) → kept ≡ same → given ≡ [] → kept ++ now ≡ (same ++ given) ++ now

@@ -23,8 +23,5 @@ returns g c =
       );
       known = known_at_first new.many c.requires.knows new.new_seats;
       woken = new.woken;
-      serving = λ control told.
-          serving_since (sym begun) (serving_first (g.met.C.Clock.none_given parts.core.timed.time.clock) new.made
-          told new.many c.requires.doored new.new_seats c.requires.new_doors
-          (same_selves g.D.Door.same g.met.D.Door.same_self c.args.doors.now.items));
+      serving = grind (arith, serving_since, serving_first, same_selves g.D.Door.same g.met.D.Door.same_self c.args.doors.now.items);
     }

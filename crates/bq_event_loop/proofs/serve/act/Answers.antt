@@ -1,4 +1,4 @@
-use Rattle.std.proofs.Common.{refl}
+use Rattle.std.proofs.Common.{arith}
 use Rattle.bq_event_loop.proofs.KnownLemmas.{changed_one}
 use Rattle.bq_host.proofs.HubLemmas.{called}
 use Rattle.bq_event_loop.proofs.RowLemmas.{placed_there, tended_set}
@@ -6,8 +6,7 @@ use Rattle.bq_event_loop.proofs.ServingLemmas.{serves_acted}
 use Rattle.bq_event_loop.proofs.serve.act.Goals as goal
 
 pub attend-requires-clause-placed : goal.attend-requires-clause-placed
-attend-requires-clause-placed g c =
-    placed_there c.requires.ready.1 c.requires.ready.0.1 c.index_mut.ensures.value c.index_mut-2.ensures.value
+attend-requires-clause-placed g c = search placed_there
 
 pub returns : goal.returns
 returns g c =
@@ -18,10 +17,8 @@ returns g c =
     let door_is = c.index_mut-2.ensures.value in
     record {
       order = c.attend.ensures.order;
-      tended = tended_set g.L.Line g.D.Door row.seats.items row.doors.items c.args.seat c.index_mut.result.now c.attend.new.attendant
-          c.index_mut-2.result.now c.attend.new.door goes.0 goes.1 ready.1 ready.0.1 seat_is door_is goes.3;
-      serves = serves_acted c.args.seat c.index_mut.result.now c.attend.new.attendant c.index_mut-2.result.now c.attend.new.door
-          ready.1 ready.0.1.doored seat_is door_is goes c.attend.ensures.same refl refl;
+      tended = search tended_set;
+      serves = grind (arith, serves_acted);
       only = changed_one c.attend.new.attendant;
       wakes = (called g.K.QueueCore g.C.Clock c.args.seat c.args.core.now c.attend.new.hub goes.0 goes.1 goes.2).1;
     }

@@ -11,6 +11,4 @@ pub returns-then-stops : goal.returns-then-stops
 returns-then-stops g c = control_then c.loop.invariant c.submit_owed.ensures
 
 pub loop-preserved : goal.loop-preserved
-loop-preserved g c =
-    control_then (control_then c.loop.invariant c.submit_owed.ensures)
-    (control_read c.submit_owed.ensures.order c.read.ensures.tells)
+loop-preserved g c = search (control_then, control_read)

@@ -1,13 +1,10 @@
-use Rattle.std.proofs.Common.{refl}
+use Rattle.std.proofs.Common.{arith}
 use Rattle.bq_event_loop.proofs.ServingLemmas.{acted_none, serves_then, serves_time}
 use Rattle.bq_host.proofs.WakeLemmas.{wakes_then}
 use Rattle.bq_event_loop.proofs.serve.serve_seat.Goals as goal
 
 pub returns-then-not-may_act : goal.returns-then-not-may_act
-returns-then-not-may_act g c = record {
-  acted = acted_none c.requires.ready.0 c.requires.ready.1;
-  between = λ a is within. (refl, refl);
-}
+returns-then-not-may_act g c = search acted_none
 
 pub sort-all-requires : goal.sort-all-requires
 sort-all-requires g c = record { order = c.act_with_buffer-progress.ensures.order }
@@ -28,7 +25,4 @@ returns-then-not-takes_next g c =
     }
 
 pub returns-else-not-takes_next : goal.returns-else-not-takes_next
-returns-else-not-takes_next g c = record {
-  acted = c.act_with_buffer-progress.ensures;
-  between = λ a is within. absurd (c.may_act.ensures.line c.if-not-may_act.false a is);
-}
+returns-else-not-takes_next g c = grind arith

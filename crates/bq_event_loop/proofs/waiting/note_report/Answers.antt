@@ -4,10 +4,7 @@ use Rattle.bq_event_loop.proofs.WaitingLemmas.{known_reported}
 use Rattle.bq_event_loop.proofs.waiting.note_report.Goals as goal
 
 pub returns-in-Line-clause-known : goal.returns-in-Line-clause-known
-returns-in-Line-clause-known g c =
-    let told = c.wake.ensures in
-    known_reported told.seats told.woken told.keeps told.looking told.apart c.note_ready.ensures.only c.note_ready.ensures.between
-    c.requires.known
+returns-in-Line-clause-known g c = search known_reported
 
 pub returns-in-Line-clause-woken : goal.returns-in-Line-clause-woken
 returns-in-Line-clause-woken g c =

@@ -21,9 +21,7 @@ loop-thread-preserved g c =
       room = let h = c.loop-thread.invariant.room in let a = c.push_reserved.ensures.capacity in omega arith;
       limits = rest_passes c.loop-thread.thread-iterator.rest.items _ c.in-Some.thread
           (λ t. t.promise.max_job_size ≡ c.args.max_job_size) step.0 limits;
-      back = one_back g.D.Door.same (λ t. t.promise.door.value) c.args.threads.items c.loop-thread.thread-iterator.rest.items _
-          c.in-Some.thread c.loop-thread.doors.items _ c.in-Some-join.door step.0 c.push_reserved.ensures.items same
-          c.loop-thread.invariant.back;
+      back = search one_back;
       served = all_pushed c.loop-thread.doors.items _ c.in-Some-join.door
           (λ d. IsServedToEnd c.args.max_job_size (at d)) c.push_reserved.ensures.items c.loop-thread.invariant.served here;
     }

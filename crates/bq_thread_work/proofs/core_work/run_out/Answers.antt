@@ -1,12 +1,11 @@
-use Rattle.std.proofs.Common.{◌≡◌, ◌∙◌, ◌+◌, ap, length, subst, sym}
+use Rattle.std.proofs.Common.{◌≡◌, ◌∙◌, ◌+◌, ap, length, subst, sym, arith}
 use Rattle.bq_thread_work.specs.Worked.{driver_state}
 use Rattle.bq_thread_work.proofs.TurnLemmas.{on_both}
 use Rattle.bq_thread_work.proofs.WorkedLemmas.{worked_all}
 use Rattle.bq_thread_work.proofs.core_work.run_out.Goals as goal
 
 pub loop-preserved : goal.loop-preserved
-loop-preserved g c =
-    record { iterator = (tt, tt); on = on_both _ _ c.args.driver c.loop.driver c.turn.new.self c.loop.invariant.on c.turn.ensures.on }
+loop-preserved g c = grind (arith, on_both _ _ c.args.driver c.loop.driver c.turn.new.self c.loop.invariant.on c.turn.ensures.on)
 
 pub returns-then-turn-clause-ran : goal.returns-then-turn-clause-ran
 returns-then-turn-clause-ran g c settings from first w rings =

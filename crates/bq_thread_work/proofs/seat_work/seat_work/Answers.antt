@@ -1,4 +1,4 @@
-use Rattle.std.proofs.Common.{◌∙◌, refl}
+use Rattle.std.proofs.Common.{refl, arith}
 use Rattle.bq_line.specs.Tending.{attendant, door_seen}
 use Rattle.bq_line.specs.declared.attendant.LinePlace.TheVariants as places
 use Rattle.bq_line.proofs.TendingLemmas.{tended_new}
@@ -12,12 +12,7 @@ loop-init g c =
     let a = attendant c.args.machine places.Between in
     let first = tended_new g.L.Line.seen size a (at c.args.door)
     (record { place = refl; awaits = c.requires.machine; limit = refl }) c.requires.door in
-    record {
-      iterator = (tt, tt);
-      same = (refl, refl, refl);
-      tended = rw (c.requires.end.submitted, c.requires.end.taken) first;
-      door = g.met.D.Door.same_self c.args.door;
-    }
+    grind arith
 
 pub loop-preserved : goal.loop-preserved
 loop-preserved g c =
@@ -28,9 +23,4 @@ loop-preserved g c =
     let same = c.attend_at-progress.ensures.same in
     let on = tended_on g.L.Line.seen size c.loop.end new.end c.loop.attendant new.attendant (at c.loop.door)
     (at new.door) c.attend_at-progress.ensures.went c.loop.invariant.tended in
-    record {
-      iterator = (tt, tt);
-      same = rw c.pause.ensures (same.0 ∙ before.0, same.1 ∙ before.1, same.2 ∙ before.2);
-      tended = rw c.pause.ensures on;
-      door = c.attend_at-progress.ensures.door c.args.door c.loop.invariant.door;
-    }
+    grind arith

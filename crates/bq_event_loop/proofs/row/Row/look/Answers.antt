@@ -8,9 +8,7 @@ pub look_at-requires : goal.look_at-requires
 look_at-requires g c =
     let row = c.args.self.now in
     let below : c.args.seat < length row.seats.items = let e = c.len.ensures in let b = c.if-seat-len.false in omega arith in
-    record {
-      placed = placed_there below c.requires.tended c.index_mut.ensures.value c.index_mut-2.ensures.value;
-    }
+    search placed_there
 
 pub returns : goal.returns
 returns g c =

@@ -1,5 +1,4 @@
 use Rattle.std.proofs.Common.{arith}
-use Rattle.std.proofs.lemmas.Grind.{common_steps}
 use Rattle.std.proofs.lemmas.List.{length-set}
 use Rattle.bq_event_loop.proofs.ListingLemmas.{left_free}
 use Rattle.bq_event_loop.proofs.seat_queue.SeatQueue.next_free.Goals as goal
@@ -8,14 +7,7 @@ pub unmark-requires : goal.unmark-requires
 unmark-requires c = (left_free c.in_ok-seat.ensures.items c.self.invariant.0).0
 
 pub invariant_of-self-2 : goal.invariant_of-self-2
-invariant_of-self-2 c =
-    rw c.unmark.ensures (
-      (left_free c.in_ok-seat.ensures.items c.self.invariant.0).1,
-      grind (arith, common_steps, c.self.invariant.1, length-set),
-      grind (arith, common_steps, c.self.invariant.2, c.pop.ensures.capacity, length-set),
-      c.self.invariant.3,
-      c.self.invariant.4,
-    )
+invariant_of-self-2 c = grind (arith, length-set, left_free c.in_ok-seat.ensures.items c.self.invariant.0)
 
 pub returns-clause-gone : goal.returns-clause-gone
 returns-clause-gone c = (left_free c.in_ok-seat.ensures.items c.self.invariant.0).2

@@ -1,5 +1,4 @@
 use Rattle.std.proofs.Common.{arith}
-use Rattle.std.proofs.lemmas.Grind.{common_steps}
 use Rattle.std.proofs.lemmas.List.{length-set}
 use Rattle.bq_event_loop.proofs.ListingLemmas.{left_queue}
 use Rattle.bq_event_loop.proofs.seat_queue.SeatQueue.take_next.Goals as goal
@@ -8,11 +7,4 @@ pub unmark-requires : goal.unmark-requires
 unmark-requires c = (left_queue c.in_ok-seat.ensures.items c.self.invariant.0).0
 
 pub invariant_of-self-2 : goal.invariant_of-self-2
-invariant_of-self-2 c =
-    rw c.unmark.ensures (
-      (left_queue c.in_ok-seat.ensures.items c.self.invariant.0).1,
-      grind (arith, common_steps, c.self.invariant.1, c.pop_front.ensures.capacity, length-set),
-      grind (arith, common_steps, c.self.invariant.2, length-set),
-      grind (arith, common_steps, c.if-self.false),
-      grind (arith, common_steps, c.self.invariant.4, c.in_ok-seat.ensures.items),
-    )
+invariant_of-self-2 c = grind (arith, length-set, left_queue c.in_ok-seat.ensures.items c.self.invariant.0)

@@ -1,4 +1,4 @@
-use Rattle.std.proofs.Common.{◌∙◌, ap}
+use Rattle.std.proofs.Common.{◌∙◌, ap, arith}
 use Rattle.bq_host.specs.Hubs.{state_of}
 use Rattle.bq_host.proofs.WakeLemmas.{sorted_put, wakes_full, wakes_put}
 use Rattle.bq_host.proofs.hub.Hub.deliver.Goals as goal
@@ -20,12 +20,7 @@ loop-seat-preserved g c =
           c.in-Some.seat c.in-Some.answer i.sorted (ap state rest) c.in-Some.ensures.pending c.post.ensures.many
           c.in_default-post.ensures.posted;
       clock = ap (λ h. h.timed.time.clock) rest ∙ i.clock;
-      only = record {
-        time = ap (λ h. h.timed.time) rest ∙ i.only.time;
-        fresh = ap (λ h. h.is_fresh) rest ∙ i.only.fresh;
-        notices = ap (λ h. h.timed.notices) rest ∙ i.only.notices;
-        unlogged = ap (λ h. h.unlogged) rest ∙ i.only.unlogged;
-      };
+      only = grind arith;
       wakes = wakes_put c.args.self.now.mails.items c.loop-seat.self.mails.items c.next_pending.new.self.mails.items c.post.new.mails.items
           c.args.self.now.woken c.loop-seat.self.woken c.next_pending.new.self.woken c.post.new.woken c.in-Some.seat c.in-Some.answer
           i.wakes (ap (λ h. h.mails.items) rest) (ap (λ h. h.woken) rest)

@@ -1,4 +1,4 @@
-use Rattle.std.proofs.Common.{◌≡◌, ◌∷◌, ◌∙◌, ℕ, List, None, ap, refl, subst, sym}
+use Rattle.std.proofs.Common.{◌≡◌, ◌∷◌, ◌∙◌, ℕ, List, None, ap, subst, sym, arith}
 use Rattle.bq_job.specs.machine.Dispatch.{GivenAnswer}
 use Rattle.bq_host.specs.Hubs.{state_of, with_pending}
 use Rattle.bq_host.specs.declared.hub.Hub.{Hub}
@@ -6,11 +6,8 @@ use Rattle.bq_host.proofs.HubLemmas.{went_moved, went_taken}
 use Rattle.bq_host.proofs.hub.Hub.take_new.Goals as goal
 
 pub returns-in_default-clause-went : goal.returns-in_default-clause-went
-returns-in_default-clause-went g c = (
-  refl,
-  went_moved g.K.QueueCore g.C.Clock c.args.seat c.args.self.now c.next_new.new.self None _ _ c.next_new.ensures.rest
-      (sym c.in_default.ensures.pending),
-)
+returns-in_default-clause-went g c =
+    grind (arith, went_moved g.K.QueueCore g.C.Clock c.args.seat c.args.self.now c.next_new.new.self None _ _ c.next_new.ensures.rest)
 
 pub returns-then-seat-first-clause-went : goal.returns-then-seat-first-clause-went
 returns-then-seat-first-clause-went g c =

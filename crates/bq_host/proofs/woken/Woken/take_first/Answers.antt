@@ -1,6 +1,5 @@
 use Rattle.std.proofs.Common.{arith, false, refl, subst, []}
 use Rattle.std.proofs.lemmas.Grind.{common_steps}
-use Rattle.std.proofs.lemmas.List.{length-set}
 use Rattle.bq_host.proofs.MarkLemmas.{left, within}
 use Rattle.bq_host.specs.Marks.{HasMarks}
 use Rattle.bq_host.proofs.woken.Woken.take_first.Goals as goal
@@ -17,5 +16,4 @@ invariant_of-self-2 c =
     let after = left (λ mark. mark) false [] c.pop_front.new.self.items c.self.inside.marks.items c.in_ok-seat.seat false
     (subst (λ z. HasMarks (λ mark. mark) false z c.self.inside.marks.items) c.in_ok-seat.ensures.items c.self.invariant.0)
     seat_below refl in
-    let fits = c.pop_front.ensures.capacity in
-    rw c.unmark.ensures (rw c.from.ensures (after, grind (arith, common_steps, c.self.invariant.1, fits, length-set)))
+    grind (arith, common_steps)

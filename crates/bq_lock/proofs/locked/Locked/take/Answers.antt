@@ -1,7 +1,5 @@
-use Rattle.std.proofs.Common.{◌<◌, length, ap, ◌∙◌, arith, subst, sym}
+use Rattle.std.proofs.Common.{◌<◌, length, arith, subst, sym}
 use Rattle.std.specs.Prelude.{IsNone}
-use Rattle.bq_core_api.specs.Outbox.{Outbox}
-use Rattle.bq_job.specs.declared.settings.Settings.{Settings}
 use Rattle.bq_job.proofs.LawfulLemmas.{few_answers}
 use Rattle.bq_lock.specs.LockedState.{LockedState, locked_of}
 use Rattle.bq_lock.proofs.LockedLemmas.{hold_step, stepped}
@@ -29,12 +27,7 @@ invariant_of-self g c =
     c.args.at c.args.seat c.args.what
     (locked_of (machine c.step_in_place.new.self) c.deliver.new.self.mails.items c.deliver.new.self.answered.items c.note.new.self)
     c.self.invariant.0 c.step_in_place.ensures.lawful c.step_in_place.ensures.settings taken in
-    let seats = ap (λ (s : Settings). s.seats) c.step_in_place.ensures.settings in
-    let most = ap (λ (o : Outbox). o.most) c.deliver.ensures.taken ∙ c.step_in_place.ensures.most in
-    let outs = c.self.invariant.1 in
-    let room = c.deliver.ensures.room in
-    let answered = c.self.invariant.2 in
-    (holds, omega (arith, seats, most, outs), omega (arith, seats, room, answered))
+    grind arith
 
 pub returns-clause-taken : goal.returns-clause-taken
 returns-clause-taken g c =

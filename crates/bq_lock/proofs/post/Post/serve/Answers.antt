@@ -1,5 +1,5 @@
-use Rattle.std.proofs.Common.{◌++◌, ℕ, [], refl, subst}
-use Rattle.bq_line.specs.Tending.{IsTended, attendant, door_seen}
+use Rattle.std.proofs.Common.{◌++◌, refl, arith}
+use Rattle.bq_line.specs.Tending.{attendant, door_seen}
 use Rattle.bq_line.specs.declared.attendant.LinePlace.TheVariants as places
 use Rattle.bq_lock.proofs.PostLemmas.{tended_first}
 use Rattle.bq_lock.proofs.post.Post.serve.Goals as goal
@@ -10,16 +10,7 @@ loop-init g c =
     let at = door_seen g.D.Door in
     let first = tended_first g.L.Line.seen g.D.Door (attendant post.machine places.Between) post.door refl
     post.waits post.inside post.more post.none_over in
-    record {
-      iterator = (tt, tt);
-      tended = (
-        [],
-        [],
-        subst (λ (n : ℕ). IsTended g.L.Line.seen n (attendant post.machine places.Between)
-            (at post.door) [] []) post.limit first,
-      );
-      same = g.met.D.Door.same_self post.door;
-    }
+    grind arith
 
 pub loop-preserved : goal.loop-preserved
 loop-preserved g c =

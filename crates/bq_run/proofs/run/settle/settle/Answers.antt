@@ -1,23 +1,15 @@
 use Rattle.std.proofs.Common.{◌<◌, ◌∙◌, length, arith}
-use Rattle.bq_run.proofs.SettleLemmas.{core_still, core_still_on, ends_still, pair_at, settled_more, still_set}
+use Rattle.bq_run.proofs.SettleLemmas.{core_still_on, pair_at, settled_more, still_set}
 use Rattle.bq_run.proofs.run.settle.settle.Goals as goal
 
 pub loop-place-init : goal.loop-place-init
-loop-place-init c = record {
-  core = core_still c.args.core.now;
-  ends = ends_still c.args.ends.now;
-  settled = λ place d below. absurd (omega (arith, below));
-}
+loop-place-init c = grind arith
 
 pub settle_one-requires-clause-of_intake : goal.settle_one-requires-clause-of_intake
 settle_one-requires-clause-of_intake c = c.loop-place.invariant.core.same.0 ∙ c.requires.of_intake
 
 pub settle_one-requires-clause-pair : goal.settle_one-requires-clause-pair
-settle_one-requires-clause-pair c =
-    let l = c.loop-place in
-    let below : l.place < length l.ends = let e = l.auto.ends in let h = c.loop-place-test.true in omega arith in
-    (pair_at c.args.core.now l.core c.args.ends.now l.ends l.place c.index-ends-place.result c.requires.pairs l.invariant.core
-    l.invariant.ends below).1
+settle_one-requires-clause-pair c = grind arith
 
 pub loop-place-preserved : goal.loop-place-preserved
 loop-place-preserved c =

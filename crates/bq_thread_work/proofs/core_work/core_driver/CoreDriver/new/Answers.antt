@@ -1,4 +1,4 @@
-use Rattle.std.proofs.Common.{◌≡◌, ℕ, ◌∙◌, ◌+◌, ◌≤◌, [], ap, arith, deque_capacity, false, true≢false, length, subst, sym}
+use Rattle.std.proofs.Common.{◌≡◌, ℕ, ◌∙◌, ◌+◌, [], ap, arith, false, subst, sym}
 use Rattle.std.proofs.lemmas.List.{length-replicate}
 use Rattle.bq_job.specs.declared.settings.Settings.{Settings}
 use Rattle.bq_job.specs.machine.Machine.{new_machine}
@@ -15,30 +15,7 @@ new_is : {C K : Type 0} (k : Core K) (t : TimedCore C K) {settings : Settings} {
 new_is k t core heard known none = λ i. record { core = core i; heard = heard i; known = known i; compared = none i }
 
 pub returns-clause-order : goal.returns-clause-order
-returns-clause-order g c =
-    let machine = g.K.QueueCore.machine in
-    let ends = (machine c.args.core).settings.seats + 1 in
-    let none = c.requires.room.none_gone in
-    let many : c.len-ends.result ≡ ends = c.len-ends.ensures ∙ c.args.room.gone.ok.0 ∙ ap length none ∙ length-replicate ends false in
-    let flags = ap (λ v. v.items) c.none.ensures.flags in
-    let over = c.over.ensures in
-    record {
-      ready = record {
-        room = rw (over.core, over.outs) c.requires.outs;
-        due = λ known. absurd (true≢false (sym known ∙ over.unknown));
-      };
-      sender = record {
-        places = record {
-          ends = c.requires.ends.rings ∙ sym many;
-          for_kept = subst (λ n. n ≤ deque_capacity c.args.room.kept) (sym many) c.requires.room.for_kept;
-          for_aside = subst (λ n. n ≤ deque_capacity c.args.room.aside) (sym many) c.requires.room.for_aside;
-        };
-        few = subst (λ kept. length kept ≤ c.len-ends.result) (sym c.requires.room.none_kept) (omega arith);
-        none_aside = c.requires.room.none_aside;
-      };
-      many = ap length (flags ∙ none) ∙ length-replicate ends false ∙ sym many;
-      all = known_none c.none.result (machine c.args.core).settings.seats (flags ∙ none) c.none.ensures.all;
-    }
+returns-clause-order g c = grind (arith, length-replicate, known_none)
 
 pub returns-clause-work : goal.returns-clause-work
 returns-clause-work g c =

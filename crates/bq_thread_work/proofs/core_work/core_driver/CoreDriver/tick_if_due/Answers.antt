@@ -1,8 +1,7 @@
+use Rattle.std.proofs.Common.{arith}
 use Rattle.bq_thread_work.proofs.TurnLemmas.{on_passed}
 use Rattle.bq_thread_work.proofs.core_work.core_driver.CoreDriver.tick_if_due.Goals as goal
 
 pub returns-clause-on : goal.returns-clause-on
 returns-clause-on g c =
-    let t = c.tick_if_due.ensures in
-    on_passed g.K.QueueCore g.C.Clock c.args.self.now c.tick_if_due.new.self c.tick_if_due.result c.requires.order
-    t.ready c.requires.none t.over t.ticked
+    grind (arith, on_passed g.K.QueueCore g.C.Clock c.args.self.now c.tick_if_due.new.self c.tick_if_due.result c.requires.order)

@@ -1,6 +1,4 @@
-use Rattle.std.proofs.Common.{◌∙◌, ap, inl, inr, subst, sym}
-use Rattle.bq_thread_work.specs.Sending.{AreStuck}
-use Rattle.bq_thread_work.specs.Worked.{IsIdle}
+use Rattle.std.proofs.Common.{◌∙◌, ap, inl, inr, arith}
 use Rattle.bq_thread_work.specs.declared.core_work.core_driver.CoreDriver.{CoreDriver}
 use Rattle.bq_thread_work.proofs.TurnLemmas.{on_both, went_from}
 use Rattle.bq_thread_work.proofs.core_work.core_driver.CoreDriver.work.Goals as goal
@@ -12,36 +10,22 @@ pub go_on-requires-clause-none : goal.go_on-requires-clause-none
 go_on-requires-clause-none g c = ap (λ (h : CoreDriver _ _). h.timed.outs.given) c.give_way.ensures.rest ∙ c.requires.none
 
 pub await_step-requires : goal.await_step-requires
-await_step-requires g c = record {
-  order = (c.go_on.ensures.on.end.0 ∙ c.give_way.ensures.on.end.0 ∙ c.requires.order.0, c.go_on.ensures.on.order);
-}
+await_step-requires g c = grind arith
 
 pub returns-then-not-go_on-clause-on : goal.returns-then-not-go_on-clause-on
-returns-then-not-go_on-clause-on g c = on_both _ _ c.args.self.now c.go_on.new.self c.await_step.new.self
-    (on_both _ _ c.args.self.now c.give_way.new.self c.go_on.new.self c.give_way.ensures.on c.go_on.ensures.on) c.await_step.ensures.on
+returns-then-not-go_on-clause-on g c = search on_both
 
 pub returns-else-not-go_on-clause-on : goal.returns-else-not-go_on-clause-on
-returns-else-not-go_on-clause-on g c =
-    on_both _ _ c.args.self.now c.give_way.new.self c.go_on.new.self c.give_way.ensures.on c.go_on.ensures.on
+returns-else-not-go_on-clause-on g c = search on_both
 
 pub returns-then-not-go_on-clause-stuck : goal.returns-then-not-go_on-clause-stuck
-returns-then-not-go_on-clause-stuck g c = λ before.
-    let stuck = λ (h : CoreDriver _ _). AreStuck h.sender.end h.sender.kept.items in
-    subst stuck (sym c.await_step.ensures.rest) (c.go_on.ensures.found.0 (subst stuck (sym c.give_way.ensures.rest) before))
+returns-then-not-go_on-clause-stuck g c = grind arith
 
 pub returns-else-not-go_on-clause-stuck : goal.returns-else-not-go_on-clause-stuck
-returns-else-not-go_on-clause-stuck g c = λ before.
-    let stuck = λ (h : CoreDriver _ _). AreStuck h.sender.end h.sender.kept.items in
-    c.go_on.ensures.found.0 (subst stuck (sym c.give_way.ensures.rest) before)
+returns-else-not-go_on-clause-stuck g c = grind arith
 
 pub returns-then-not-go_on-clause-worked : goal.returns-then-not-go_on-clause-worked
-returns-then-not-go_on-clause-worked g c =
-    let machine = g.K.QueueCore.machine in
-    let yielded = c.give_way.ensures.rest in
-    let idle = c.go_on.ensures.found.2 (let e = c.if-not-go_on.true in cc) in
-    went_from machine c.args.self.now c.give_way.new.self c.await_step.new.self
-    (ap (λ (h : CoreDriver _ _). h.sender.end.taken) yielded) (ap (λ (h : CoreDriver _ _). h.timed.core) yielded)
-    (inr (inr (subst (λ (h : CoreDriver _ _). IsIdle machine c.give_way.new.self h) (sym c.await_step.ensures.rest) idle)))
+returns-then-not-go_on-clause-worked g c = grind arith
 
 pub returns-else-not-go_on-clause-worked : goal.returns-else-not-go_on-clause-worked
 returns-else-not-go_on-clause-worked g c =

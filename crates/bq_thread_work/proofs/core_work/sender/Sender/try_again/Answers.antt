@@ -1,4 +1,4 @@
-use Rattle.std.proofs.Common.{◌∙◌, ◌++◌, arith, ap, length}
+use Rattle.std.proofs.Common.{◌∙◌, ◌++◌, arith}
 use Rattle.bq_thread_work.proofs.SendingLemmas.{sent_next, sent_on}
 use Rattle.bq_thread_work.proofs.core_work.sender.Sender.try_again.Goals as goal
 
@@ -9,10 +9,7 @@ loop-seat-preserved c =
     let aside = c.send_or_keep.ensures.aside in
     record {
       places = c.send_or_keep.ensures.places;
-      few =
-          let i = c.loop-seat.invariant.few in let l = c.in-Some.ensures.len in let f = c.send_or_keep.ensures.few in
-          let e = c.send_or_keep.ensures.ends in let a = ap (λ q. length q.items) aside in
-          omega (arith, i, l, f, e, a);
+      few = grind arith;
       ends = c.send_or_keep.ensures.ends ∙ c.loop-seat.invariant.ends;
       sent = rw aside
           (sent_on c.args.self.now.end before.end after.end c.args.self.now.kept.items (before.kept.items ++ before.aside.items)
