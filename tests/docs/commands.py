@@ -38,7 +38,8 @@ QUICK_PACKAGE = {"DPKG_DEB_COMPRESSOR_TYPE": "gzip", "DPKG_DEB_COMPRESSOR_LEVEL"
 OPERATORS = ["bqctl", "bqd-drain", "bqd-top", "bqd-web"]
 
 # The first words of commands. A program's name on its own is not a command.
-HEADS = """rt env docker tools/build tools/needless_answers.py tools/refused_by_prover.py nc telnet systemctl journalctl apt echo bqd bq bqctl bqd-top bqd-drain bqd-web prlimit ulimit
+HEADS = """rt env docker tools/build tools/needless_answers.py tools/refused_by_prover.py tools/shorter_proofs.py nc telnet systemctl
+    journalctl apt echo bqd bq bqctl bqd-top bqd-drain bqd-web prlimit ulimit
     python3 sed printf packaging/deb.sh promtool curl ss ssh (cd crates/bqd/out/bqd crates/bq/out/bq bash""".split()
 
 
@@ -419,7 +420,7 @@ def toolchain(room):
     return "it is the toolchain's"
 
 
-@rule(r"(?:python3 )?((?:tools|tests)/(?:needless_answers\.py|refused_by_prover\.py|caught_by_tests|speed|model|runs|memory_faults|operator|container|docs))((?: .*)?)")
+@rule(r"(?:python3 )?((?:tools|tests)/(?:needless_answers\.py|refused_by_prover\.py|shorter_proofs\.py|caught_by_tests|speed|model|runs|memory_faults|operator|container|docs))((?: .*)?)")
 def own_tools(room, script, words):
     told = subprocess.run([sys.executable, ROOT / script, "--help"], capture_output=True, text=True, timeout=PATIENCE).stdout
     for option in re.findall(r"(?<=\s)--?[a-z][-\w]*", words):
