@@ -8,7 +8,8 @@ use Rattle.bq_job.{proofs.{ListLemmas.all_weaker, LookupLemmas.job_in_map}, spec
 use Rattle.bq_job.specs.{declared.job.{Job.Job, JobState.JobState}, machine.{Chain, DispatchTurn, GivenAnswer, Machine.Machine, SeatRecord}}
 use Rattle.bq_job.specs.machine.{WaitEndTurn, given_back, is_held_by, is_reserved, job_with, kicked, without_wait}
 use Rattle.bq_jobs.proofs.Changes.{all_found}
-use Rattle.bq_state.specs.{Cost.waited_tubes, JobKinds.is_of, declared.job_store.JobKind.JobKind}
+use Rattle.bq_jobs.specs.{Ranks.is_listed, declared.places.JobList.JobList}
+use Rattle.bq_state.specs.Cost.{waited_tubes}
 
 -- counts over seats decrease as waits end
 module _ (f : SeatRecord → ℕ) (less : (s : SeatRecord) → f (without_wait s) ≤ f s) where
@@ -72,8 +73,8 @@ passing_apart p f [] = omega arith
 passing_apart p f (j ∷ jobs) = grind (arith, common_steps, passing_apart p f jobs)
 
 -- the jobs that are kicked are changed
-pub kicked_changed : (kind : JobKind) (tube : List ℕ) → ((k : Job) → is_of kind tube (kicked k) ≡ false) → (chosen : List Job)
+pub kicked_changed : (list : JobList) (tube : List ℕ) → ((k : Job) → is_listed list tube (kicked k) ≡ false) → (chosen : List Job)
     (low next n : ℕ) (jobs : List Job) → AreIdsWithin low jobs next
-    → count_by (is_of kind tube) (all_kicked chosen jobs) + n ≤ count_by (is_of kind tube) jobs
+    → count_by (is_listed list tube) (all_kicked chosen jobs) + n ≤ count_by (is_listed list tube) jobs
     → n ≤ changed_jobs jobs (all_kicked chosen jobs)
-kicked_changed kind tube out chosen low next n jobs ids few = grind (arith, changed_of, passing_apart)
+kicked_changed list tube out chosen low next n jobs ids few = grind (arith, changed_of, passing_apart)

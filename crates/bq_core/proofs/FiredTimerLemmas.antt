@@ -83,6 +83,11 @@ chosen p before low next jobs id ids e =
       passes_is = first_of_passes p before jobs j.0 j.1;
     }
 
+-- the id of a job that was found with its number
+pub id_ranked : (number : Job → ℕ) (o : Option Job) (n id : ℕ) → Some (n, id) ≡ option_map (ranked number) o
+    → Some id ≡ option_map (λ j. j.id) o
+id_ranked number o n id e = grind (arith)
+
 -- The first job of a kind by a number decides whether any has a number up to t.
 module _ (p : Job → Bool) (number : Job → ℕ) (q : ℕ → Job → Bool) (q_is : (t : ℕ) (j : Job) → q t j ≡ (p j && nat_le (number j) t))
     (jobs : List Job) (t : ℕ) where

@@ -1,4 +1,4 @@
--- Kicking the first job of a kind repeatedly kicks the first ones in order.
+-- Kicking the first job in a list repeatedly kicks the first ones in order.
 use lib.Seq.{take-nil}
 use Rattle.std.proofs.Common.{Bool, List, None, Option, Some, [], ap, arith, false, filter, if◌then◌else◌, inl, inr, length, map}
 use Rattle.std.proofs.Common.{map-id, not, refl, suc, sym, take, true, ℕ, ◌+◌, ◌-◌, ◌<◌, ◌==◌, ◌∙◌, ◌∷◌, ◌≡◌, ◌≤◌}
@@ -12,8 +12,9 @@ use Rattle.bq_job.{proofs.ListLemmas.{all_of_filter, all_weaker, find_in_filter,
 use Rattle.bq_job.specs.{declared.job.Job.Job, machine.{first_of, in_order, is_buried_before, is_buried_in, job_with, kickable, kicked}}
 use Rattle.bq_job.specs.machine.{kicked_first, put_in_order}
 use Rattle.bq_jobs.proofs.Changes.{all_found, all_kept, chosen_has_its_id, others_above}
-use Rattle.bq_state.{proofs.TubeLemmas.some_left, specs.{JobKinds.{is_before_of, is_of, rank_of}, declared.job_store.JobKind.JobKind}}
-use Rattle.bq_state.specs.declared.job_store.JobKind.TheVariants.{Buried, Delayed}
+use Rattle.bq_jobs.specs.Ranks.{first_in, is_before_by, is_listed, list_rank}
+use Rattle.bq_jobs.specs.declared.places.JobList.{JobList, TheVariants.{Buried, Delayed}}
+use Rattle.bq_state.proofs.TubeLemmas.{some_left}
 
 -- a job is the only one with its id
 pub one_of_id : (id low next : ℕ) (jobs : List Job) (j : Job) → AreIdsWithin low jobs next → job_with id jobs ≡ Some j
@@ -40,7 +41,7 @@ first_ordered before j other low next (x ∷ js) ids all found = elim (cases_Boo
       rw (apart, first_ordered before j other (suc x.id) next js ids.1 all.1 (rw apart at found), other x all.0 apart) refl
 ]
 
--- a kicked job is no longer of the kind
+-- a kicked job is no longer in the list
 kicked_are_out : (p : Job → Bool) (id : ℕ) → ((k : Job) → p (kicked k) ≡ false) → (js : List Job)
     → filter p (map (λ k. if k.id == id then kicked k else k) js) ≡ filter (λ k. not (k.id == id)) (filter p js)
 kicked_are_out p id out [] = refl
@@ -61,22 +62,22 @@ kicked_in_turn j chosen others (x ∷ js) =
     grind arith
 
 -- the first one is kicked
-pub kicks_first : (kind : JobKind) (tube : List ℕ) (low next : ℕ) (jobs : List Job) (j : Job)
-    → ((k : Job) → is_of kind tube (kicked k) ≡ false) → AreIdsWithin low jobs next
-    → first_of (is_of kind tube) (is_before_of kind) jobs ≡ Some j
-    → KicksFirst kind tube jobs (map (λ k. if k.id == j.id then kicked k else k) jobs)
-kicks_first kind tube low next jobs j out ids first =
-    let p = is_of kind tube in
-    let before = is_before_of kind in
+pub kicks_first : (list : JobList) (tube : List ℕ) (low next : ℕ) (jobs : List Job) (j : Job)
+    → ((k : Job) → is_listed list tube (kicked k) ≡ false) → AreIdsWithin low jobs next
+    → first_in list tube jobs ≡ Some j
+    → KicksFirst list tube jobs (map (λ k. if k.id == j.id then kicked k else k) jobs)
+kicks_first list tube low next jobs j out ids first =
+    let p = is_listed list tube in
+    let before = is_before_by (list_rank list) in
     let others = filter (λ k. not (k.id == j.id)) (filter p jobs) in
     let found = chosen_has_its_id low next jobs p before j ids first in
     let passes = first_of_passes p before jobs j first in
     let least : All (λ x. p x ≡ true → before x j ≡ false) jobs =
-    all_from_members _ jobs (λ x. first_of_is_least p (pair_order (rank_of kind) (λ (k : Job). k.id)) jobs j x first) in
+    all_from_members _ jobs (λ x. first_of_is_least p (pair_order (list_rank list) (λ (k : Job). k.id)) jobs j x first) in
     let there = find_in_filter (λ k. k.id == j.id) p jobs
     (all_weaker _ _ jobs (λ x is same. ap p (is same) ∙ passes) (one_of_id j.id low next jobs j ids found)) in
-    let ordered : jobs_of kind tube jobs ≡ j ∷ in_order before others =
-    first_ordered before j (λ x. pair_other (rank_of kind j) j.id (rank_of kind x) x.id) low next (filter p jobs)
+    let ordered : jobs_of list tube jobs ≡ j ∷ in_order before others =
+    first_ordered before j (λ x. pair_other (list_rank list j) j.id (list_rank list x) x.id) low next (filter p jobs)
     (ids_of_filter p low next jobs ids) (all_weaker _ _ _ (λ x h. h.0 h.1) (all_of_filter _ p jobs least)) (there ∙ found) in
     let left = kicked_are_out p j.id out jobs in
     record {
@@ -97,24 +98,36 @@ kickable_buried tube jobs id first =
 pub no_id : (o : Option Job) → None ≡ option_map (λ j. j.id) o → o ≡ None
 no_id o e = grind (arith, common_steps)
 
-pub none_of_kind : (kind : JobKind) (tube : List ℕ) (jobs : List Job)
-    → None ≡ option_map (λ j. j.id) (first_of (is_of kind tube) (is_before_of kind) jobs) → filter (is_of kind tube) jobs ≡ []
-none_of_kind kind tube jobs none = none_left _ jobs (first_of_none (is_of kind tube) (is_before_of kind) jobs (no_id _ none))
+pub none_in_list : (list : JobList) (tube : List ℕ) (jobs : List Job)
+    → None ≡ option_map (λ j. j.id) (first_in list tube jobs) → filter (is_listed list tube) jobs ≡ []
+none_in_list list tube jobs none =
+    none_left _ jobs (first_of_none (is_listed list tube) (is_before_by (list_rank list)) jobs (no_id _ none))
 
 pub kickable_delayed : (tube : List ℕ) (jobs : List Job)
     → None ≡ option_map (λ j. j.id) (first_of (is_buried_in tube) is_buried_before jobs) → jobs_of Delayed tube jobs ≡ kickable tube jobs
-kickable_delayed tube jobs none = ap (kicked_first tube jobs) (sym (none_of_kind Buried tube jobs none))
+kickable_delayed tube jobs none = ap (kicked_first tube jobs) (sym (none_in_list Buried tube jobs none))
 
 pub none_kicked : (jobs : List Job) → all_kicked [] jobs ≡ jobs
 none_kicked jobs = map-id jobs
 
 -- Once none is left, all were kicked.
-pub kicked_all : (kind : JobKind) (tube : List ℕ) (bound done : ℕ) (first jobs : List Job) → done ≤ bound
-    → ((n : ℕ) → all_kicked (take (done + n) (jobs_of kind tube first)) first ≡ all_kicked (take n (jobs_of kind tube jobs)) jobs)
-    → None ≡ option_map (λ j. j.id) (first_of (is_of kind tube) (is_before_of kind) jobs)
-    → all_kicked (take bound (jobs_of kind tube first)) first ≡ jobs
-kicked_all kind tube bound done first jobs l in_turn none =
-    let nothing : jobs_of kind tube jobs ≡ [] = ap (in_order (is_before_of kind)) (none_of_kind kind tube jobs none) in
+pub kicked_all : (list : JobList) (tube : List ℕ) (bound done : ℕ) (first jobs : List Job) → done ≤ bound
+    → ((n : ℕ) → all_kicked (take (done + n) (jobs_of list tube first)) first ≡ all_kicked (take n (jobs_of list tube jobs)) jobs)
+    → None ≡ option_map (λ j. j.id) (first_in list tube jobs)
+    → all_kicked (take bound (jobs_of list tube first)) first ≡ jobs
+kicked_all list tube bound done first jobs l in_turn none =
+    let nothing : jobs_of list tube jobs ≡ [] = ap (in_order (is_before_by (list_rank list))) (none_in_list list tube jobs none) in
     let whole : bound ≡ done + (bound - done) = omega arith in
-    ap (λ n. all_kicked (take n (jobs_of kind tube first)) first) whole ∙ in_turn (bound - done)
+    ap (λ n. all_kicked (take n (jobs_of list tube first)) first) whole ∙ in_turn (bound - done)
     ∙ ap (λ ks. all_kicked ks jobs) (ap (take (bound - done)) nothing ∙ take-nil (bound - done)) ∙ none_kicked jobs
+
+pub all_counted : (list : JobList) (tube : List ℕ) (bound done : ℕ) (first jobs : List Job) → done ≤ bound
+    → ((n : ℕ) → length (take (done + n) (jobs_of list tube first)) ≡ done + length (take n (jobs_of list tube jobs)))
+    → None ≡ option_map (λ j. j.id) (first_in list tube jobs)
+    → done ≡ length (take bound (jobs_of list tube first))
+all_counted list tube bound done first jobs l in_turn none =
+    let nothing : jobs_of list tube jobs ≡ [] = ap (in_order (is_before_by (list_rank list))) (none_in_list list tube jobs none) in
+    let whole : bound ≡ done + (bound - done) = omega arith in
+    let left : length (take (bound - done) (jobs_of list tube jobs)) ≡ 0 = ap (λ ks. length (take (bound - done) ks)) nothing
+    ∙ ap (λ (ks : List Job). length ks) (take-nil (bound - done)) in
+    sym (ap (λ n. length (take n (jobs_of list tube first))) whole ∙ in_turn (bound - done) ∙ omega (arith, left))

@@ -3,8 +3,8 @@ use Rattle.std.specs.Prelude.{Bool, Option, ℕ, ◌≡◌}
 use Rattle.bq_core.specs.{Acting.Replies, declared.acts.Reply.Reply}
 use Rattle.bq_job.specs.{declared.answer.Answer.Answer, machine.{Effect, SeatRecord, reserve_effect, showing, silent}}
 use Rattle.bq_job.specs.machine.Machine.{Machine}
-use Rattle.bq_state.specs.{CoreParts.{AtSeat, machine_of}, JobKinds.first_of_kind, declared.core_parts.CoreParts.CoreParts}
-use Rattle.bq_state.specs.declared.job_store.JobKind.{JobKind}
+use Rattle.bq_state.specs.{CoreParts.{AtSeat, machine_of}, declared.core_parts.CoreParts.CoreParts}
+use Rattle.bq_jobs.specs.{Ranks.first_in, declared.places.JobList.JobList}
 
 -- a request had this outcome
 abbrev pub RepliesBy : Bool → (Machine → Effect) → CoreParts → Reply → Answer → CoreParts → Type 0
@@ -23,6 +23,6 @@ abbrev pub Waits : ℕ → Option ℕ → CoreParts → CoreParts → Type 0
 Waits seat until old new =
     (s : SeatRecord) → s.number ≡ seat → reserve_effect until (machine_of old) s ≡ silent (machine_of new)
 
--- the first job of this kind in the tube that the client uses is shown
-abbrev pub peek_first_effect : JobKind → Machine → SeatRecord → Effect
-peek_first_effect kind m s = showing m (first_of_kind kind s.used m.jobs)
+-- the first job in this list of the tube that the client uses is shown
+abbrev pub peek_first_effect : JobList → Machine → SeatRecord → Effect
+peek_first_effect list m s = showing m (first_in list s.used m.jobs)

@@ -11,9 +11,9 @@ use crate::job_acts::{NewJob, NewTurn};
 use crate::{answering, job_acts, kicks, statistics_acts, timers, tube_acts};
 use bq_core_api::Outs;
 use bq_job::{Answer, Refusal, Request, Seat, Step};
+use bq_jobs::JobList;
 use bq_state::changes;
 use bq_state::core_parts::CoreParts;
-use bq_state::job_store::JobKind;
 use bq_state::seats::SeatChange;
 use std::alloc::Global;
 use std::mem::replace;
@@ -113,9 +113,9 @@ fn carry_out(
         Request::Watch { ref tube } => tube_acts::watch(state, alloc, seat, tube, answer),
         Request::Ignore { ref tube } => tube_acts::ignore(state, seat, tube, answer),
         Request::Peek { id } => tube_acts::peek(state, id, answer),
-        Request::PeekReady => tube_acts::peek_first(state, seat, JobKind::Ready, answer),
-        Request::PeekDelayed => tube_acts::peek_first(state, seat, JobKind::Delayed, answer),
-        Request::PeekBuried => tube_acts::peek_first(state, seat, JobKind::Buried, answer),
+        Request::PeekReady => tube_acts::peek_first(state, seat, JobList::Ready, answer),
+        Request::PeekDelayed => tube_acts::peek_first(state, seat, JobList::Delayed, answer),
+        Request::PeekBuried => tube_acts::peek_first(state, seat, JobList::Buried, answer),
         Request::PauseTube { ref tube, delay } => {
             tube_acts::pause(state, tube, delay, answer);
             Reply::Told

@@ -17,7 +17,7 @@ ghost use Rattle.bq_job.specs.declared.answer.Answer.TheVariants as answers;
 use crate::{acts, answering};
 use bq_core_api::Outs;
 use bq_job::{Body, JobId, NoMemory, Request, Seat, Step};
-use bq_jobs::{NumberedJobs, Tube};
+use bq_jobs::{JobList, NumberedJobs, Tube};
 use bq_state::core_parts::CoreParts;
 use bq_state::job_store::JobChange;
 use bq_state::known::Wanted;
@@ -59,7 +59,7 @@ fn offer_of(jobs: &mut NumberedJobs, tubes: &Tubes, tube: &Tube) -> Option<Offer
     if tubes.is_paused(tube.name(), tube.number()) {
         None
     } else {
-        jobs.most_urgent(tubes.names(), tube)
+        jobs.first_listed(tubes.names(), JobList::Ready, tube)
     }
 }
 

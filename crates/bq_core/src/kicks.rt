@@ -2,46 +2,46 @@ ghost use Rattle.std.specs.Prelude.{false, length, take, ◌*◌, ◌+◌, ◌�
 ghost use Rattle.bq_core.specs.{Kicking.jobs_of, Replying.RepliesAt};
 ghost use Rattle.bq_core_api.specs.Cost.{changed_jobs};
 ghost use Rattle.bq_job.specs.{declared.job.Job.Job, machine.JobCommands.{after_kick, kick_effect, kickable, kicked}};
-ghost use Rattle.bq_jobs.specs.Searching.{Asks, Searches};
-ghost use Rattle.bq_state.specs.{Asking.AsksAsChanged, CoreParts.{count_jobs, machine_of}, JobKinds.is_of};
+ghost use Rattle.bq_jobs.specs.{Ranks.is_listed, Searching.{Asks, Searches}};
+ghost use Rattle.bq_state.specs.{Asking.AsksAsChanged, CoreParts.{count_jobs, machine_of}};
 
 use crate::acts::{Reply, set_answer};
 use bq_job::{Answer, Seat};
-use bq_jobs::{NumberedJobs, NumberedTubes, Tube};
+use bq_jobs::{JobList, NumberedJobs, NumberedTubes, Tube};
 use bq_state::core_parts::CoreParts;
-use bq_state::job_store::{JobChange, JobKind};
-use bq_state::{changes, seats};
+use bq_state::job_store::JobChange;
+use bq_state::{changes, job_store, seats};
 
 // Returns which jobs of a tube a kick makes ready: the buried ones or, if there are none, the
 // delayed ones.
 #[tactic(auto, using(crate::proofs::KickLemmas::kickable_buried, crate::proofs::KickLemmas::kickable_delayed))]
-fn kind_to_kick(jobs: &mut NumberedJobs, tubes: &NumberedTubes, tube: &Tube) -> JobKind
+fn list_to_kick(jobs: &mut NumberedJobs, tubes: &NumberedTubes, tube: &Tube) -> JobList
     requires same { tubes.now.numbers ≡ jobs.old.tubes }
     ensures order { jobs_of result tube.now jobs.old.jobs ≡ kickable tube.now jobs.old.jobs }
-    ensures out { (k : Job) → is_of result tube.now (kicked k) ≡ false }
+    ensures out { (k : Job) → is_listed result tube.now (kicked k) ≡ false }
     ensures kept { Searches 1 jobs.old jobs.new }
 {
-    match jobs.first_buried(tubes, tube) {
-        Some(_) => JobKind::Buried,
-        None => JobKind::Delayed,
+    match job_store::first(jobs, tubes, JobList::Buried, tube) {
+        Some(_) => JobList::Buried,
+        None => JobList::Delayed,
     }
 }
 
-// Kicks at most `bound` jobs of this kind, in order, and returns how many.
-#[tactic(auto, using(crate::proofs::ToldLemmas::loop_asks, crate::proofs::KickLemmas::none_of_kind))]
-fn kick_some(state: &mut CoreParts, kind: JobKind, tube: &Tube, bound: u32) -> u64
-    requires out { (k : Job) → is_of kind tube.now (kicked k) ≡ false }
+// Kicks at most `bound` jobs in this list of the tube, in order, and returns how many.
+#[tactic(auto, using(crate::proofs::ToldLemmas::loop_asks, crate::proofs::KickLemmas::none_in_list))]
+fn kick_some(state: &mut CoreParts, list: JobList, tube: &Tube, bound: u32) -> u64
+    requires out { (k : Job) → is_listed list tube.now (kicked k) ≡ false }
     ensures kicked { machine_of state.new
-        ≡ after_kick (take bound (jobs_of kind tube.now state.old.jobs.jobs))
+        ≡ after_kick (take bound (jobs_of list tube.now state.old.jobs.jobs))
         (machine_of state.old) }
     ensures count { result
-        ≡ length (take bound (jobs_of kind tube.now (machine_of state.old).jobs)) }
-    ensures fewer { count_jobs (is_of kind tube.now) state.new
-        + result ≤ count_jobs (is_of kind tube.now) state.old }
+        ≡ length (take bound (jobs_of list tube.now (machine_of state.old).jobs)) }
+    ensures fewer { count_jobs (is_listed list tube.now) state.new
+        + result ≤ count_jobs (is_listed list tube.now) state.old }
     ensures asks { Asks (9 * result + 1) state.old.jobs state.new.jobs }
 {
     for done in 0..bound {
-        let Some(id) = state.first(kind, tube) else {
+        let Some(id) = state.first(list, tube) else {
             return u64::from(done);
         };
         changes::change_job(state, id, &JobChange::Kick);
@@ -60,8 +60,8 @@ fn kick_in(state: &mut CoreParts, tube: &Tube, bound: u32) -> u64
         ≤ changed_jobs (machine_of state.old).jobs (machine_of state.new).jobs }
     ensures asks { Asks (9 * result + 2) state.old.jobs state.new.jobs }
 {
-    let kind = kind_to_kick(&mut state.jobs, state.tubes.names(), tube);
-    kick_some(state, kind, tube, bound)
+    let list = list_to_kick(&mut state.jobs, state.tubes.names(), tube);
+    kick_some(state, list, tube, bound)
 }
 
 /// Kicks at most `bound` jobs of the tube that the client uses.

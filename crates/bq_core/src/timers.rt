@@ -11,7 +11,7 @@ ghost use Rattle.bq_state.specs.{Dues.{with_seat_due, with_warning_due}, FirstTi
 ghost use Rattle.bq_state.specs.{WaitingTurns.at_turn, Warnings.{AreWarned, is_waiting_there}};
 
 use bq_job::{JobId, JobState, Moment, Seat};
-use bq_jobs::NumberedJobs;
+use bq_jobs::{NumberedJobs, Timer};
 use bq_state::core_parts::CoreParts;
 use bq_state::job_store::JobChange;
 use bq_state::known::{FirstTimeout, Warns, earlier_of, first_to_give_up};
@@ -35,7 +35,7 @@ fn first_delayed(state: &mut CoreParts) -> Option<(Moment, JobId)>
     if !state.has_delayed() {
         return None;
     }
-    state.jobs.next_due()
+    state.jobs.first_timed(Timer::Due)
 }
 
 // Returns the reserved job whose time to run ends first, and when it does. If no client holds a
@@ -49,7 +49,7 @@ fn first_lease(state: &mut CoreParts) -> Option<(Moment, JobId)>
     if !state.has_lease() {
         return None;
     }
-    state.jobs.next_deadline()
+    state.jobs.first_timed(Timer::Lease)
 }
 
 // Returns the id of the job that was found, if its moment has come.
@@ -131,7 +131,7 @@ pub(crate) fn give_back_all(state: &mut CoreParts, seat: Seat, becomes: JobState
     ensures asks { Asks
         (9 * count_jobs (is_held_by seat) state.old + 1) state.old.jobs state.new.jobs }
 {
-    while let Some(id) = state.jobs.first_held(seat) {
+    while let Some((_, id)) = state.jobs.first_held(seat) {
         changes::change_job(state, id, &JobChange::GiveBack(becomes));
     }
 }
@@ -153,7 +153,7 @@ fn warning_due(jobs: &mut NumberedJobs, client: &SeatRecord) -> Option<Moment>
     if !client.is_waiting() {
         return None;
     }
-    match jobs.next_deadline_of(client.number()) {
+    match jobs.first_held(client.number()) {
         None => None,
         Some((deadline, _)) => Some(deadline.saturating_sub(1000)),
     }

@@ -1,16 +1,15 @@
 ghost use Rattle.std.specs.{Option.option_map, Prelude.{false, true, ◌≡◌}};
 ghost use Rattle.bq_core.specs.Replying.{RepliesAt, RepliesBy, RepliesTo, peek_first_effect};
 ghost use Rattle.bq_job.specs.machine.{Acts.telling, TubeCommands.{ignore_effect, pause_effect, peek_effect, use_effect, watch_effect}};
-ghost use Rattle.bq_jobs.specs.Searching.{Asks};
-ghost use Rattle.bq_state.specs.{Asking.AsksAsChanged, CoreParts.{AtSeat, machine_of}, JobKinds.first_of_kind, Keeping.Looks};
+ghost use Rattle.bq_jobs.specs.{Ranks.first_in, Searching.Asks};
+ghost use Rattle.bq_state.specs.{Asking.AsksAsChanged, CoreParts.{AtSeat, machine_of}, Keeping.Looks};
 ghost use Rattle.bq_job.specs.declared.answer.Answer.TheVariants as answers;
 
 use crate::acts::{Reply, set_answer};
 use crate::job_acts::not_found;
 use bq_job::{Answer, JobId, Seat, TubeName};
-use bq_jobs::Tube;
+use bq_jobs::{JobList, Tube};
 use bq_state::core_parts::CoreParts;
-use bq_state::job_store::JobKind;
 use bq_state::seats::SeatChange;
 use bq_state::tubes::TubeChange;
 use bq_state::{changes, job_store, seats};
@@ -151,28 +150,28 @@ pub(crate) fn peek(state: &mut CoreParts, id: JobId, answer: &mut Answer) -> Rep
     show(state, id, answer)
 }
 
-// Returns the id of the first job of this kind in the tube that the client uses.
-fn first_used(state: &mut CoreParts, seat: Seat, kind: JobKind) -> Option<JobId>
+// Returns the id of the first job in this list of the tube that the client uses.
+fn first_used(state: &mut CoreParts, seat: Seat, list: JobList) -> Option<JobId>
     ensures id { AtSeat seat state.old
-        (λ s. result ≡ option_map (λ j. j.id) (first_of_kind kind s.used state.old.jobs.jobs)) }
+        (λ s. result ≡ option_map (λ j. j.id) (first_in list s.used state.old.jobs.jobs)) }
     ensures kept { Looks 1 state.old state.new }
 {
     let client = seats::find(state.seats.as_slice(), seat)?;
-    job_store::first(&mut state.jobs, state.tubes.names(), kind, client.used())
+    job_store::first(&mut state.jobs, state.tubes.names(), list, client.used())
 }
 
-/// Shows the first job of this kind in the tube that the client uses.
+/// Shows the first job in this list of the tube that the client uses.
 pub(crate) fn peek_first(
     state: &mut CoreParts,
     seat: Seat,
-    kind: JobKind,
+    list: JobList,
     answer: &mut Answer,
 ) -> Reply
     ensures reply { RepliesAt seat false
-        (peek_first_effect kind) state.old result answer.new state.new }
+        (peek_first_effect list) state.old result answer.new state.new }
     ensures asks { AsksAsChanged state.old.jobs state.new.jobs }
 {
-    match first_used(state, seat, kind) {
+    match first_used(state, seat, list) {
         None => not_found(answer),
         Some(id) => show(state, id, answer),
     }

@@ -9,7 +9,7 @@ ghost use Rattle.bq_state.specs.{EndingWaits.{may_end, told_at_end, waits_after}
 
 use bq_core_api::Outs;
 use bq_job::{Answer, JobId, Moment, Seat};
-use bq_jobs::NumberedJobs;
+use bq_jobs::{NumberedJobs, Timer};
 use bq_state::core_parts::CoreParts;
 use bq_state::known::{self, FirstTimeout};
 use bq_state::seats::Turn;
@@ -30,7 +30,7 @@ fn is_deadline_soon(jobs: &mut NumberedJobs, seat: Seat, moment: Moment) -> bool
     ensures soon { result ≡ list_any (λ j. is_ending_lease moment seat j.state) jobs.old.jobs }
     ensures kept { Searches 1 jobs.old jobs.new }
 {
-    is_soon(jobs.next_deadline_of(seat), moment)
+    is_soon(jobs.first_held(seat), moment)
 }
 
 // Returns true if the time to run of some reserved job ends within a second. Like the two functions
@@ -41,7 +41,7 @@ fn is_some_deadline_soon(jobs: &mut NumberedJobs, moment: Moment) -> bool
     ensures soon { result ≡ list_any (is_lease_short moment) jobs.old.jobs }
     ensures kept { Searches 1 jobs.old jobs.new }
 {
-    is_soon(jobs.next_deadline(), moment)
+    is_soon(jobs.first_timed(Timer::Lease), moment)
 }
 
 // Returns the answer to the waiting client at place k if its wait ends now. Its first lease is

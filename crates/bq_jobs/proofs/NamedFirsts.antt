@@ -4,15 +4,17 @@ use Rattle.std.specs.Prelude.{fold}
 use Rattle.std.specs.List.{AllByRecursion as All}
 use Rattle.std.specs.Option.{option_map}
 use Rattle.bq_job.specs.declared.job.Job.{Job}
-use Rattle.bq_job.specs.machine.Changes.{better_of, first_of, is_pair_before}
+use Rattle.bq_job.specs.machine.Changes.{better_of, first_of, is_held_by, is_pair_before}
 use Rattle.bq_jobs.specs.declared.places.JobList.{JobList}
 use Rattle.bq_jobs.specs.declared.places.Timer.{Timer}
 use Rattle.bq_jobs.specs.declared.places.Timer.TheVariants as timers
 use Rattle.bq_jobs.specs.Kept.{ranked}
+use Rattle.bq_jobs.specs.Leases.{deadline_of, is_lease_before}
 use Rattle.bq_jobs.specs.Names.{number_in}
 use Rattle.bq_jobs.specs.Numbering.{AreNumbered, AreRegistered, IsPaired, Numbering, named, number_of}
 use Rattle.bq_jobs.specs.Places.{held_by, list_of}
-use Rattle.bq_jobs.specs.Ranks.{first_by, first_held, first_timed, is_in_list, is_listed, list_rank}
+use Rattle.bq_jobs.specs.Ranks.{first_by, first_held, first_in, first_timed, is_before_by, is_in_list, is_listed, is_timed, list_rank}
+use Rattle.bq_jobs.specs.Ranks.{moment_of}
 use Rattle.bq_jobs.proofs.NamedJobs.{all_told, none_told}
 
 module _ (f : Job → Job) (passes test : Job → Bool) (before : Job → Job → Bool)
@@ -44,7 +46,7 @@ module _ (k : Numbering) (passes test : Job → Bool) (number : Job → ℕ) (sa
 -- as in a list of a registered tube,
 listed_by : (k : Numbering) (h : IsPaired k) (name : List ℕ) (n : ℕ) → number_of name k ≡ Some n → (list : JobList) (rows : List Job)
     → AreNumbered k rows
-    → first_held (list_of name list) (map (named k) rows) ≡ first_held (list_of (n ∷ []) list) rows
+    → option_map (ranked (list_rank list)) (first_in list name (map (named k) rows)) ≡ first_held (list_of (n ∷ []) list) rows
 unfolding first_held
 listed_by k h name n own list rows all =
     first_told k (is_listed list name) (is_listed list (n ∷ [])) (list_rank list) (λ j. refl) rows
@@ -52,7 +54,7 @@ listed_by k h name n own list rows all =
 
 pub listed_told : (k : Numbering) (rows : List Job) → AreRegistered k rows → (name n : List ℕ) → number_of name k ≡ Some (number_in n)
     → n ≡ number_in n ∷ [] → (list : JobList)
-    → first_held (list_of name list) (map (named k) rows) ≡ first_held (list_of n list) rows
+    → option_map (ranked (list_rank list)) (first_in list name (map (named k) rows)) ≡ first_held (list_of n list) rows
 listed_told k rows h name n own alone list = grind (arith, listed_by)
 
 -- among those of a client, and among delays and leases.
@@ -61,11 +63,13 @@ all_alike test [] = tt
 all_alike test (j ∷ rows) = (refl, all_alike test rows)
 
 pub seat_told : (k : Numbering) (seat : ℕ) (rows : List Job)
-    → first_held (held_by seat) (map (named k) rows) ≡ first_held (held_by seat) rows
+    → option_map (ranked (λ j. deadline_of j.state)) (first_of (is_held_by seat) is_lease_before (map (named k) rows))
+    ≡ first_held (held_by seat) rows
 unfolding first_held
 seat_told k seat rows = search (first_told, all_alike)
 
-pub timed_told : (k : Numbering) (t : Timer) (rows : List Job) → first_timed t (map (named k) rows) ≡ first_timed t rows
+pub timed_told : (k : Numbering) (t : Timer) (rows : List Job)
+    → option_map (ranked (moment_of t)) (first_by (is_timed t) (moment_of t) (map (named k) rows)) ≡ first_timed t rows
 unfolding first_timed
 timed_told k timers.Due rows = search (first_told, all_alike)
 timed_told k timers.Lease rows = search (first_told, all_alike)
@@ -77,9 +81,8 @@ none_first f passes before [] all = refl
 none_first f passes before (j ∷ rows) all = grind (arith, none_first f passes before rows all.1)
 
 pub none_listed : (k : Numbering) (rows : List Job) → AreRegistered k rows → (name : List ℕ) → number_of name k ≡ None → (list : JobList)
-    → first_held (list_of name list) (map (named k) rows) ≡ None
-unfolding first_held
+    → option_map (ranked (list_rank list)) (first_in list name (map (named k) rows)) ≡ None
 none_listed k rows h name none list =
     ap (option_map (ranked (list_rank list)))
-    (none_first (named k) (is_listed list name) (λ a b. is_pair_before (list_rank list a) a.id (list_rank list b) b.id) rows
+    (none_first (named k) (is_listed list name) (is_before_by (list_rank list)) rows
     (none_told k h.paired name none (λ j. is_in_list list j.state) rows h.numbered))

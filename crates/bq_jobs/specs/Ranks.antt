@@ -50,9 +50,17 @@ abbrev pub moment_of : Timer → Job → ℕ
 moment_of timers.Due j = due_of j.state
 moment_of timers.Lease j = deadline_of j.state
 
--- the first of the jobs that pass: by a number, then by id
+-- the order of jobs by a number, then by id
+abbrev pub is_before_by : (Job → ℕ) → Job → Job → Bool
+is_before_by number a b = is_pair_before (number a) a.id (number b) b.id
+
+-- the first of the jobs that pass, in that order
 abbrev pub first_by : (Job → Bool) → (Job → ℕ) → List Job → Option Job
-first_by passes number jobs = first_of passes (λ a b. is_pair_before (number a) a.id (number b) b.id) jobs
+first_by passes number jobs = first_of passes (is_before_by number) jobs
+
+-- the first job in a list of a tube
+abbrev pub first_in : JobList → List ℕ → List Job → Option Job
+first_in list tube jobs = first_by (is_listed list tube) (list_rank list) jobs
 
 -- the number and the id of the first job of a holder
 unfoldable pub first_held : Holder → List Job → Option (ℕ × ℕ)

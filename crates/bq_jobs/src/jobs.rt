@@ -8,11 +8,7 @@ ghost use Rattle.std.specs.Cmp.Lexicographic.{slice_cmp};
 ghost use Rattle.std.specs.Map.{remove_entry};
 ghost use Rattle.std.specs.Ordering.{nat_cmp};
 ghost use Rattle.bq_job.specs.machine.Changes.{first_of, is_held_by, job_with};
-ghost use Rattle.bq_job.specs.machine.Dispatch.{is_job_before};
-ghost use Rattle.bq_job.specs.machine.JobCommands.{is_buried_in, is_delayed_in};
-ghost use Rattle.bq_job.specs.machine.JobStates.{due_of, is_buried_before, is_delayed, is_due_before, is_reserved};
 ghost use Rattle.bq_job.specs.beside.Lawful.{AreIdsWithin};
-ghost use Rattle.bq_job.specs.machine.TubeCommands.{is_ready_in};
 ghost use Rattle.bq_job.specs.reading.TubeName.{is_same_name};
 ghost use Rattle.std.specs.List.{list_any};
 ghost use Rattle.bq_index.specs.Removed.{passing};
@@ -24,8 +20,7 @@ ghost use Rattle.bq_jobs.specs.Told.{moved_told, removed_told, shared_told};
 ghost use Rattle.bq_jobs.specs.Kept.{ComparesAtMost, ranked, with_added};
 ghost use Rattle.bq_jobs.specs.Laws.{AddsAtTheEnd, ChosenHasItsId, NextIsFree};
 ghost use Rattle.bq_jobs.specs.Leases.{deadline_of, is_lease_before};
-ghost use Rattle.bq_jobs.specs.Places.{held_by, list_of};
-ghost use Rattle.bq_jobs.specs.Ranks.{first_held, first_timed, id_in};
+ghost use Rattle.bq_jobs.specs.Ranks.{first_by, first_in, is_timed, list_rank, moment_of};
 ghost use Rattle.bq_jobs.specs.Room.{MakesRoom, RemovesIf};
 ghost use Rattle.bq_jobs.specs.Searching.{FindsById, Searches};
 ghost use Rattle.bq_jobs.specs.Sharing.{SharesAndChanges};
@@ -268,133 +263,19 @@ impl NumberedJobs {
         self.orders.share_body(id)
     }
 
-    /// Returns the id of the most urgent ready job of a tube: by priority, then by id.
-    #[tactic(auto, using(crate::proofs::FirstJobs::held_id))]
-    pub fn first_ready(&mut self, tubes: &NumberedTubes, tube: &Tube) -> Option<JobId>
-        requires same { tubes.now.numbers ≡ self.old.tubes }
-        ensures id { result
-            ≡ option_map (λ j. j.id) (first_of (is_ready_in tube.now) is_job_before self.old.jobs) }
-        ensures kept { Searches 1 self.old self.new }
-    {
-        id_in(self.first_listed(tubes, JobList::Ready, tube))
-    }
-
-    /// Returns the id of the delayed job of a tube that is due first: by due moment, then by id.
-    #[tactic(auto, using(crate::proofs::FirstJobs::held_id))]
-    pub fn first_delayed(&mut self, tubes: &NumberedTubes, tube: &Tube) -> Option<JobId>
-        requires same { tubes.now.numbers ≡ self.old.tubes }
-        ensures id { result
-            ≡ option_map (λ j. j.id)
-            (first_of (is_delayed_in tube.now) is_due_before self.old.jobs) }
-        ensures kept { Searches 1 self.old self.new }
-    {
-        id_in(self.first_listed(tubes, JobList::Delayed, tube))
-    }
-
-    /// Returns the id of the job of a tube that was buried first: by burial number, then by id.
-    #[tactic(auto, using(crate::proofs::FirstJobs::held_id))]
-    pub fn first_buried(&mut self, tubes: &NumberedTubes, tube: &Tube) -> Option<JobId>
-        requires same { tubes.now.numbers ≡ self.old.tubes }
-        ensures id { result
-            ≡ option_map (λ j. j.id)
-            (first_of (is_buried_in tube.now) is_buried_before self.old.jobs) }
-        ensures kept { Searches 1 self.old self.new }
-    {
-        id_in(self.first_listed(tubes, JobList::Buried, tube))
-    }
-
-    /// Returns the id of the delayed job that is due first, in any tube: by due moment, then by id.
-    #[tactic(auto, using(crate::proofs::FirstJobs::timed_id))]
-    pub fn first_due(&mut self) -> Option<JobId>
-        ensures id { result
-            ≡ option_map (λ j. j.id)
-            (first_of (λ j. is_delayed j.state) is_due_before self.old.jobs) }
-        ensures kept { Searches 1 self.old self.new }
-    {
-        id_in(self.first_timed(Timer::Due))
-    }
-
-    /// Returns the id of the reserved job whose time to run ends first, among those of all clients:
-    /// by deadline, then by id.
-    #[tactic(auto, using(crate::proofs::FirstJobs::timed_id))]
-    pub fn first_lease(&mut self) -> Option<JobId>
-        ensures id { result
-            ≡ option_map (λ j. j.id)
-            (first_of (λ j. is_reserved j.state) is_lease_before self.old.jobs) }
-        ensures kept { Searches 1 self.old self.new }
-    {
-        id_in(self.first_timed(Timer::Lease))
-    }
-
-    /// Returns the id of the job of the client at a seat whose time to run ends first: by deadline,
-    /// then by id.
-    #[tactic(auto, using(crate::proofs::FirstJobs::held_id))]
-    pub fn first_held(&mut self, seat: Seat) -> Option<JobId>
-        ensures id { result
-            ≡ option_map (λ j. j.id) (first_of (is_held_by seat) is_lease_before self.old.jobs) }
-        ensures kept { Searches 1 self.old self.new }
-    {
-        id_in(self.first_at_seat(seat))
-    }
-
-    /// Returns the priority and the id of the most urgent ready job of a tube: by priority, then by
-    /// id.
-    #[tactic(auto, unfolding(crate::specs::Ranks::first_held))]
-    pub fn most_urgent(&mut self, tubes: &NumberedTubes, tube: &Tube) -> Option<(u64, JobId)>
-        requires same { tubes.now.numbers ≡ self.old.tubes }
-        ensures rank { result
-            ≡ option_map (ranked (λ j. j.pri))
-            (first_of (is_ready_in tube.now) is_job_before self.old.jobs) }
-        ensures kept { Searches 1 self.old self.new }
-    {
-        self.first_listed(tubes, JobList::Ready, tube)
-    }
-
-    /// Returns the due moment and the id of the delayed job that is due first, in any tube.
-    #[tactic(auto, unfolding(crate::specs::Ranks::first_timed))]
-    pub fn next_due(&mut self) -> Option<(Moment, JobId)>
-        ensures rank { result
-            ≡ option_map (ranked (λ j. due_of j.state))
-            (first_of (λ j. is_delayed j.state) is_due_before self.old.jobs) }
-        ensures kept { Searches 1 self.old self.new }
-    {
-        self.first_timed(Timer::Due)
-    }
-
-    /// Returns the deadline and the id of the reserved job whose time to run ends first, among
-    /// those of all clients.
-    #[tactic(auto, unfolding(crate::specs::Ranks::first_timed))]
-    pub fn next_deadline(&mut self) -> Option<(Moment, JobId)>
-        ensures rank { result ≡ option_map (ranked (λ j. deadline_of j.state))
-            (first_of (λ j. is_reserved j.state) is_lease_before self.old.jobs) }
-        ensures kept { Searches 1 self.old self.new }
-    {
-        self.first_timed(Timer::Lease)
-    }
-
-    /// Returns the deadline and the id of the job of the client at a seat whose time to run ends
-    /// first.
-    #[tactic(auto, unfolding(crate::specs::Ranks::first_held))]
-    pub fn next_deadline_of(&mut self, seat: Seat) -> Option<(Moment, JobId)>
-        ensures rank { result
-            ≡ option_map (ranked (λ j. deadline_of j.state))
-            (first_of (is_held_by seat) is_lease_before self.old.jobs) }
-        ensures kept { Searches 1 self.old self.new }
-    {
-        self.first_at_seat(seat)
-    }
-
-    // Returns the number and the id of the first job of a tube in one state: by that number, then
-    // by id.
-    #[tactic(auto, using(crate::proofs::NamedFirsts::listed_told, crate::proofs::NamedFirsts::none_listed))]
-    fn first_listed(
+    /// Returns the number and the id of the first job in a list of a tube: by that number, then by
+    /// id. The number is the priority of a ready job, the due moment of a delayed one, and the burial
+    /// number of a buried one.
+    #[tactic(auto, using(crate::proofs::NamedFirsts::listed_told))]
+    pub fn first_listed(
         &mut self,
         tubes: &NumberedTubes,
         list: JobList,
         tube: &Tube,
     ) -> Option<(u64, JobId)>
         requires same { tubes.now.numbers ≡ self.old.tubes }
-        ensures rank { result ≡ first_held (list_of tube.now list) self.old.jobs }
+        ensures rank { result
+            ≡ option_map (ranked (list_rank list)) (first_in list tube.now self.old.jobs) }
         ensures kept { Searches 1 self.old self.new }
     {
         let orders = &mut self.orders;
@@ -402,19 +283,24 @@ impl NumberedJobs {
         orders.first_of_group(Group::list(list, number))
     }
 
-    // Returns the deadline and the id of the first job of the client at a seat.
+    /// Returns the deadline and the id of the job of the client at a seat whose time to run ends
+    /// first: by deadline, then by id.
     #[tactic(auto, using(crate::proofs::NamedFirsts::seat_told))]
-    fn first_at_seat(&mut self, seat: Seat) -> Option<(Moment, JobId)>
-        ensures rank { result ≡ first_held (held_by seat) self.old.jobs }
+    pub fn first_held(&mut self, seat: Seat) -> Option<(Moment, JobId)>
+        ensures rank { result
+            ≡ option_map (ranked (λ j. deadline_of j.state))
+            (first_of (is_held_by seat) is_lease_before self.old.jobs) }
         ensures kept { Searches 1 self.old self.new }
     {
         self.orders.first_of_group(Group::held(seat))
     }
 
-    // Returns the moment and the id of the first delay or of the first lease.
+    /// Returns the moment and the id of the delayed job that is due first, or of the reserved job
+    /// whose time to run ends first, in any tube: by moment, then by id.
     #[tactic(auto, using(crate::proofs::NamedFirsts::timed_told))]
-    fn first_timed(&mut self, timer: Timer) -> Option<(Moment, JobId)>
-        ensures rank { result ≡ first_timed timer self.old.jobs }
+    pub fn first_timed(&mut self, timer: Timer) -> Option<(Moment, JobId)>
+        ensures rank { result
+            ≡ option_map (ranked (moment_of timer)) (first_by (is_timed timer) (moment_of timer) self.old.jobs) }
         ensures kept { Searches 1 self.old self.new }
     {
         self.orders.first_of_timer(timer)
@@ -442,15 +328,6 @@ impl NumberedJobs {
         tubes.paired();
         self.tubes = Snapshot::of(tubes);
     }
-}
-
-// Returns the id in a pair.
-#[tactic(auto, unfolding(crate::specs::Ranks::id_in))]
-pub(crate) fn id_in(rank: Option<(u64, JobId)>) -> Option<JobId>
-    ensures { result ≡ id_in rank }
-{
-    let (_, id) = rank?;
-    Some(id)
 }
 
 // Returns the number of a tube, if it is registered.

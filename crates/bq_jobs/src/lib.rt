@@ -24,6 +24,7 @@ pub use ghost_name::GhostName;
 pub use job_orders::{JobEdit, Moved, PackedJob, PackedTest, Removed, Standing};
 pub use jobs::{NumberedJobs, adds_at_the_end, chosen_has_its_id, next_is_free};
 pub use named_jobs::Jobs;
+pub use places::{JobList, Timer};
 pub use table::TubeTable;
 pub use tube::Tube;
 pub use tubes::{NumberedTubes, TubeNumber};

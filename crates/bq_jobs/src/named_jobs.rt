@@ -10,11 +10,10 @@ ghost use Rattle.bq_job.specs.beside.Lawful.{AreIdsWithin};
 ghost use Rattle.bq_job.specs.machine.TubeCommands.{is_ready_in};
 ghost use Rattle.bq_jobs.specs.Kept.{ComparesAtMost, with_added};
 ghost use Rattle.bq_jobs.specs.Leases.{is_lease_before};
-ghost use Rattle.bq_jobs.specs.Ranks.{first_held, first_timed};
+ghost use Rattle.bq_jobs.specs.Ranks.{first_held, first_timed, id_in};
 ghost use Rattle.bq_jobs.specs.Room.{MakesRoom, Removes};
 ghost use Rattle.bq_jobs.specs.Searching.{Searches};
 
-use super::jobs::id_in;
 use super::named_group::{self, NamedGroup};
 use super::places::{self, JobList, ShelfPlace, Timer};
 use bq_index::{BoxSource, Shelf};
@@ -231,4 +230,13 @@ impl Jobs {
     {
         places::first_rank(&mut self.timers, timer)
     }
+}
+
+// Returns the id in a pair.
+#[tactic(auto, unfolding(crate::specs::Ranks::id_in))]
+fn id_in(rank: Option<(u64, JobId)>) -> Option<JobId>
+    ensures { result ≡ id_in rank }
+{
+    let (_, id) = rank?;
+    Some(id)
 }

@@ -8,7 +8,6 @@ pub mod EndingWaits
 pub mod FirstTimeouts
 pub mod HandOuts
 pub mod JobChanges
-pub mod JobKinds
 pub mod Keeping
 pub mod KeptTubes
 pub mod Knowledge

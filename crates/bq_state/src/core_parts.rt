@@ -2,7 +2,7 @@
 ghost use Rattle.std.specs.Prelude.{◌≡◌};
 ghost use Rattle.bq_state.specs.Soundness.{Soundness, Soundness-prop};
 
-use crate::job_store::{JobKind, JobTest};
+use crate::job_store::JobTest;
 use crate::known::{Known, Tally};
 use crate::seats::SeatRecord;
 use crate::tubes::{Crowd, Tubes};
@@ -10,7 +10,7 @@ use crate::waiting::Waiting;
 use crate::{job_store, seats};
 use bq_core_api::Config;
 use bq_job::{Body, JobId, Moment, NoMemory, Seat, TubeName};
-use bq_jobs::{NumberedJobs, Tube, TubeNumber};
+use bq_jobs::{JobList, NumberedJobs, Tube, TubeNumber};
 use std::alloc::Global;
 
 /// The state of a core. Its invariants are stated here, once: code that builds or changes a state
@@ -52,9 +52,9 @@ impl CoreParts {
     ghost use Rattle.std.specs.{List.list_any, Option.option_map, Prelude.{IfOk, IfSome, count_by, filter, is_some, ◌&&◌}};
     ghost use Rattle.bq_job.specs.machine.{Changes.{is_held_by, is_ready, is_waiting, job_with, seat_with}, JobStates.{is_delayed, is_reserved}};
     ghost use Rattle.bq_job.specs.reading.TubeName.{is_same_name};
-    ghost use Rattle.bq_jobs.specs.Seen.{IsBodyOf};
+    ghost use Rattle.bq_jobs.specs.{Ranks.first_in, Seen.IsBodyOf};
     ghost use Rattle.bq_state.specs.{CoreParts.machine_of, Crowds.crowd_of, JobChanges.{is_passed_by, passes, ttr_held_by}};
-    ghost use Rattle.bq_state.specs.{JobKinds.first_of_kind, Keeping.Looks, SeatStates.{is_asking, is_connected, is_free}};
+    ghost use Rattle.bq_state.specs.{Keeping.Looks, SeatStates.{is_asking, is_connected, is_free}};
     ghost use Rattle.bq_state.specs.Tallies.{tally_of};
 
     /// Returns true if there is a seat with this number and no client is connected to it.
@@ -118,14 +118,14 @@ impl CoreParts {
         job_store::share(&mut self.jobs, id)
     }
 
-    /// Returns the id of the first job of this kind in this tube.
+    /// Returns the id of the first job in this list of this tube.
     #[tactic(auto, using(crate::proofs::PartsLemmas::compared_sound))]
-    pub fn first(&mut self, kind: JobKind, tube: &Tube) -> Option<JobId>
+    pub fn first(&mut self, list: JobList, tube: &Tube) -> Option<JobId>
         ensures id { result
-            ≡ option_map (λ j. j.id) (first_of_kind kind tube.now self.old.jobs.jobs) }
+            ≡ option_map (λ j. j.id) (first_in list tube.now self.old.jobs.jobs) }
         ensures kept { Looks 1 self.old self.new }
     {
-        job_store::first(&mut self.jobs, self.tubes.names(), kind, tube)
+        job_store::first(&mut self.jobs, self.tubes.names(), list, tube)
     }
 
     /// Returns true if some job is ready.

@@ -3,11 +3,11 @@ ghost use Rattle.std.specs.{List.list_any, Option.option_map, Prelude.{IfOk, IfS
 ghost use Rattle.bq_job.specs.machine.{Changes.{is_held_by as held_by, job_with}, Dispatch.reserved_by, JobCommands.buried};
 ghost use Rattle.bq_job.specs.machine.{JobCommands.{delayed_by as delayed_for, kicked, released}, JobStates.{is_buried, is_delayed}};
 ghost use Rattle.bq_job.specs.machine.{JobStates.is_reserved, Limits.later as later_by, Timers.job_after_timers};
-ghost use Rattle.bq_jobs.specs.{Searching.Searches, Seen.IsBodyOf};
-ghost use Rattle.bq_state.specs.{JobChanges.{changed, is_passed_by, passes, ttr_held_by}, JobKinds.first_of_kind, Room.{room_given_back, room_left}};
+ghost use Rattle.bq_jobs.specs.{Ranks.first_in, Searching.Searches, Seen.IsBodyOf};
+ghost use Rattle.bq_state.specs.{JobChanges.{changed, is_passed_by, passes, ttr_held_by}, Room.{room_given_back, room_left}};
 
 use bq_job::{Body, JobId, JobState, Moment, NoMemory, Pri, Seat};
-use bq_jobs::{JobEdit, NumberedJobs, NumberedTubes, PackedJob, PackedTest, Tube};
+use bq_jobs::{JobEdit, JobList, NumberedJobs, NumberedTubes, PackedJob, PackedTest, Tube};
 
 // How much more room than there are jobs is kept.
 const ROOM_TO_SPARE: usize = 1000;
@@ -29,14 +29,6 @@ pub enum JobChange {
     Touch(Seat, Moment),
     /// It becomes ready.
     Kick,
-}
-
-/// The kinds of jobs of a tube whose first one a client can query.
-#[derive(Clone, Copy)]
-pub enum JobKind {
-    Ready,
-    Delayed,
-    Buried,
 }
 
 /// Returns the moment `seconds` later, at most 2^64 - 1.
@@ -88,7 +80,7 @@ pub(crate) fn holds_some(jobs: &mut NumberedJobs, seat: Seat) -> bool
     ensures holds { result ≡ list_any (held_by seat) jobs.old.jobs }
     ensures kept { Searches 1 jobs.old jobs.new }
 {
-    jobs.next_deadline_of(seat).is_some()
+    jobs.first_held(seat).is_some()
 }
 
 /// Returns true if some client holds the job.
@@ -170,22 +162,19 @@ impl JobEdit for JobChange {
     }
 }
 
-/// Returns the id of the first job of this kind in this tube.
+/// Returns the id of the first job in this list of this tube.
 pub fn first(
     jobs: &mut NumberedJobs,
     tubes: &NumberedTubes,
-    kind: JobKind,
+    list: JobList,
     tube: &Tube,
 ) -> Option<JobId>
     requires same { tubes.now.numbers ≡ jobs.old.tubes }
-    ensures id { result ≡ option_map (λ j. j.id) (first_of_kind kind tube.now jobs.old.jobs) }
+    ensures id { result ≡ option_map (λ j. j.id) (first_in list tube.now jobs.old.jobs) }
     ensures kept { Searches 1 jobs.old jobs.new }
 {
-    match kind {
-        JobKind::Ready => jobs.first_ready(tubes, tube),
-        JobKind::Delayed => jobs.first_delayed(tubes, tube),
-        JobKind::Buried => jobs.first_buried(tubes, tube),
-    }
+    let (_, id) = jobs.first_listed(tubes, list, tube)?;
+    Some(id)
 }
 
 /// A test of a job for a command.

@@ -6,7 +6,17 @@ use Rattle.bq_core.proofs.kicks.kick_in.Goals as goal
 
 pub returns-clause-changed : goal.returns-clause-changed
 returns-clause-changed c =
-    let same = ap (λ (k : Kept). k.jobs) c.kind_to_kick-kind.ensures.kept.same in
+    let same = ap (λ (k : Kept). k.jobs) c.list_to_kick-list.ensures.kept.same in
     let made = ap (λ (x : Machine). x.jobs) c.kick_some.ensures.kicked in
     let few = rw (made, same) at c.kick_some.ensures.fewer in
-    rw (made, same) (kicked_changed _ _ c.kind_to_kick-kind.ensures.out _ _ _ _ _ c.args.state.now.sound.ids few)
+    rw (made, same) (kicked_changed _ _ c.list_to_kick-list.ensures.out _ _ _ _ _ c.args.state.now.sound.ids few)
+
+pub returns-clause-kicked : goal.returns-clause-kicked
+returns-clause-kicked c =
+    let same = ap (λ (k : Kept). k.jobs) c.list_to_kick-list.ensures.kept.same in
+    rw (same, c.list_to_kick-list.ensures.order) at c.kick_some.ensures.kicked
+
+pub returns-clause-count : goal.returns-clause-count
+returns-clause-count c =
+    let same = ap (λ (k : Kept). k.jobs) c.list_to_kick-list.ensures.kept.same in
+    rw (same, c.list_to_kick-list.ensures.order) at c.kick_some.ensures.count

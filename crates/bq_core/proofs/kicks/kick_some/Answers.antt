@@ -1,9 +1,10 @@
 use Rattle.std.proofs.{Common.{ap, arith, suc, sym, ℕ, ◌+◌, ◌∙◌, ◌≡◌}, lemmas.Grind.common_steps}
 use Rattle.bq_core.proofs.{AskLemmas.{asks_more, asks_then}, FiredTimerLemmas.{chosen, one_fewer}}
-use Rattle.bq_core.proofs.KickLemmas.{kicked_all, kicks_first, none_kicked}
+use Rattle.bq_core.proofs.KickLemmas.{all_counted, kicked_all, kicks_first, none_kicked}
 use Rattle.bq_core.specs.Kicking.{KicksFirst}
 use Rattle.bq_job.specs.machine.{Machine.Machine, kicked}
-use Rattle.bq_state.specs.{CoreParts.{Held, machine_held, machine_of}, JobKinds.is_of}
+use Rattle.bq_jobs.specs.Ranks.{is_listed}
+use Rattle.bq_state.specs.CoreParts.{Held, machine_held, machine_of}
 use Rattle.bq_core.proofs.kicks.kick_some.Goals as goal
 
 pub loop-done-preserved : goal.loop-done-preserved
@@ -14,9 +15,9 @@ loop-done-preserved c =
     let one = chosen _ _ _ _ _ _ st.sound.ids found.id in
     let made = ap (λ (x : Machine). x.jobs) c.change_job.ensures.after in
     let same = ap (λ (h : Held). h.jobs.jobs) found.kept.same in
-    let kicks : KicksFirst c.args.kind c.args.tube.now st.jobs.jobs c.change_job.new.state.jobs.jobs =
+    let kicks : KicksFirst c.args.list c.args.tube.now st.jobs.jobs c.change_job.new.state.jobs.jobs =
     rw (made, same, one.id_is) (kicks_first _ _ _ _ _ _ c.requires.out st.sound.ids one.first) in
-    let few = one_fewer (is_of c.args.kind c.args.tube.now) kicked c.in-Some.id 1 st.next_id _ one.job
+    let few = one_fewer (is_listed c.args.list c.args.tube.now) kicked c.in-Some.id 1 st.next_id _ one.job
     st.sound.ids one.found one.passes_is (c.requires.out one.job) in
     let on : (n : ℕ) → (c.loop-done.done + 1) + n ≡ c.loop-done.done + suc n = λ n. omega arith in
     record {
@@ -37,3 +38,8 @@ pub returns-clause-kicked : goal.returns-clause-kicked
 returns-clause-kicked c =
     let whole : c.args.bound ≡ c.loop-done.done + 0 = omega arith in
     grind (arith, none_kicked)
+
+pub returns-in_default-clause-count : goal.returns-in_default-clause-count
+returns-in_default-clause-count c =
+    c.from.ensures ∙ all_counted c.args.list c.args.tube.now c.args.bound c.loop-done.done
+    c.args.state.now.jobs.jobs c.loop-done.state.jobs.jobs (omega arith) c.loop-done.invariant.count c.in_default.ensures.id
