@@ -10,7 +10,6 @@ pub mod GroupRanks
 pub mod LeaseLemmas
 pub mod NamedFirsts
 pub mod NamedJobs
-pub mod NamedParts
 pub mod NumberingLemmas
 pub mod Orders
 pub mod Shelved
@@ -18,4 +17,5 @@ pub mod TableLemmas
 pub mod TableViews
 pub mod TableWalks
 pub mod TestedRemovals
+pub mod ThreeShelves
 pub mod Told

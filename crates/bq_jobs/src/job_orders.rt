@@ -337,7 +337,7 @@ impl JobOrders {
     }
 
     /// Adds the job with this id, which uses the room of one.
-    #[tactic(auto, using(crate::proofs::Shelved::found_in, crate::proofs::Shelved::jobs_added))]
+    #[tactic(auto, using(crate::proofs::ThreeShelves::additions))]
     pub(crate) fn add(&mut self, id: JobId, job: PackedJob)
         requires id { job.id ≡ id }
         requires room { 0 < self.old.room }
@@ -383,6 +383,7 @@ impl JobOrders {
 
     /// Changes the job with this id, if there is one, and moves it to its new place in each order.
     /// The record itself does not move, and nothing is allocated.
+    #[tactic(auto, using(crate::proofs::ThreeShelves::found_in))]
     pub(crate) fn change<E: JobEdit>(&mut self, id: JobId, edit: &E) -> Option<NumberedMove>
         requires id { KeepsId (E.edited edit.now) }
         requires tube { IgnoresTube (E.edited edit.now) }
@@ -418,6 +419,7 @@ impl JobOrders {
     }
 
     /// Returns the record of the job with this id.
+    #[tactic(auto, using(crate::proofs::ThreeShelves::found_in, crate::proofs::ThreeShelves::id_searched))]
     pub(crate) fn get(&mut self, id: JobId) -> Option<&PackedJob>
         ensures* after { sem 𝓛 (LeavesOrders self.entry) }
         ensures job { option_map (λ j. j.now) result ≡ job_with id self.old.jobs }
@@ -461,6 +463,7 @@ impl JobOrders {
     }
 
     /// Returns the number and the id of the first job of a holder: by that number, then by id.
+    #[tactic(auto, using(crate::proofs::ThreeShelves::first_in_group, crate::proofs::ThreeShelves::groups_searched))]
     pub(crate) fn first_of_group(&mut self, group: Group) -> Option<(u64, JobId)>
         ensures rank { result ≡ first_held group self.old.jobs }
         ensures kept { Searches 1 self.old self.new }
@@ -470,6 +473,7 @@ impl JobOrders {
 
     /// Returns the moment and the id of the first delay or of the first lease: by moment, then by
     /// id.
+    #[tactic(auto, using(crate::proofs::ThreeShelves::first_in_timers, crate::proofs::ThreeShelves::timers_searched))]
     pub(crate) fn first_of_timer(&mut self, timer: Timer) -> Option<(Moment, JobId)>
         ensures rank { result ≡ first_timed timer self.old.jobs }
         ensures kept { Searches 1 self.old self.new }

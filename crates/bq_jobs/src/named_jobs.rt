@@ -113,7 +113,7 @@ impl Jobs {
     }
 
     /// Adds a job, which uses the room of one.
-    #[tactic(auto, using(crate::proofs::NamedParts::found_in, crate::proofs::NamedParts::jobs_added))]
+    #[tactic(auto, using(crate::proofs::ThreeShelves::additions))]
     pub fn add(&mut self, job: Job)
         requires room { 0 < self.old.room }
         requires absent { job_with job.id self.old.jobs ≡ None }
@@ -128,7 +128,7 @@ impl Jobs {
     }
 
     /// Removes the job with this id and returns it, if there is one. Its room is free again.
-    #[tactic(auto, using(crate::proofs::NamedParts::removals))]
+    #[tactic(auto, using(crate::proofs::ThreeShelves::found_in))]
     pub fn remove(&mut self, id: JobId) -> Option<Job>
         ensures job { result ≡ job_with id self.old.jobs }
         ensures id { IfSome result (λ job. job.id ≡ id) }
@@ -141,6 +141,7 @@ impl Jobs {
     }
 
     /// Returns the job with this id.
+    #[tactic(auto, using(crate::proofs::ThreeShelves::found_in, crate::proofs::ThreeShelves::id_searched))]
     pub fn get(&mut self, id: JobId) -> Option<&Job>
         ensures* after { sem 𝓛 (LeavesJobs self.entry) }
         ensures job { option_map (λ j. j.now) result ≡ job_with id self.old.jobs }
@@ -215,6 +216,7 @@ impl Jobs {
     }
 
     // Returns the number and the id of the first job of a holder: by that number, then by id.
+    #[tactic(auto, using(crate::proofs::ThreeShelves::first_in_group, crate::proofs::ThreeShelves::groups_searched))]
     fn first_of_group(&mut self, group: NamedGroup) -> Option<(u64, JobId)>
         ensures rank { result ≡ first_held group self.old.jobs }
         ensures kept { Searches 1 self.old self.new }
@@ -224,6 +226,7 @@ impl Jobs {
 
     // Returns the moment and the id of the first delay or of the first lease: by moment, then by
     // id.
+    #[tactic(auto, using(crate::proofs::ThreeShelves::first_in_timers, crate::proofs::ThreeShelves::timers_searched))]
     fn first_of_timer(&mut self, timer: Timer) -> Option<(Moment, JobId)>
         ensures rank { result ≡ first_timed timer self.old.jobs }
         ensures kept { Searches 1 self.old self.new }
