@@ -7,7 +7,7 @@ ghost use Rattle.std.specs.Ordering.{as_partial_cmp, eq_by_cmp, is_gt, is_lt};
 ghost use Rattle.std.specs.Prelude.{◌≡◌, ◌+◌, ◌<◌, ◌≤◌, length, is_some, if◌then◌else◌, IsSome, OnOk, None};
 ghost use Rattle.bq_jobs.specs.Places.{group_place, in_groups_at, in_timers_at, timer_place};
 ghost use Rattle.bq_index.specs.Shelf.{ComparesFew};
-ghost use Rattle.bq_jobs.specs.PlaceOrder.{ComparesTwice, first_rank, holds_place, with_place, without_place};
+ghost use Rattle.bq_jobs.specs.PlaceOrder.{first_rank, holds_place, with_place, without_place};
 ghost use Rattle.std.specs.Option.{ForSome};
 
 use super::job_orders::{PackedJob, Standing};
@@ -415,27 +415,6 @@ pub(crate) fn leave<G: Ord + Drop>(
     if let Some(place) = place {
         let _held = order.remove(&place);
     }
-}
-
-/// Removes one place, if there is one, and adds another, if there is one.
-#[tactic(auto, using(bq_index::proofs::Bound::digits_grow, crate::proofs::Orders::fewer_places))]
-pub(crate) fn shift<G: Ord + Drop>(
-    order: &mut Shelf<ShelfPlace<G>, ()>,
-    from: Option<ShelfPlace<G>>,
-    to: Option<ShelfPlace<G>>,
-)
-    requires held { ForSome from (λ p. IsSome (holds_place G.cmp p order.old.entries)) }
-    requires spare { ForSome to (λ _. 0 < order.old.spare + (if is_some from then 1 else 0)) }
-    requires absent { ForSome to
-        (λ p. holds_place G.cmp p (without_place G.cmp from order.old.entries) ≡ None) }
-    ensures entries { order.new.entries
-        ≡ with_place G.cmp to (without_place G.cmp from order.old.entries) }
-    ensures spare { order.new.spare + (if is_some to then 1 else 0)
-        ≡ order.old.spare + (if is_some from then 1 else 0) }
-    ensures comparisons { ComparesTwice order.old order.new }
-{
-    leave(order, from);
-    enter(order, to);
 }
 
 /// Returns the number and the id at the first place of a group.

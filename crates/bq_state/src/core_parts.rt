@@ -115,7 +115,7 @@ impl CoreParts {
             (λ shared. IfOk shared (IsBodyOf (job_with id (machine_of self.old).jobs))) }
         ensures kept { Looks 1 self.old self.new }
     {
-        job_store::share(&mut self.jobs, id)
+        self.jobs.share_body(id)
     }
 
     /// Returns the id of the first job in this list of this tube.
@@ -154,7 +154,7 @@ impl CoreParts {
 
     /// Returns true if the client at the seat holds a job. If no client holds one, nothing is
     /// searched.
-    #[tactic(auto, using(crate::proofs::PartsLemmas::compared_sound, crate::proofs::DueLemmas::none_held))]
+    #[tactic(auto, using(crate::proofs::PartsLemmas::compared_sound, crate::proofs::DueLemmas::held_some, crate::proofs::DueLemmas::none_held))]
     pub(crate) fn holds_some(&mut self, seat: Seat) -> bool
         ensures holds { result ≡ list_any (is_held_by seat) self.old.jobs.jobs }
         ensures kept { Looks 1 self.old self.new }
@@ -162,7 +162,7 @@ impl CoreParts {
         if !self.has_lease() {
             return false;
         }
-        job_store::holds_some(&mut self.jobs, seat)
+        self.jobs.first_held(seat).is_some()
     }
 
     /// Returns how many clients wait.

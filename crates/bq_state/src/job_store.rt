@@ -1,12 +1,12 @@
 //! The jobs: changing one, testing one for a command, and room for more.
-ghost use Rattle.std.specs.{List.list_any, Option.option_map, Prelude.{IfOk, IfSome, is_some, length, not, ◌<◌, ◌||◌, ◌≡◌}};
+ghost use Rattle.std.specs.{Option.option_map, Prelude.{length, not, ◌<◌, ◌||◌, ◌≡◌}};
 ghost use Rattle.bq_job.specs.machine.{Changes.{is_held_by as held_by, job_with}, Dispatch.reserved_by, JobCommands.buried};
 ghost use Rattle.bq_job.specs.machine.{JobCommands.{delayed_by as delayed_for, kicked, released}, JobStates.{is_buried, is_delayed}};
 ghost use Rattle.bq_job.specs.machine.{JobStates.is_reserved, Limits.later as later_by, Timers.job_after_timers};
-ghost use Rattle.bq_jobs.specs.{Ranks.first_in, Searching.Searches, Seen.IsBodyOf};
+ghost use Rattle.bq_jobs.specs.{Ranks.first_in, Searching.Searches};
 ghost use Rattle.bq_state.specs.{JobChanges.{changed, is_passed_by, passes, ttr_held_by}, Room.{room_given_back, room_left}};
 
-use bq_job::{Body, JobId, JobState, Moment, NoMemory, Pri, Seat};
+use bq_job::{JobId, JobState, Moment, Pri, Seat};
 use bq_jobs::{JobEdit, JobList, NumberedJobs, NumberedTubes, PackedJob, PackedTest, Tube};
 
 // How much more room than there are jobs is kept.
@@ -72,15 +72,6 @@ pub(crate) fn is_held_by(job: &PackedJob, seat: Seat) -> bool
         JobState::Reserved(holder, _) => holder == seat,
         _ => false,
     }
-}
-
-/// Returns true if the client at the seat holds a job.
-#[tactic(auto, using(crate::proofs::DueLemmas::held_some))]
-pub(crate) fn holds_some(jobs: &mut NumberedJobs, seat: Seat) -> bool
-    ensures holds { result ≡ list_any (held_by seat) jobs.old.jobs }
-    ensures kept { Searches 1 jobs.old jobs.new }
-{
-    jobs.first_held(seat).is_some()
 }
 
 /// Returns true if some client holds the job.
@@ -234,16 +225,6 @@ pub(crate) fn time_to_run(jobs: &mut NumberedJobs, id: JobId, seat: Seat) -> Opt
             None
         },
     }
-}
-
-/// Returns another reference to the body of the job with this id, or `NoMemory` if its
-/// references can no longer be counted; None if there is no such job.
-pub(crate) fn share(jobs: &mut NumberedJobs, id: JobId) -> Option<Result<Body, NoMemory>>
-    ensures none { is_some result ≡ is_some (job_with id jobs.old.jobs) }
-    ensures share { IfSome result (λ shared. IfOk shared (IsBodyOf (job_with id jobs.old.jobs))) }
-    ensures kept { Searches 1 jobs.old jobs.new }
-{
-    jobs.share_body(id)
 }
 
 // Returns the room of one job to the heap, if there is room for more jobs than there are. Not
