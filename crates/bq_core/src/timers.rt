@@ -269,6 +269,6 @@ pub(crate) fn next_due(state: &mut CoreParts) -> Option<Moment>
     changes::settle_warnings(state, warning.is_some());
     earlier_of(
         earlier_of(jobs, warning),
-        earlier_of(state.known.pause_end, seats),
+        earlier_of(state.tubes.first_pause_end(), seats),
     )
 }

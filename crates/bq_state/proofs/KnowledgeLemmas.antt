@@ -19,14 +19,14 @@ use Rattle.bq_jobs.proofs.Told.{told_of}
 use Rattle.bq_state.proofs.{CrowdPlaces.waiters_counted, MovedLemmas.{entries_of_changed, one_id}, PartsLemmas.few_jobs}
 use Rattle.bq_state.proofs.{MovedLemmas.{one_tube, tube_kept, warned_moved}, PartsLemmas.{all_filtered, counted_provided, entries_of_seat}}
 use Rattle.bq_state.proofs.PartsLemmas.{entries_of_tube, first_entries, first_numbered, id_kept, name_kept_at, numbered_after, tube_counts}
-use Rattle.bq_state.proofs.{PartsLemmas.tube_name_kept, PauseLemmas.{end_after_change, end_provided}, TallyPlaces.counted_added}
+use Rattle.bq_state.proofs.{PartsLemmas.tube_name_kept, TallyPlaces.counted_added}
 use Rattle.bq_state.proofs.{TallyPlaces.{counted_kept, counted_provided as tallies_of_provided, counted_taken}, TubeLemmas.filters_swap}
 use Rattle.bq_state.proofs.{TubeLemmas.record_changed, WaitingLemmas.{many_seats, none_in_turn, rising_left, turns_moved, turns_within}}
 use Rattle.bq_state.proofs.WantedLemmas.{known_added, known_any, known_forgotten, known_ignoring, known_nothing, known_of_change}
 use Rattle.bq_state.proofs.{WantedLemmas.{known_of_seat, known_watching}, WarningLemmas.{warned_added, warned_by_due, warned_of_seat}}
 use Rattle.bq_state.{proofs.WarningLemmas.warned_watching, specs.{CoreParts.machine_of, Counting.{AreCounts, recounted_for, tubes_with}}}
 use Rattle.bq_state.specs.{Counting.{with_crowds_at, with_tallies_at}, Crowds.{is_waiter, may_wait, recounted, share_of_watcher}}
-use Rattle.bq_state.specs.{Crowds.{share_of_watching, touched}, Dues.{first_pause_end, with_warning_due}, JobChanges.changed}
+use Rattle.bq_state.specs.{Crowds.{share_of_watching, touched}, Dues.with_warning_due, JobChanges.changed}
 use Rattle.bq_state.specs.{KeptTubes.{KeptTubes, first_tubes}, Knowledge.{IsSo, is_wanted_by, nothing_known, with_forgotten, with_job}}
 use Rattle.bq_state.specs.Knowledge.{with_joined}
 use Rattle.bq_state.specs.{Knowledge.{with_left, with_moved, with_tube_changed, without_job}, MaybeGoneTubes.{AreAlive, is_none_gone}}
@@ -105,26 +105,25 @@ module _ (st : CoreParts) where
   so_provided name ns none =
       let alive = subst (λ b. AreAlive (if not b then with_gone name st.known.maybe_gone else st.known.maybe_gone) st.jobs.jobs
       st.seats.items (provided name st.tubes.entries)) none in
-      search (tallies_of_provided, crowds_of_provided, end_provided, counted_provided, alive, alive_provided)
+      search (tallies_of_provided, crowds_of_provided, counted_provided, alive, alive_provided)
 
   -- its entry changes,
   pub so_with_tube : (name : List ℕ) (what : TubeChange) → has_entry name st.tubes.entries ≡ true
-      → IsSo (with_tube_changed name what (map (tube_changed_at name what) st.tubes.entries) st.known) st.jobs.jobs st.seats.items
+      → IsSo (with_tube_changed name what st.known) st.jobs.jobs st.seats.items
       (record st.tubes { entries = map (tube_changed_at name what) st.tubes.entries })
   so_with_tube name what there =
       let records = sym (record_changed name (tube_changed what) (tube_counts what) (tube_name_kept what) st.tubes.entries
       st.sound.entries.order st.sound.entries.fresh there) in
-      search (counted_kept, crowds_kept, alive_renamed, end_after_change, name_kept_at, records, known_of_change name what (machine_of st))
+      search (counted_kept, crowds_kept, alive_renamed, name_kept_at, records, known_of_change name what (machine_of st))
 
-  -- or pauses end, and the first one that is left is known.
-  pub so_with_pauses : IsSo
-      (record st.known { pause_end = first_pause_end (map (tube_after_timers st.moment) st.tubes.entries); wanted = wanted_jobs.Any })
-      st.jobs.jobs st.seats.items (record st.tubes { entries = map (tube_after_timers st.moment) st.tubes.entries })
+  -- or pauses end.
+  pub so_with_pauses : IsSo (record st.known { wanted = wanted_jobs.Any }) st.jobs.jobs st.seats.items
+      (record st.tubes { entries = map (tube_after_timers st.moment) st.tubes.entries })
   so_with_pauses = search (counted_kept, crowds_kept, alive_renamed, known_any)
 
   -- Entries of tubes that no longer exist are dropped.
   pub so_forgotten : (new : KeptTubes) → new.entries ≡ filter (λ t. is_tube_of st.jobs.jobs st.seats.items t.name) st.tubes.entries
-      → AreCounts new st.jobs.jobs st.seats.items → IsSo (with_forgotten new.entries st.known) st.jobs.jobs st.seats.items new
+      → AreCounts new st.jobs.jobs st.seats.items → IsSo (with_forgotten st.known) st.jobs.jobs st.seats.items new
   so_forgotten new left counts =
       let p = λ (t : TubeRecord). is_tube_of st.jobs.jobs st.seats.items t.name in
       let now = rw left at counts in
@@ -148,7 +147,7 @@ module _ (st : CoreParts) where
   pub sound_with_tube : (name : List ℕ) (what : TubeChange) → has_entry name st.tubes.entries ≡ true
       → let entries = map (tube_changed_at name what) st.tubes.entries in
       Soundness st.jobs.jobs st.seats.items (record st.tubes { entries = entries }) st.waiting
-      (with_tube_changed name what entries st.known) st.next_id st.draining
+      (with_tube_changed name what st.known) st.next_id st.draining
   sound_with_tube name what there = search (entries_of_tube, so_with_tube)
 
 -- the parts after a put or a deletion was counted in a tube
@@ -157,7 +156,7 @@ with_count st name what there =
     let entries = map (tube_changed_at name what) st.tubes.entries in
     record st {
       tubes = record st.tubes { entries = entries };
-      known = with_tube_changed name what entries st.known;
+      known = with_tube_changed name what st.known;
       sound = sound_with_tube st name what there;
       numbered = st.numbered;
     }

@@ -2,23 +2,8 @@
 use Rattle.std.proofs.{Common.{List, None, Option, [], arith, false, map, sym, ℕ, ◌||◌, ◌∙◌, ◌∷◌, ◌≡◌}, lemmas.Grind.common_steps}
 use Rattle.std.specs.{List.list_any, Prelude.fold}
 use Rattle.bq_job.{proofs.ListLemmas.{all_of_filter, all_weaker, list_any_not, map_all_same, none_pass}, specs.machine.TubeRecord}
-use Rattle.bq_job.specs.machine.{fresh_tube, tube_after_timers, with_record}
-use Rattle.bq_state.specs.{Dues.{first_pause_end, is_end_over, pause_end_after, with_tube_due}, TubeEntries.{counted, has_entry}}
-use Rattle.bq_state.specs.{TubeEntries.{is_pause_over, provided, tube_changed_at}, declared.tubes.entry.TubeChange.TubeChange}
-
--- changes that keep the pauses
-pub end_after_change : (name : List ℕ) (what : TubeChange) (entries : List TubeRecord) (last : Option ℕ) → last ≡ first_pause_end entries
-    → pause_end_after (map (tube_changed_at name what) entries) what last ≡ first_pause_end (map (tube_changed_at name what) entries)
-end_after_change name what entries last h = grind (arith, common_steps)
-
--- a new entry has no pause
-fresh_adds_none : (name : List ℕ) (entries : List TubeRecord) (best : Option ℕ) → has_entry name entries ≡ false
-    → fold with_tube_due best (with_record (fresh_tube name) entries) ≡ fold with_tube_due best entries
-fresh_adds_none name [] best h = grind (arith, common_steps)
-fresh_adds_none name (t ∷ entries) best h = grind (arith, common_steps, fresh_adds_none name entries (with_tube_due best t))
-
-pub end_provided : (name : List ℕ) (entries : List TubeRecord) → first_pause_end (provided name entries) ≡ first_pause_end entries
-end_provided name entries = grind (arith, fresh_adds_none)
+use Rattle.bq_job.specs.machine.{tube_after_timers}
+use Rattle.bq_state.specs.{Dues.{first_pause_end, is_end_over, with_tube_due}, TubeEntries.{counted, is_pause_over}}
 
 -- If the first end is not due yet, no pause is.
 all_to_come : (moment : ℕ) (best : Option ℕ) (entries : List TubeRecord)

@@ -4,7 +4,6 @@ use Rattle.std.specs.Prelude.{◌-◌}
 use Rattle.bq_job.specs.{beside.{dues_of_pause, dues_of_wait, earlier, earliest}, declared.job.Job.Job, machine.{SeatRecord, TubeRecord}}
 use Rattle.bq_job.specs.machine.{due_of, first_of, is_delayed, is_due_before, is_held_by, is_reserved, is_waiting}
 use Rattle.bq_jobs.specs.Leases.{deadline_of, is_lease_before}
-use Rattle.bq_state.specs.declared.tubes.entry.TubeChange.{TheVariants.{CountDelete, CountPut, Pause}, TubeChange}
 
 abbrev pub earlier_of_both : Option ℕ → Option ℕ → Option ℕ
 earlier_of_both None other = other
@@ -30,12 +29,6 @@ with_tube_due best t = earlier_of_both best (earliest (dues_of_pause t.pause))
 -- when the first of the pauses of these tubes ends
 abbrev pub first_pause_end : List TubeRecord → Option ℕ
 first_pause_end entries = fold with_tube_due None entries
-
--- the same after a change, given its value before: only a pause may change it
-abbrev pub pause_end_after : List TubeRecord → TubeChange → Option ℕ → Option ℕ
-pause_end_after entries CountPut last = last
-pause_end_after entries CountDelete last = last
-pause_end_after entries (Pause seconds moment) last = first_pause_end entries
 
 -- there is a pause that ends then, and it is due
 abbrev pub is_end_over : ℕ → Option ℕ → Bool

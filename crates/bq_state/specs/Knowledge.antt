@@ -2,7 +2,7 @@
 use Rattle.std.specs.Prelude.{Bool, List, None, Option, [], count_by, if◌then◌else◌, length, nat_lt, not, ℕ, ◌&&◌, ◌≡◌}
 use Rattle.bq_job.specs.{declared.job.Job.Job, machine.{SeatRecord, TubeRecord, is_ready_state}}
 use Rattle.bq_jobs.specs.declared.job_orders.{Moved.Moved, Removed.Removed}
-use Rattle.bq_state.specs.{Crowds.AreCrowds, Dues.{first_pause_end, pause_end_after}, SeatStates.seat_passes}
+use Rattle.bq_state.specs.{Crowds.AreCrowds, SeatStates.seat_passes}
 use Rattle.bq_state.specs.{FirstTimeouts.{AreTimeouts, timeout_after}, KeptTubes.KeptTubes, Leaving.gone_of}
 use Rattle.bq_state.specs.{MaybeGoneTubes.{AreAlive, with_existing, with_gone}, Offers.is_waited_at, TubeEntries.counted}
 use Rattle.bq_state.specs.Tallies.{AreCounted, count_with, count_without, tally_left, tally_moved, tally_of, tally_with, tally_without}
@@ -28,8 +28,6 @@ pub record IsSo (k : Known) (jobs : List Job) (seats : List SeatRecord) (tubes :
   pub warnings : AreWarned k.warns jobs seats
   -- when the first wait times out
   pub timeouts : AreTimeouts k.first_timeout seats
-  -- when the first pause ends
-  pub pauses : k.pause_end ≡ first_pause_end tubes.entries
 
 -- what is known if there is nothing
 abbrev pub nothing_known : Known
@@ -40,7 +38,6 @@ nothing_known = record {
   wanted = wanted_jobs.Nothing;
   warns = holders.Nobody;
   first_timeout = ends.Known None;
-  pause_end = None;
 }
 
 -- with one more job; whether it is wanted, and whether its holder waits, is given
@@ -94,13 +91,10 @@ with_joined o number what k = record k {
   warns = warned_by_seat number what k.warns;
 }
 
--- after a tube was changed; these are the entries
-abbrev pub with_tube_changed : List ℕ → TubeChange → List TubeRecord → Known → Known
-with_tube_changed name what entries k = record k {
-  wanted = wanted_after_tube name what k.wanted;
-  pause_end = pause_end_after entries what k.pause_end;
-}
+-- after a tube was changed
+abbrev pub with_tube_changed : List ℕ → TubeChange → Known → Known
+with_tube_changed name what k = record k { wanted = wanted_after_tube name what k.wanted }
 
--- after entries of tubes that no longer exist were dropped; these are left
-abbrev pub with_forgotten : List TubeRecord → Known → Known
-with_forgotten entries k = record k { maybe_gone = gone_tubes.Nothing; pause_end = first_pause_end entries }
+-- after the entries of tubes that no longer exist were dropped
+abbrev pub with_forgotten : Known → Known
+with_forgotten k = record k { maybe_gone = gone_tubes.Nothing }

@@ -316,11 +316,10 @@ pub fn end_pauses(state: &mut CoreParts)
     ensures after { machine_of state.new ≡ with_pauses_ended (machine_of state.old) }
     ensures jobs { state.new.jobs ≡ state.old.jobs }
 {
-    if !is_over(state.known.pause_end, state.moment) {
+    if !is_over(state.tubes.first_pause_end(), state.moment) {
         return;
     }
     state.tubes.fire_timers(state.moment);
-    state.known.pause_end = state.tubes.first_pause_end();
     state.known.wanted = Wanted::Any;
 }
 
@@ -333,7 +332,7 @@ pub fn change_tube(state: &mut CoreParts, tube: &TubeName, hint: TubeNumber, wha
     ensures jobs { state.new.jobs ≡ state.old.jobs }
 {
     state.tubes.change(tube, hint, what);
-    state.known.change_tube(tube, hint, what, &state.tubes);
+    state.known.change_tube(tube, hint, what);
 }
 
 /// Ensures that a tube has an entry and a number, and returns the number. The allocations for that
@@ -475,7 +474,7 @@ fn forget_gone(state: &mut CoreParts)
     state
         .tubes
         .forget_gone(&mut state.jobs, &state.known.maybe_gone);
-    state.known.forget_tubes(&state.tubes);
+    state.known.forget_tubes();
 }
 
 /// Counts a connection that was opened.

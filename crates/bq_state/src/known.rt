@@ -37,8 +37,6 @@ pub struct Known {
     pub warns: Warns,
     /// When the first wait times out.
     pub first_timeout: FirstTimeout,
-    /// When the first pause of a tube ends.
-    pub pause_end: Option<Moment>,
 }
 
 impl Known {
@@ -53,7 +51,6 @@ impl Known {
             wanted: Wanted::Nothing,
             warns: Warns::Nobody,
             first_timeout: FirstTimeout::Known(None),
-            pause_end: None,
         }
     }
 
@@ -146,25 +143,17 @@ impl Known {
     }
 
     /// The entry of a tube was changed.
-    pub(crate) fn change_tube(
-        &mut self,
-        name: &TubeName,
-        hint: TubeNumber,
-        what: TubeChange,
-        tubes: &Tubes,
-    )
-        ensures { self.new ≡ with_tube_changed name.now what tubes.now.entries self.old }
+    pub(crate) fn change_tube(&mut self, name: &TubeName, hint: TubeNumber, what: TubeChange)
+        ensures { self.new ≡ with_tube_changed name.now what self.old }
     {
         self.wanted.change_tube(name, hint, what);
-        self.pause_end = tubes.pause_end_after(what, self.pause_end);
     }
 
     /// The entries of tubes that no longer exist were dropped.
-    pub(crate) fn forget_tubes(&mut self, tubes: &Tubes)
-        ensures { self.new ≡ with_forgotten tubes.now.entries self.old }
+    pub(crate) fn forget_tubes(&mut self)
+        ensures { self.new ≡ with_forgotten self.old }
     {
         self.maybe_gone = MaybeGone::Nothing;
-        self.pause_end = tubes.first_pause_end();
     }
 }
 

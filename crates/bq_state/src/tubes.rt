@@ -6,7 +6,7 @@ ghost use Rattle.bq_job.specs.{machine.Timers.tube_after_timers, reading.TubeNam
 ghost use Rattle.bq_jobs.specs.{Names.number_in, Numbering.{Extends, HasNumber}};
 ghost use Rattle.bq_state.specs.Counting.{AreCounts, DropsGone, IfCounted, tubes_with, with_crowds_at, with_job_put, with_removal_counted};
 ghost use Rattle.bq_state.specs.{Counting.with_tallies_at, Crowds.{crowd_at, has_seats, recounted}, Dues.first_pause_end};
-ghost use Rattle.bq_state.specs.{Dues.pause_end_after, KeptTubes.{edited_at, is_named_at, kept_changed}};
+ghost use Rattle.bq_state.specs.KeptTubes.{edited_at, is_named_at, kept_changed};
 ghost use Rattle.bq_state.specs.{Leaving.exists_in, Names.names_of, PauseEnds.AreEnds, Tallies.{has_jobs, tallies_of, tally_at}};
 ghost use Rattle.bq_state.specs.{Tallies.tally_moved, TubeEntries.{has_entry, names_alive, tube_changed_at}, TubeNumbers.HaveNumbers};
 
@@ -306,21 +306,16 @@ impl Tubes {
         }
     }
 
-    /// Returns when the first pause ends.
+    /// Returns when the first pause ends. Most of the time no tube is paused, and nothing is
+    /// searched.
+    #[inline(always)]
     #[tactic(auto, using(crate::proofs::EndLemmas::first_seen))]
     pub fn first_pause_end(&self) -> Option<Moment>
         ensures { result ≡ first_pause_end self.now.entries }
     {
-        pauses::first_until(&self.ends)
-    }
-
-    /// Returns when the first pause ends after a change of a tube; `last` is when it ended before.
-    pub(crate) fn pause_end_after(&self, what: TubeChange, last: Option<Moment>) -> Option<Moment>
-        ensures { result ≡ pause_end_after self.now.entries what last }
-    {
-        match what {
-            TubeChange::Pause(_, _) => self.first_pause_end(),
-            TubeChange::CountPut | TubeChange::CountDelete => last,
+        if self.ends.len() == 0 {
+            return None;
         }
+        pauses::first_until(&self.ends)
     }
 }

@@ -8,7 +8,7 @@ invariant_of-state-clause-sound c =
     let st = c.args.state.now in
     let entries = entries_of_timers st in
     let known = so_with_pauses st in
-    rw (c.first_pause_end-state.ensures, c.fire_timers.ensures) assumption
+    rw c.fire_timers.ensures assumption
 
 pub returns-then-not-is_over-clause-after : goal.returns-then-not-is_over-clause-after
 returns-then-not-is_over-clause-after c = grind (arith, common_steps, none_over, no_pause_ends, none_counted)
