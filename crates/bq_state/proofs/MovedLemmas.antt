@@ -5,7 +5,7 @@ use Rattle.bq_job.specs.{beside.AreIdsWithin, declared.job.Job.Job, machine.{Sea
 use Rattle.bq_job.specs.reading.TubeName.{is_same_name}
 use Rattle.bq_jobs.{proofs.Changes.{changed as changed_by_id, found_id}, specs.Changed.{IgnoresTube, KeepsId, KeepsTube, moved_by}}
 use Rattle.bq_jobs.specs.{Changed.with_changed, Kept.{with_added, without}, declared.job_orders.Moved.Moved}
-use Rattle.bq_state.proofs.{PartsLemmas.{all_filtered, all_kept, same_id}, TallyLemmas.{one_added, one_taken}, TallyPlaces.counted_by}
+use Rattle.bq_state.proofs.{PartsLemmas.{all_filtered, all_kept}, TallyLemmas.{one_added, one_taken}, TallyPlaces.counted_by}
 use Rattle.bq_state.{proofs.{WantedLemmas.known_added, WarningLemmas.warned_added}, specs.{Crowds.is_waiter, JobChanges.changed}}
 use Rattle.bq_state.specs.{MaybeGoneTubes.AreAlive, SeatChanges.AreNumbered, Tallies.{AreCounted, count_with, count_without, tallies_at}}
 use Rattle.bq_state.specs.{Tallies.tally_moved, TubeEntries.{AreEntries, AreInOrder}, WantedJobs.{AreKnown, with_wanted}}
@@ -23,7 +23,7 @@ tube_kept change j = ap (λ (i : Job). i.tube) (tube_ignored change j j.tube)
 -- only one job is changed
 module _ (id : ℕ) (f : Job → Job) where
   pub one_id : KeepsId f → KeepsId (λ k. if k.id == id then f k else k)
-  one_id keeps k = same_id (k.id == id) (f k) k k.id (keeps k) refl
+  one_id keeps k = grind (arith, common_steps, keeps k)
 
   pub one_tube : KeepsTube f → KeepsTube (λ k. if k.id == id then f k else k)
   one_tube stays k = grind (arith, common_steps)

@@ -9,7 +9,7 @@ use Rattle.bq_job.specs.{declared.job.Job.Job, machine.{SeatRecord, TubeRecord, 
 use Rattle.bq_job.specs.{machine.{numbers, seat_with, tube_after_timers, watches, watching, with_record}, reading.TubeName.is_same_name}
 use Rattle.bq_job.{proofs.{KeptLemmas.numbers_above, LawfulLemmas.length_numbers, ListLemmas.map_all_same}, specs.beside.AreIdsWithin}
 use Rattle.bq_jobs.specs.Kept.{Kept, with_added}
-use Rattle.bq_state.proofs.TubeLemmas.{counted_inserted, entry_filtered, found, fresh_inserted, has_inserted, order_filtered}
+use Rattle.bq_state.proofs.TubeLemmas.{all_inserted, counted_inserted, entry_filtered, found, has_inserted, order_filtered}
 use Rattle.bq_state.proofs.TubeLemmas.{order_inserted, order_kept, record_changed, same_entries, same_itself, same_name, still_has}
 use Rattle.bq_state.specs.{JobChanges.changed, SeatChanges.{AreNumbered, has_tube_of, seat_changed, seat_changed_at}, Soundness.Soundness}
 use Rattle.bq_state.specs.TubeEntries.{AreEntries, IsFreshUnlessCounted, counted, has_entry, is_counted, is_tube_of, provided, tube_changed}
@@ -23,9 +23,6 @@ all_kept P f keeps xs all = all_of_map P f xs (all_weaker P (λ x. P (f x)) xs k
 -- and a sublist has it
 pub all_filtered : {A : Type 0} (P : A → Type 0) (p : A → Bool) (xs : List A) → All P xs → All P (filter p xs)
 all_filtered P p xs all = all_weaker (λ x. P x × (p x ≡ true)) P (filter p xs) (λ x h. h.0) (all_of_filter P p xs all)
-
-pub same_id : (b : Bool) (x y : Job) (id : ℕ) → x.id ≡ id → y.id ≡ id → (if b then x else y).id ≡ id
-same_id b x y id h i = grind (arith, common_steps)
 
 -- a change does not affect the id
 pub id_kept : (change : JobChange) (j : Job) → (changed change j).id ≡ j.id
@@ -191,7 +188,7 @@ module _ (st : CoreParts) where
 
   -- after a tube gets an entry,
   pub entries_provided : (name : List ℕ) → AreEntries st.jobs.jobs st.seats.items (provided name st.tubes.entries)
-  entries_provided name = grind (arith, all_weaker, order_inserted, fresh_inserted, still_has)
+  entries_provided name = grind (arith, all_weaker, order_inserted, all_inserted IsFreshUnlessCounted (fresh_tube name), still_has)
 
   -- after timers fire,
   pub entries_of_timers : AreEntries st.jobs.jobs st.seats.items (map (tube_after_timers st.moment) st.tubes.entries)

@@ -2,11 +2,11 @@
 use Rattle.std.proofs.Common.{Bool, List, Some, [], ap, arith, false, length, map, refl, sym, true, ℕ, ◌&&◌, ◌∙◌, ◌∷◌, ◌≡◌, ◌≤◌}
 use Rattle.std.proofs.lemmas.{Bool.{both_ways, cases_Bool, false_from_ne_true}, Cmp.nat_list_eq_equiv, Grind.common_steps, List.drop-map}
 use Rattle.std.{proofs.lemmas.List.{map-append, take-map}, specs.List.{AllByRecursion as All, insert, list_any, prefix_len}}
-use Rattle.std.specs.Prelude.{count_by, filter, if◌then◌else◌, nat_lt}
-use Rattle.bq_job.specs.{beside.AreIdsWithin, declared.job.Job.Job, machine.{TubeRecord, greatest, is_delayed, is_name_before, is_ready}}
-use Rattle.bq_job.specs.{machine.{is_reserved, job_with}, reading.TubeName.is_same_name}
+use Rattle.std.specs.Prelude.{count_by, filter, if◌then◌else◌}
+use Rattle.bq_job.specs.{beside.AreIdsWithin, declared.job.Job.Job, machine.{TubeRecord, greatest, is_name_before, job_with}}
+use Rattle.bq_job.specs.{reading.TubeName.is_same_name}
 use Rattle.bq_jobs.specs.Kept.{with_added, without}
-use Rattle.bq_state.proofs.{ClientLemmas.some_pass, TallyLemmas.{both_count, one_added, one_taken, tally_by, tally_is}}
+use Rattle.bq_state.proofs.{TallyLemmas.{both_count, one_added, one_taken, tally_by, tally_is}}
 use Rattle.bq_state.{proofs.TubeLemmas.{before_differs, provided_new, same_name}, specs.Tallies.{AreCounted, count_with, count_without}}
 use Rattle.bq_state.specs.Tallies.{has_jobs, tallies_at, tallies_of, tallies_provided, tallies_with, tallies_without, tally_at, tally_in}
 use Rattle.bq_state.specs.{Tallies.{tally_of, tally_with, tally_without}, TubeEntries.{AreInOrder, has_entry, provided}}
@@ -137,12 +137,3 @@ pub has_jobs_in : (name : List ℕ) (jobs : List Job)
     → has_jobs (tally_of (filter (λ j. is_same_name name j.tube) jobs)) ≡ list_any (λ j. is_same_name name j.tube) jobs
 has_jobs_in name [] = refl
 has_jobs_in name (j ∷ jobs) = grind (arith, common_steps, has_jobs_in name jobs)
-
-pub some_ready : (t : Tally) (jobs : List Job) → t ≡ tally_of jobs → nat_lt 0 t.ready ≡ list_any is_ready jobs
-some_ready t jobs whole = ap (λ (t : Tally). nat_lt 0 t.ready) whole ∙ some_pass is_ready jobs
-
-pub some_reserved : (t : Tally) (jobs : List Job) → t ≡ tally_of jobs → nat_lt 0 t.reserved ≡ list_any (λ j. is_reserved j.state) jobs
-some_reserved t jobs whole = ap (λ (t : Tally). nat_lt 0 t.reserved) whole ∙ some_pass (λ j. is_reserved j.state) jobs
-
-pub some_delayed : (t : Tally) (jobs : List Job) → t ≡ tally_of jobs → nat_lt 0 t.delayed ≡ list_any (λ j. is_delayed j.state) jobs
-some_delayed t jobs whole = ap (λ (t : Tally). nat_lt 0 t.delayed) whole ∙ some_pass (λ j. is_delayed j.state) jobs

@@ -79,7 +79,7 @@ comes_before : (name : List ℕ) (t : TubeRecord) (entries : List TubeRecord) �
 comes_before name t [] later h = absurd cc
 comes_before name t (u ∷ entries) later h = grind (arith, common_steps, or_cases, same_name, comes_before name t entries)
 
-found_name : (name : List ℕ) (some : List TubeRecord)
+pub found_name : (name : List ℕ) (some : List TubeRecord)
     → (unwrap_or (find (λ t. is_same_name name t.name) some) (fresh_tube name)).name ≡ name
 found_name name [] = refl
 found_name name (t ∷ some) = grind (arith, common_steps, same_name name t.name, found_name name some)
@@ -127,21 +127,16 @@ placed x (t ∷ entries) h = let parts = or_parts (is_same_name x.name t.name) (
       | inr e ↦ rw (parts.0, e, after _ _ parts.0 e) (grind (arith, placed x entries parts.1))
     ]
 
-later_inserted : (name : List ℕ) (x : TubeRecord) (entries : List TubeRecord) → is_name_before name x.name ≡ true → AreLater name entries
-    → AreLater name (with_record x entries)
-later_inserted name x [] b all = (b, tt)
-later_inserted name x (t ∷ entries) b all = grind (arith, later_inserted name x entries b all.1)
+-- a property of all records and of a new one
+pub all_inserted : (P : TubeRecord → Type 0) (x : TubeRecord) (ts : List TubeRecord) → P x → All P ts → All P (with_record x ts)
+all_inserted P x [] h all = (h, tt)
+all_inserted P x (t ∷ ts) h all = grind (arith, common_steps, cases_Bool, all_inserted P x ts h all.1)
 
 pub order_inserted : (x : TubeRecord) (entries : List TubeRecord) → has_entry x.name entries ≡ false → AreInOrder entries
     → AreInOrder (with_record x entries)
 order_inserted x [] h order = (tt, tt)
 order_inserted x (t ∷ entries) h order =
-    grind (arith, common_steps, or_parts, all_weaker, before_trans x.name t.name, later_inserted, after, order_inserted x entries)
-
-pub fresh_inserted : (x : TubeRecord) → IsFreshUnlessCounted x → (entries : List TubeRecord) → All IsFreshUnlessCounted entries
-    → All IsFreshUnlessCounted (with_record x entries)
-fresh_inserted x f [] all = (f, tt)
-fresh_inserted x f (t ∷ entries) all = grind (arith, fresh_inserted x f entries all.1)
+    grind (arith, common_steps, or_parts, all_weaker, before_trans x.name t.name, all_inserted, after, order_inserted x entries)
 
 pub counted_inserted : (x : TubeRecord) → is_counted x ≡ false → (entries : List TubeRecord) → has_entry x.name entries ≡ false
     → counted (with_record x entries) ≡ counted entries

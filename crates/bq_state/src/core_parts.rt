@@ -129,7 +129,7 @@ impl CoreParts {
     }
 
     /// Returns true if some job is ready.
-    #[tactic(auto, using(crate::proofs::TallyPlaces::some_ready))]
+    #[tactic(auto, using(crate::proofs::ClientLemmas::some_pass))]
     pub fn has_ready(&self) -> bool
         ensures { result ≡ list_any is_ready self.now.jobs.jobs }
     {
@@ -137,7 +137,7 @@ impl CoreParts {
     }
 
     /// Returns true if some client holds a job.
-    #[tactic(auto, using(crate::proofs::TallyPlaces::some_reserved))]
+    #[tactic(auto, using(crate::proofs::ClientLemmas::some_pass))]
     pub fn has_lease(&self) -> bool
         ensures { result ≡ list_any (λ j. is_reserved j.state) self.now.jobs.jobs }
     {
@@ -145,7 +145,7 @@ impl CoreParts {
     }
 
     /// Returns true if some job is delayed.
-    #[tactic(auto, using(crate::proofs::TallyPlaces::some_delayed))]
+    #[tactic(auto, using(crate::proofs::ClientLemmas::some_pass))]
     pub fn has_delayed(&self) -> bool
         ensures { result ≡ list_any (λ j. is_delayed j.state) self.now.jobs.jobs }
     {
