@@ -217,7 +217,7 @@ fn warnings_due(
     ensures kept { Searches (count_by is_waiting seats.now) jobs.old jobs.new }
 {
     match warns {
-        Warns::Nobody => None,
+        Warns::Nothing => None,
         Warns::Client(seat) => warning_due_at(jobs, seats::find(seats, *seat)),
         Warns::Any => first_warning(jobs, seats, turns),
     }

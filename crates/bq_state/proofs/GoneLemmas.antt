@@ -1,19 +1,20 @@
 -- Entries of tubes that no longer exist are dropped from the catalog; the others are counted and
 -- listed.
 use Rattle.std.proofs.Common.{Bool, List, None, Option, Some, [], arith, false, inl, inr, length, map, refl, true, ℕ, ◌+◌, ◌∷◌, ◌≡◌, ◌≤◌}
-use Rattle.std.{proofs.lemmas.{Bool.cases_Bool, Cmp.tied_itself, Grind.common_steps}, specs.Cmp.Lexicographic.nat_list_cmp_total}
+use Rattle.std.proofs.{Math.Bool.or-false, lemmas.{Bool.cases_Bool, Cmp.tied_itself, Grind.common_steps}}
+use Rattle.std.specs.Cmp.Lexicographic.{nat_list_cmp_total}
 use Rattle.std.specs.{Cmp.Lexicographic.slice_cmp, List.{AllByRecursion as All, Sorted.IsStrictlySortedBy, list_any}, Map.{keys_of, lookup}}
 use Rattle.std.specs.{Map.remove_entry, Option.option_map, Ordering.nat_cmp, Prelude.{filter, find, fold}}
 use Rattle.std.specs.declared.cmp.Ordering.TheVariants.{Less}
 use Rattle.bq_index.specs.{Order.InOrder, Walk.seen_by}
 use Rattle.bq_job.{proofs.ListLemmas.{all_at, all_before_map, found_passes}, specs.{declared.job.Job.Job, machine.{SeatRecord, TubeRecord}}}
 use Rattle.bq_job.specs.{machine.{greatest, raised}, reading.TubeName.is_same_name}
-use Rattle.bq_state.proofs.{CrowdLemmas.has_seats_of, CrowdPlaces.exists_by_counts, MaybeGoneLemmas.{alive_but, alive_or, all_kept_alive}}
+use Rattle.bq_state.proofs.{CrowdLemmas.has_seats_of, CrowdPlaces.exists_by_counts, MaybeGoneLemmas.all_kept_alive}
 use Rattle.bq_state.proofs.{MaybeGoneLemmas.others_alive, NamedLemmas.ties, TallyPlaces.has_jobs_in, TubeLemmas.same_name}
 use Rattle.bq_state.specs.{Counting.AreCounts, KeptTubes.{KeptTube, Named, is_alive_at, is_from, is_gone_by}}
 use Rattle.bq_state.specs.KeptTubes.{is_gone_from, is_named_at, record_at, tally_kept, tubes_kept, with_alive, without_gone}
 use Rattle.bq_state.specs.{MaybeGoneTubes.AreAlive, Tallies.{tallies_of, tally_in}, TubeEntries.{AreInOrder, is_tube_of, names_alive}}
-use Rattle.bq_state.specs.declared.{known.maybe_gone.MaybeGone.TheVariants.Of, tubes.walks.HowMany.HowMany}
+use Rattle.bq_state.specs.declared.{known.maybe_gone.MaybeGone.TheVariants.Tube, tubes.walks.HowMany.HowMany}
 
 -- The tube of an entry that is dropped has no job.
 module _ (jobs : List Job) where
@@ -82,14 +83,14 @@ module _ (jobs : List Job) (seats : List SeatRecord) where
       grind (arith, common_steps, cases_Bool (is_alive_at x), alive_is x es h, rest (raised n), rest n)
 
   -- The entry with one name is dropped if its tube no longer exists.
-  pub one_left : (name : List ℕ) (es : List Named) → AreInOrder (map record_at es) → AreAlive (Of name) jobs seats (map record_at es)
+  pub one_left : (name : List ℕ) (es : List Named) → AreInOrder (map record_at es) → AreAlive (Tube name) jobs seats (map record_at es)
       → AreTallied jobs seats es → map record_at (without_gone name es) ≡ filter (λ t. is_tube_of jobs seats t.name) (map record_at es)
   one_left name [] order all h = refl
   one_left name (x ∷ es) order all h = elim (cases_Bool (is_same_name name x.0)) [
     | inl e ↦
         let others = all_kept_alive jobs seats _ (others_alive name jobs seats _ (rw (same_name name x.0 e) order.0) all.1) in
         grind (arith, common_steps, ties name x.0, same_name name x.0 e, others, alive_is x es h)
-    | inr e ↦ grind (arith, common_steps, alive_or, alive_but, alive_is, ties, one_left name es order.1 all.1 (rest_tallied x es h))
+    | inr e ↦ grind (arith, common_steps, or-false, alive_is, ties, one_left name es order.1 all.1 (rest_tallied x es h))
   ]
 
 -- All such entries are dropped one after another.

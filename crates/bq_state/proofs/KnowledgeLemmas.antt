@@ -1,20 +1,19 @@
 -- What is known without a search follows each change of the jobs, the seats and the tubes.
 use Rattle.std.proofs.Common.{Bool, List, None, Some, [], arith, false, filter, fold, if◌then◌else◌, is_some, length, map, not, set}
-use Rattle.std.proofs.Common.{slice_get, subst, sym, true, ℕ, ◌&&◌, ◌++◌, ◌^◌, ◌∙◌, ◌∷◌, ◌≡◌, ◌≤◌}
+use Rattle.std.proofs.Common.{slice_get, sym, true, ℕ, ◌&&◌, ◌++◌, ◌^◌, ◌∙◌, ◌∷◌, ◌≡◌, ◌≤◌}
 use Rattle.std.proofs.lemmas.Grind.{common_steps}
 use Rattle.std.{proofs.lemmas.List.length-map, specs.{List.list_any, Option.option_map}}
 use Rattle.bq_job.specs.{declared.job.Job.Job, machine.{SeatRecord, TubeRecord, empty_seat, greatest, is_ready, is_ready_state}}
 use Rattle.bq_job.specs.machine.{forgetting, is_seated_at, is_waiting, job_with, next_job, numbers, seat_with, tube_after_timers}
 use Rattle.bq_job.specs.machine.{watches, watching}
 use Rattle.bq_job.specs.reading.TubeName.{is_same_name}
-use Rattle.bq_jobs.specs.{Changed.{moved_by, with_changed}, Kept.{with_added, without}, declared.job_orders.Moved.Moved}
+use Rattle.bq_jobs.specs.{Changed.{moved_by, removed_from, with_changed}, Kept.{with_added, without}, declared.job_orders.Moved.Moved}
 use Rattle.bq_state.proofs.{ClientLemmas.{connected_moved, connected_watching}, CrowdLemmas.crowds_moved, CrowdPlaces.crowds_kept}
 use Rattle.bq_state.proofs.{CrowdPlaces.{crowds_of_provided, first_crowds}, CrowdWatching.{crowds_ignoring, crowds_watching}}
 use Rattle.bq_state.proofs.{FirstTimeoutLemmas.{first_timeouts, timeouts_of_seat, timeouts_watching}, LeavingLemmas.alive_left}
 use Rattle.bq_state.proofs.MaybeGoneLemmas.{alive_added, alive_forgotten, alive_ignoring, alive_provided, alive_renamed, alive_taken}
-use Rattle.bq_state.proofs.MaybeGoneLemmas.{all_stay}
-use Rattle.bq_state.proofs.{MaybeGoneLemmas.alive_watching, MovedLemmas.{alive_changed, counted_moved, known_moved}}
-use Rattle.bq_job.{proofs.KeptLemmas.ids_of_map, specs.beside.AreIdsWithin}
+use Rattle.bq_state.proofs.{MaybeGoneLemmas.{alive_watching, all_kept_alive}, MovedLemmas.{alive_changed, counted_moved, known_moved}}
+use Rattle.bq_job.{proofs.{KeptLemmas.ids_of_map, ListLemmas.all_always}, specs.beside.AreIdsWithin}
 use Rattle.bq_jobs.proofs.Told.{told_of}
 use Rattle.bq_state.proofs.{CrowdPlaces.waiters_counted, MovedLemmas.{entries_of_changed, one_id}, PartsLemmas.few_jobs}
 use Rattle.bq_state.proofs.{MovedLemmas.{one_tube, tube_kept, warned_moved}, PartsLemmas.{all_filtered, counted_provided, entries_of_seat}}
@@ -22,18 +21,18 @@ use Rattle.bq_state.proofs.PartsLemmas.{entries_of_tube, first_entries, first_nu
 use Rattle.bq_state.proofs.{PartsLemmas.tube_name_kept, TallyPlaces.counted_added}
 use Rattle.bq_state.proofs.{TallyPlaces.{counted_kept, counted_provided as tallies_of_provided, counted_taken}, TubeLemmas.filters_swap}
 use Rattle.bq_state.proofs.{TubeLemmas.record_changed, WaitingLemmas.{many_seats, none_in_turn, rising_left, turns_moved, turns_within}}
-use Rattle.bq_state.proofs.WantedLemmas.{known_added, known_any, known_forgotten, known_ignoring, known_nothing, known_of_change}
+use Rattle.bq_state.proofs.WantedLemmas.{known_added, known_forgotten, known_ignoring, known_nothing, known_of_change}
 use Rattle.bq_state.proofs.{WantedLemmas.{known_of_seat, known_watching}, WarningLemmas.{warned_added, warned_by_due, warned_of_seat}}
 use Rattle.bq_state.{proofs.WarningLemmas.warned_watching, specs.{CoreParts.machine_of, Counting.{AreCounts, recounted_for, tubes_with}}}
 use Rattle.bq_state.specs.{Counting.{with_crowds_at, with_tallies_at}, Crowds.{is_waiter, may_wait, recounted, share_of_watcher}}
 use Rattle.bq_state.specs.{Crowds.{share_of_watching, touched}, Dues.with_warning_due, JobChanges.changed}
 use Rattle.bq_state.specs.{KeptTubes.{KeptTubes, first_tubes}, Knowledge.{IsSo, is_wanted_by, nothing_known, with_forgotten, with_job}}
 use Rattle.bq_state.specs.Knowledge.{with_joined}
-use Rattle.bq_state.specs.{Knowledge.{with_left, with_moved, with_tube_changed, without_job}, MaybeGoneTubes.{AreAlive, is_none_gone}}
+use Rattle.bq_state.specs.{Knowledge.{with_left, with_moved, with_removal, with_tube_changed}, MaybeGoneTubes.is_nothing}
 use Rattle.bq_state.specs.MaybeGoneTubes.{with_gone}
 use Rattle.bq_state.specs.{SeatChanges.seat_changed_at, Soundness.Soundness, Tallies.{tallies_with, tallies_without, tally_moved}}
-use Rattle.bq_state.specs.TubeEntries.{has_entry, is_counted, is_tube_of, provided, tube_changed, tube_changed_at}
-use Rattle.bq_state.specs.{WaitingTurns.WaitingTurns, WantedJobs.with_all_wanted, Warnings.{has_waiting_holder, may_hold, warned_if_due}}
+use Rattle.bq_state.specs.TubeEntries.{has_entry, is_counted, is_tube_of, tube_changed, tube_changed_at}
+use Rattle.bq_state.specs.{WaitingTurns.WaitingTurns, Warnings.{has_waiting_holder, may_hold, warned_if_due}}
 use Rattle.bq_state.specs.declared.{core_parts.CoreParts.CoreParts, job_store.JobChange.JobChange, seats.SeatChange.SeatChange}
 use Rattle.bq_state.specs.declared.tubes.entry.{Moving.TheVariants.{Comes, Goes}, TubeChange.TubeChange}
 use Rattle.bq_state.specs.declared.known.wanted.Wanted.TheVariants as wanted_jobs
@@ -48,7 +47,7 @@ module _ (st : CoreParts) where
   -- removed,
   pub so_without_job : (id : ℕ) (j : Job) (has_seats : Bool)
       → (has_seats ≡ true → list_any (is_seated_at j.tube) st.seats.items ≡ true) → job_with id st.jobs.jobs ≡ Some j
-      → IsSo (without_job j has_seats st.known) (without id st.jobs.jobs) st.seats.items
+      → IsSo (with_removal (removed_from j) has_seats st.known) (without id st.jobs.jobs) st.seats.items
       (record st.tubes { tallies = tallies_without j st.tubes.entries st.tubes.tallies })
   so_without_job id j has_seats seated found = search (counted_taken, alive_taken, all_filtered)
 
@@ -86,7 +85,7 @@ module _ (st : CoreParts) where
   -- a client watches one more tube,
   pub so_watching : (name : List ℕ) (n : ℕ) (s : SeatRecord) → slice_get st.seats.items n ≡ Some s → length st.seats.items ≤ greatest
       → watches name s ≡ false
-      → IsSo (record st.known { wanted = if is_waiting s then with_all_wanted st.known.wanted else st.known.wanted }) st.jobs.jobs
+      → IsSo (record st.known { wanted = if is_waiting s then wanted_jobs.Any else st.known.wanted }) st.jobs.jobs
       (set st.seats.items n (watching (s.watched ++ name ∷ []) s)) (with_crowds_at name (recounted Comes (share_of_watcher s)) st.tubes)
   so_watching name n s here few fresh =
       search (connected_watching, crowds_watching, alive_watching, known_watching, warned_watching, timeouts_watching)
@@ -102,10 +101,7 @@ module _ (st : CoreParts) where
   -- A tube gets an entry,
   pub so_provided : (name : List ℕ) (ns : List (List ℕ × ℕ)) → has_entry name st.tubes.entries ≡ false
       → IsSo (record st.known { maybe_gone = with_gone name st.known.maybe_gone }) st.jobs.jobs st.seats.items (tubes_with name ns st.tubes)
-  so_provided name ns none =
-      let alive = subst (λ b. AreAlive (if not b then with_gone name st.known.maybe_gone else st.known.maybe_gone) st.jobs.jobs
-      st.seats.items (provided name st.tubes.entries)) none in
-      search (tallies_of_provided, crowds_of_provided, counted_provided, alive, alive_provided)
+  so_provided name ns none = search (tallies_of_provided, crowds_of_provided, counted_provided, alive_provided)
 
   -- its entry changes,
   pub so_with_tube : (name : List ℕ) (what : TubeChange) → has_entry name st.tubes.entries ≡ true
@@ -119,7 +115,7 @@ module _ (st : CoreParts) where
   -- or pauses end.
   pub so_with_pauses : IsSo (record st.known { wanted = wanted_jobs.Any }) st.jobs.jobs st.seats.items
       (record st.tubes { entries = map (tube_after_timers st.moment) st.tubes.entries })
-  so_with_pauses = search (counted_kept, crowds_kept, alive_renamed, known_any)
+  so_with_pauses = search (counted_kept, crowds_kept, alive_renamed, all_always)
 
   -- Entries of tubes that no longer exist are dropped.
   pub so_forgotten : (new : KeptTubes) → new.entries ≡ filter (λ t. is_tube_of st.jobs.jobs st.seats.items t.name) st.tubes.entries
@@ -130,8 +126,8 @@ module _ (st : CoreParts) where
       rw left (search (known_forgotten (machine_of st), alive_forgotten, filters_swap is_counted p))
 
   -- If no tube may have gone, none is dropped.
-  pub none_forgotten : is_none_gone st.known.maybe_gone ≡ true → machine_of st ≡ forgetting (machine_of st)
-  none_forgotten none = grind (arith, all_stay, filters_swap)
+  pub none_forgotten : is_nothing st.known.maybe_gone ≡ true → machine_of st ≡ forgetting (machine_of st)
+  none_forgotten none = grind (arith, common_steps, all_kept_alive, filters_swap)
 
   -- No waiting client can receive a job.
   pub so_with_nothing : next_job (machine_of st) ≡ None

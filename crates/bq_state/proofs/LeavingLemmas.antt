@@ -1,27 +1,22 @@
 -- The tubes that may no longer exist after a seat changes: those that its client left, except those
 -- that exist by their counts.
-use Rattle.std.proofs.Common.{Bool, List, Some, [], ap, arith, if◌then◌else◌, length, map, not, sym, true, ℕ, ◌&&◌, ◌++◌, ◌||◌, ◌∷◌, ◌≡◌}
+use Rattle.std.proofs.Common.{Bool, List, Some, [], ap, arith, length, map, not, sym, true, ℕ, ◌&&◌, ◌||◌, ◌∷◌, ◌≡◌}
 use Rattle.std.{proofs.{Common.◌≤◌, lemmas.Grind.common_steps}, specs.List.{AllByRecursion as All, list_any}}
 use Rattle.bq_job.{proofs.ListLemmas.{all_at, all_from_members, list_any_with}, specs.{declared.job.Job.Job, machine.SeatRecord}}
 use Rattle.bq_job.specs.{machine.{TubeRecord, greatest, is_seated_at, seat_with}, reading.TubeName.is_same_name}
 use Rattle.bq_state.proofs.{CrowdLemmas.{all_recounted, crowd_moved, has_seats_of, none_changed, share_at}, CrowdPlaces.jobs_there}
-use Rattle.bq_state.proofs.{CrowdPlaces.named_crowd, MaybeGoneLemmas.{any_set, named_gone, stays_gone}, PartsLemmas.all_read}
+use Rattle.bq_state.proofs.{CrowdPlaces.named_crowd, MaybeGoneLemmas.{any_set, still_gone}, PartsLemmas.all_read}
 use Rattle.bq_state.{proofs.{PartsLemmas.{changed_there, seat_there}, TubeLemmas.{same_itself, same_name}}, specs.Crowds.IsSeated}
 use Rattle.bq_state.specs.Crowds.{crowd_in, crowd_of, crowd_without, crowds_of, crowds_recounted, crowds_recounted_for, touched}
-use Rattle.bq_state.specs.{KeptTubes.KeptTubes, Leaving.{exists_in, gone_all, gone_of, gone_unless}, MaybeGoneTubes.AreAlive}
+use Rattle.bq_state.specs.{KeptTubes.KeptTubes, Leaving.{exists_in, gone_all, gone_of, gone_unless, left_names}, MaybeGoneTubes.AreAlive}
 use Rattle.bq_state.specs.{MaybeGoneTubes.{is_accounted, may_be_gone}, SeatChanges.{AreNumbered, seat_changed, seat_changed_at}}
 use Rattle.bq_state.specs.{Tallies.tallies_of, TubeEntries.{AreInOrder, has_entry, is_tube_of}}
 use Rattle.bq_state.specs.declared.{known.maybe_gone.MaybeGone.MaybeGone, seats.SeatChange.SeatChange, tubes.entry.Moving.TheVariants.Goes}
-use Rattle.bq_state.specs.declared.tubes.entry.Share.{Share}
-
--- the tubes that a seat used and watched, if what can be affected is left
-abbrev left_names : Share → SeatRecord → List (List ℕ)
-left_names what s = (if what.using then s.used ∷ [] else []) ++ (if what.watching then s.watched else [])
 
 gone_step : (n : List ℕ) (maybe : MaybeGone) (name : List ℕ) (rest there n_there : Bool) → (is_same_name name n ≡ true → n_there ≡ there)
     → (may_be_gone maybe name || ((is_same_name name n || rest) && not there)) ≡ true
     → (may_be_gone (gone_unless n_there n maybe) name || (rest && not there)) ≡ true
-gone_step n maybe name rest there n_there same h = grind (arith, common_steps, stays_gone, named_gone)
+gone_step n maybe name rest there n_there same h = grind (arith, common_steps, still_gone)
 
 module _ (k : KeptTubes) where
   -- Those of these tubes that don't exist may be gone, and so may those that might be before.
@@ -31,11 +26,6 @@ module _ (k : KeptTubes) where
   all_gone [] name maybe h = grind (arith, common_steps)
   all_gone (n ∷ ns) name maybe h = all_gone ns name (gone_unless (exists_in k n) n maybe)
       (gone_step n maybe name (list_any (is_same_name name) ns) _ _ (λ same. ap (exists_in k) (sym (same_name name n same))) h)
-
-  left_gone : (what : Share) (s : SeatRecord) (name : List ℕ) (maybe : MaybeGone)
-      → (may_be_gone maybe name || (list_any (is_same_name name) (left_names what s) && not (exists_in k name))) ≡ true
-      → may_be_gone (gone_of what k (Some s) maybe) name ≡ true
-  left_gone what s name maybe h = grind (arith, common_steps, all_gone (left_names what s) name maybe)
 
 -- adding clients at a tube leaves a client there
 -- A tube that existed still does, or was left, and then it may be gone.
@@ -69,7 +59,7 @@ module _ (n : ℕ) (what : SeatChange) (maybe : MaybeGone) (jobs : List Job) (se
         let still = any_set (is_seated_at name) left seats n s (seat_changed what s) place (λ was. grind (arith)) in
         accounted (is_tube_of jobs seats name) (is_tube_of jobs new name) (may_be_gone maybe name) _ _ (exists_in k name)
         (λ was. grind (arith, common_steps, changed_there seats n s (seat_changed what) h place))
-        (exists_then name there) (left_gone k (touched what) s name maybe) is
+        (exists_then name there) (all_gone k (left_names (touched what) s) name maybe) is
 
   pub alive_left : k.crowds ≡ crowds_recounted_for Goes (touched what) (seat_with n seats) es (crowds_of seats es)
       → AreAlive maybe jobs seats es

@@ -1,25 +1,19 @@
 -- The entries of tubes that may no longer exist, as jobs and seats change.
 use Rattle.std.proofs.Common.{Bool, List, Some, [], arith, false, if◌then◌else◌, map, not, refl, set, slice_get, suc, true}
-use Rattle.std.proofs.{Common.{zero, ℕ, ◌++◌, ◌||◌, ◌∷◌, ◌≡◌}, lemmas.{Bool.cases_Bool, Grind.common_steps}}
+use Rattle.std.proofs.{Common.{zero, ℕ, ◌++◌, ◌||◌, ◌∷◌, ◌≡◌}, Math.Bool.or-false, lemmas.{Bool.cases_Bool, Grind.common_steps}}
 use Rattle.std.specs.{List.{AllByRecursion as All, list_any}, Prelude.filter}
 use Rattle.bq_job.proofs.ListLemmas.{all_always, all_both, all_of_map, all_weaker, filter_all, map_all_same}
-use Rattle.bq_job.specs.{beside.AreIdsWithin, declared.job.Job.Job, machine.{SeatRecord, TubeRecord, fresh_tube, is_name_before}}
-use Rattle.bq_job.specs.{machine.{is_seated_at, job_with, watching, with_record}, reading.TubeName.is_same_name}
+use Rattle.bq_job.specs.{beside.AreIdsWithin, declared.job.Job.Job, machine.{SeatRecord, TubeRecord, is_name_before}}
+use Rattle.bq_job.specs.{machine.{is_seated_at, job_with, watching}, reading.TubeName.is_same_name}
 use Rattle.bq_jobs.{proofs.Changes.{changed, found_id}, specs.Kept.{with_added, without}}
-use Rattle.bq_state.{proofs.TubeLemmas.{before_differs, same_itself, same_name}, specs.TubeEntries.{has_entry, is_tube_of, provided}}
-use Rattle.bq_state.specs.MaybeGoneTubes.{AreAlive, is_none_gone, may_be_gone, with_existing, with_gone}
-use Rattle.bq_state.specs.declared.known.maybe_gone.MaybeGone.{MaybeGone, TheVariants.{Nothing, Of}}
+use Rattle.bq_state.proofs.TubeLemmas.{all_inserted, before_differs, both_same, same_itself, same_name}
+use Rattle.bq_state.specs.{MaybeGoneTubes.{AreAlive, may_be_gone, with_existing, with_gone}, TubeEntries.{has_entry, is_tube_of, provided}}
+use Rattle.bq_state.specs.declared.known.maybe_gone.MaybeGone.{MaybeGone, TheVariants.{Nothing, Tube}}
 
-both_same : (a b c : List ℕ) → is_same_name a b ≡ true → is_same_name a c ≡ true → is_same_name c b ≡ true
-both_same a b c h i = grind (arith, same_name a b, same_name a c, same_itself)
-
--- a tube that is marked as possibly gone stays marked
-pub stays_gone : (more : List ℕ) (maybe : MaybeGone) (name : List ℕ) → may_be_gone maybe name ≡ true
+-- a tube that is marked as possibly gone stays marked, and so is this one
+pub still_gone : (more : List ℕ) (maybe : MaybeGone) (name : List ℕ) → (may_be_gone maybe name || is_same_name name more) ≡ true
     → may_be_gone (with_gone more maybe) name ≡ true
-stays_gone more maybe name h = grind (arith, common_steps, both_same)
-
-pub named_gone : (name more : List ℕ) (maybe : MaybeGone) → is_same_name name more ≡ true → may_be_gone (with_gone more maybe) name ≡ true
-named_gone name more maybe same = grind (arith, common_steps, same_name name more, same_itself)
+still_gone more maybe name h = grind (arith, common_steps, both_same, same_name name more, same_itself)
 
 -- a job is added
 pub any_added : (p : Job → Bool) (j : Job) (jobs : List Job) → list_any p (with_added j jobs) ≡ (p j || list_any p jobs)
@@ -43,7 +37,7 @@ pub alive_taken : (low next id : ℕ) (j : Job) (maybe : MaybeGone) (jobs : List
     → AreIdsWithin low jobs next → job_with id jobs ≡ Some j → AreAlive maybe jobs seats entries
     → AreAlive (if not has_seats then with_gone j.tube maybe else maybe) (without id jobs) seats entries
 alive_taken low next id j maybe jobs seats entries has_seats seated ids found all = all_weaker _ _ entries (λ t h.
-    grind (arith, common_steps, any_without low next id j jobs ids found, same_name t.name j.tube, stays_gone, named_gone)) all
+    grind (arith, common_steps, any_without low next id j jobs ids found, same_name t.name j.tube, still_gone)) all
 
 -- A seat at its place changes: the tubes that it leaves may be gone, and those of the other seats exist.
 pub any_set : (p : SeatRecord → Bool) (q : Bool) (seats : List SeatRecord) (i : ℕ) (s new : SeatRecord) → slice_get seats i ≡ Some s
@@ -70,22 +64,15 @@ pub alive_ignoring : (gone : List ℕ) (i : ℕ) (s : SeatRecord) (maybe : Maybe
 alive_ignoring gone i s maybe jobs seats entries found all = all_weaker _ _ entries (λ t h.
     let still = any_set (is_seated_at t.name) (is_same_name t.name gone) seats i s
     (watching (filter (λ other. not (is_same_name gone other)) s.watched) s) found in
-    grind (arith, common_steps, others_left, stays_gone, named_gone)) all
+    grind (arith, common_steps, others_left, still_gone)) all
 
--- an entry is added, and if it is new its tube may not exist
-all_inserted : (P : TubeRecord → Type 0) (x : TubeRecord) (entries : List TubeRecord) → P x → All P entries → All P (with_record x entries)
-all_inserted P x [] h all = (h, tt)
-all_inserted P x (t ∷ entries) h all = grind (arith, common_steps, cases_Bool, all_inserted P x entries h all.1)
-
+-- an entry is added: it is new, so its tube may not exist
 pub alive_provided : (name : List ℕ) (maybe : MaybeGone) (jobs : List Job) (seats : List SeatRecord) (entries : List TubeRecord)
-    → AreAlive maybe jobs seats entries → AreAlive (if not (has_entry name entries) then with_gone name maybe else maybe) jobs seats
-    (provided name entries)
-alive_provided name maybe jobs seats entries all =
-    elim (has_entry name entries) as (λ b. AreAlive (if not b then with_gone name maybe else maybe) jobs seats
-    (if b then entries else with_record (fresh_tube name) entries)) [
-      | true ↦ all
-      | false ↦ all_inserted _ _ entries (grind (arith, named_gone, same_itself)) (grind (arith, all_weaker, stays_gone))
-    ]
+    → has_entry name entries ≡ false → AreAlive maybe jobs seats entries
+    → AreAlive (with_gone name maybe) jobs seats (provided name entries)
+alive_provided name maybe jobs seats entries none all =
+    rw none (all_inserted _ _ entries (grind (arith, common_steps, still_gone, same_itself))
+    (grind (arith, common_steps, all_weaker, still_gone)))
 
 -- names stay
 pub alive_renamed : (f : TubeRecord → TubeRecord) → ((t : TubeRecord) → (f t).name ≡ t.name) → (maybe : MaybeGone) (jobs : List Job)
@@ -93,23 +80,13 @@ pub alive_renamed : (f : TubeRecord → TubeRecord) → ((t : TubeRecord) → (f
 alive_renamed f keeps maybe jobs seats entries all = grind (arith, common_steps, all_of_map, all_weaker)
 
 -- If no tube may have gone, all entries are kept.
-pub alive_or : (b : Bool) → (b || false) ≡ true → b ≡ true
-alive_or b h = grind (arith, common_steps)
-
 pub all_kept_alive : (jobs : List Job) (seats : List SeatRecord) (entries : List TubeRecord) → AreAlive Nothing jobs seats entries
     → filter (λ t. is_tube_of jobs seats t.name) entries ≡ entries
-all_kept_alive jobs seats entries all = grind (arith, common_steps, alive_or, filter_all, all_weaker)
-
-pub all_stay : (maybe : MaybeGone) (jobs : List Job) (seats : List SeatRecord) (entries : List TubeRecord) → is_none_gone maybe ≡ true
-    → AreAlive maybe jobs seats entries → filter (λ t. is_tube_of jobs seats t.name) entries ≡ entries
-all_stay maybe jobs seats entries none all = grind (arith, all_kept_alive)
+all_kept_alive jobs seats entries all = grind (arith, common_steps, or-false, filter_all, all_weaker)
 
 -- If one tube may have gone, all other entries are kept.
-pub alive_but : (b c : Bool) → (b || c) ≡ true → c ≡ false → (b || false) ≡ true
-alive_but b c h e = grind (arith, common_steps)
-
 pub others_alive : (name : List ℕ) (jobs : List Job) (seats : List SeatRecord) (entries : List TubeRecord)
-    → All (λ u. is_name_before name u.name ≡ true) entries → AreAlive (Of name) jobs seats entries → AreAlive Nothing jobs seats entries
+    → All (λ u. is_name_before name u.name ≡ true) entries → AreAlive (Tube name) jobs seats entries → AreAlive Nothing jobs seats entries
 others_alive name jobs seats entries later all = grind (arith, all_weaker, before_differs, all_both _ _ entries later all)
 
 -- after that, each entry is of a tube that exists

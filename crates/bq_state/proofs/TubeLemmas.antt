@@ -14,6 +14,9 @@ same_name a b h = (bytes_decides a b).0 h
 pub same_itself : (a : List ℕ) → is_same_name a a ≡ true
 same_itself a = (bytes_decides a a).1 refl
 
+pub both_same : (a b c : List ℕ) → is_same_name a b ≡ true → is_same_name a c ≡ true → is_same_name c b ≡ true
+both_same a b c h i = grind (arith, same_name a b, same_name a c, same_itself)
+
 -- a name that comes before another one differs from it
 pub before_differs : (a b : List ℕ) → is_name_before a b ≡ true → is_same_name a b ≡ false
 before_differs a b h = search (rules, cases_Bool, not_before, same_name)

@@ -1,29 +1,23 @@
 -- What is known about the jobs that waiting clients may receive.
 use Rattle.std.proofs.Common.{Bool, List, None, Some, [], arith, filter, find, if◌then◌else◌, is_some, map, refl, set, slice_get, sym, true}
 use Rattle.std.{proofs.{Common.{ℕ, ◌&&◌, ◌||◌, ◌∙◌, ◌∷◌, ◌≡◌}, lemmas.{Bool.cases_Bool, Grind.common_steps}}, specs.List.list_any}
-use Rattle.std.specs.Prelude.{unwrap_or}
 use Rattle.bq_job.proofs.{ChoiceLemmas.{first_of_none, first_of_none_passes}, ListLemmas.{all_always, all_at, all_from_members, all_of_map}}
 use Rattle.bq_job.{proofs.ListLemmas.{all_weaker, find_in_filter, list_any_not, none_pass}, specs.declared.job.Job.Job}
-use Rattle.bq_job.specs.machine.{Machine.Machine, SeatRecord, TubeRecord, forgetting, fresh_tube, is_paused, is_ready, is_tube, is_waiting}
+use Rattle.bq_job.specs.machine.{Machine.Machine, SeatRecord, TubeRecord, forgetting, is_paused, is_ready, is_tube, is_waiting}
 use Rattle.bq_job.specs.machine.{is_waiting_for, next_job, tube_record, watches, watching, with_record, with_tube}
 use Rattle.bq_job.specs.reading.TubeName.{is_same_name}
 use Rattle.bq_jobs.specs.Kept.{with_added}
-use Rattle.bq_state.proofs.{PartsLemmas.{all_added, all_read, all_set, tube_name_kept}, TubeLemmas.{same_itself, same_name}}
+use Rattle.bq_state.proofs.{PartsLemmas.{all_added, all_read, all_set, tube_name_kept}, TubeLemmas.{both_same, found_name, same_itself}}
+use Rattle.bq_state.proofs.TubeLemmas.{same_name}
 use Rattle.bq_state.specs.{Crowds.is_waiter, SeatChanges.seat_changed_at, TubeEntries.tube_changed, WantedJobs.{AreKnown, is_nothing}}
-use Rattle.bq_state.specs.WantedJobs.{may_get, wanted_after_seat, wanted_after_tube, with_all_wanted, with_wanted}
-use Rattle.bq_state.specs.declared.{known.wanted.Wanted.{TheVariants.{Any, Client, Nothing, Tube}, Wanted}, seats.SeatChange.SeatChange}
+use Rattle.bq_state.specs.WantedJobs.{may_get, wanted_after_seat, wanted_after_tube, with_wanted}
+use Rattle.bq_state.specs.declared.{known.wanted.Wanted.{TheVariants.{Any, Nothing}, Wanted}, seats.SeatChange.SeatChange}
 use Rattle.bq_state.specs.declared.tubes.entry.TubeChange.{TubeChange}
 
 -- a job that a client could receive can still be received, and so can one of this tube
 still_wanted : (name : List ℕ) (wanted : Wanted) (tube : List ℕ) (seat : ℕ) → (may_get wanted tube seat || is_same_name name tube) ≡ true
     → may_get (with_wanted name wanted) tube seat ≡ true
-still_wanted name Nothing tube seat h = h
-still_wanted name (Tube wanted_tube) tube seat h = grind (arith, common_steps, same_name wanted_tube name)
-still_wanted name (Client waiter) tube seat h = refl
-still_wanted name Any tube seat h = refl
-
-pub known_any : (jobs : List Job) (seats : List SeatRecord) (tubes : List TubeRecord) → AreKnown Any jobs seats tubes
-known_any jobs seats tubes = grind (arith, common_steps, all_always)
+still_wanted name wanted tube seat h = grind (arith, common_steps, both_same)
 
 -- there is no next job
 pub known_nothing : (m : Machine) → next_job m ≡ None → AreKnown Nothing m.jobs m.seats m.tubes
@@ -54,7 +48,7 @@ known_of_seat number what wanted jobs seats tubes known = grind (arith, all_weak
 -- a client watches other tubes: it may receive any job if it waits
 pub known_watching : (names : List (List ℕ)) (i : ℕ) (s : SeatRecord) (wanted : Wanted) (jobs : List Job) (seats : List SeatRecord)
     (tubes : List TubeRecord) → AreKnown wanted jobs seats tubes
-    → AreKnown (if is_waiting s then with_all_wanted wanted else wanted) jobs (set seats i (watching names s)) tubes
+    → AreKnown (if is_waiting s then Any else wanted) jobs (set seats i (watching names s)) tubes
 known_watching names i s wanted jobs seats tubes known = grind (arith, all_weaker, all_set)
 
 -- a client watches fewer
@@ -73,16 +67,12 @@ found_with : (name : List ℕ) (t : TubeRecord) (tubes : List TubeRecord) → fi
 found_with name t [] = refl
 found_with name t (u ∷ us) = grind (arith, same_name t.name, same_name name, same_itself, found_with name t us)
 
-named : (name : List ℕ) (tubes : List TubeRecord) → (unwrap_or (find (λ t. is_same_name name t.name) tubes) (fresh_tube name)).name ≡ name
-named name [] = refl
-named name (t ∷ tubes) = grind (arith, same_name name t.name, named name tubes)
-
 -- Only the end of a tube's pause allows its jobs to be received.
 still_paused : (tube : List ℕ) (f : TubeRecord → TubeRecord) (m : Machine) → ((t : TubeRecord) → (f t).name ≡ t.name) → (name : List ℕ)
     → (name ≡ tube → is_paused name m ≡ true → is_some (f (tube_record tube m)).pause ≡ true) → is_paused name m ≡ true
     → is_paused name (with_tube tube f m) ≡ true
 still_paused tube f m keeps name stays paused =
-    grind (arith, found_with name (f (tube_record tube m)) m.tubes, same_name name, keeps, named tube m.tubes)
+    grind (arith, found_with name (f (tube_record tube m)) m.tubes, same_name name, keeps, found_name tube m.tubes)
 
 pub known_of_change : (tube : List ℕ) (what : TubeChange) (m : Machine) (wanted : Wanted) → AreKnown wanted m.jobs m.seats m.tubes
     → AreKnown (wanted_after_tube tube what wanted) m.jobs m.seats (with_tube tube (tube_changed what) m).tubes

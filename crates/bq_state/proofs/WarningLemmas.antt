@@ -9,7 +9,7 @@ use Rattle.bq_jobs.specs.{Kept.with_added, Leases.is_lease_before}
 use Rattle.bq_state.{proofs.PartsLemmas.{all_added, all_read, all_set}, specs.Dues.{earlier_of_both, warning_due, warning_due_at}}
 use Rattle.bq_state.specs.{Dues.with_warning_due, SeatChanges.{AreNumbered, seat_changed_at}, Warnings.{AreWarned, has_waiting_holder}}
 use Rattle.bq_state.specs.Warnings.{holds_in_wait, is_waiting_there, may_hold, may_warn, warned_by_seat, warned_if_due, with_holder}
-use Rattle.bq_state.specs.{Warnings.with_holder_of, declared.known.warns.Warns.{TheVariants.{Client, Nobody}, Warns}}
+use Rattle.bq_state.specs.{Warnings.with_holder_of, declared.known.warns.Warns.{TheVariants.{Client, Nothing}, Warns}}
 use Rattle.bq_state.specs.declared.seats.SeatChange.{SeatChange, TheVariants.Wait}
 
 -- with no other moment
@@ -79,7 +79,7 @@ still_due jobs best [] all = refl
 still_due jobs best (s ∷ seats) all = rw all.0 (still_due jobs best seats all.1)
 
 -- No warning is due if no waiting client holds a job,
-pub none_due : (jobs : List Job) (seats : List SeatRecord) → AreWarned Nobody jobs seats → fold (with_warning_due jobs) None seats ≡ None
+pub none_due : (jobs : List Job) (seats : List SeatRecord) → AreWarned Nothing jobs seats → fold (with_warning_due jobs) None seats ≡ None
 none_due jobs seats known = grind (arith, common_steps, still_due, all_weaker, none_of_others)
 
 -- and if only one client may hold one, the warning is its own.

@@ -5,7 +5,7 @@ use Rattle.bq_jobs.specs.declared.job_orders.{Moved.Moved, Removed.Removed}
 use Rattle.bq_state.specs.{Crowds.AreCrowds, SeatStates.seat_passes}
 use Rattle.bq_state.specs.{FirstTimeouts.{AreTimeouts, timeout_after}, KeptTubes.KeptTubes, Leaving.gone_of}
 use Rattle.bq_state.specs.{MaybeGoneTubes.{AreAlive, with_existing, with_gone}, Offers.is_waited_at, TubeEntries.counted}
-use Rattle.bq_state.specs.Tallies.{AreCounted, count_with, count_without, tally_left, tally_moved, tally_of, tally_with, tally_without}
+use Rattle.bq_state.specs.Tallies.{AreCounted, count_with, count_without, tally_left, tally_moved, tally_of, tally_with}
 use Rattle.bq_state.specs.{WaitingTurns.WaitingTurns, WantedJobs.{AreKnown, wanted_after_seat}}
 use Rattle.bq_state.specs.{WantedJobs.{wanted_after_tube, with_wanted}, Warnings.{AreWarned, warned_by_seat, with_holder_of}}
 use Rattle.bq_state.specs.declared.{known.Known.Known, seats.SeatChange.SeatChange, tubes.entry.{Share.Share, TubeChange.TubeChange}}
@@ -36,7 +36,7 @@ nothing_known = record {
   connected = 0;
   maybe_gone = gone_tubes.Nothing;
   wanted = wanted_jobs.Nothing;
-  warns = holders.Nobody;
+  warns = holders.Nothing;
   first_timeout = ends.Known None;
 }
 
@@ -49,14 +49,7 @@ with_job j is_wanted waits k = record k {
   warns = if waits then with_holder_of j.state k.warns else k.warns;
 }
 
--- with one job fewer; whether a client uses or watches its tube is given
-abbrev pub without_job : Job → Bool → Known → Known
-without_job j has_seats k = record k {
-  tally = tally_without j k.tally;
-  maybe_gone = if not has_seats then with_gone j.tube k.maybe_gone else k.maybe_gone;
-}
-
--- the same from the report about a removed job
+-- with one job fewer, from the report about it; whether a client uses or watches its tube is given
 abbrev pub with_removal : Removed → Bool → Known → Known
 with_removal r has_seats k = record k {
   tally = tally_left r.at k.tally;

@@ -1,30 +1,29 @@
 -- Which entries may be of tubes that have gone.
 use Rattle.std.specs.{List.AllByRecursion, Prelude.{◌||◌, ◌≡◌, if◌then◌else◌, Bool, List, ℕ, false, true}}
 use Rattle.bq_job.specs.{declared.job.Job.Job, machine.{SeatRecord, TubeRecord}, reading.TubeName.is_same_name}
-use Rattle.bq_state.specs.{declared.known.maybe_gone.MaybeGone.{MaybeGone, TheVariants.{Any, Nothing, Of}}, TubeEntries.is_tube_of}
+use Rattle.bq_state.specs.{declared.known.maybe_gone.MaybeGone.{MaybeGone, TheVariants.{Any, Nothing, Tube}}, TubeEntries.is_tube_of}
 
 -- no tube may have gone
-abbrev pub is_none_gone : MaybeGone → Bool
-is_none_gone Nothing = true
-is_none_gone (Of gone) = false
-is_none_gone Any = false
+abbrev pub is_nothing : MaybeGone → Bool
+is_nothing Nothing = true
+is_nothing _ = false
 
 -- the tube with this name may have gone
 abbrev pub may_be_gone : MaybeGone → List ℕ → Bool
 may_be_gone Nothing name = false
-may_be_gone (Of gone) name = is_same_name gone name
+may_be_gone (Tube gone) name = is_same_name gone name
 may_be_gone Any name = true
 
 -- one more tube may have gone
 abbrev pub with_gone : List ℕ → MaybeGone → MaybeGone
-with_gone name Nothing = Of name
-with_gone name (Of gone) = if is_same_name gone name then Of name else Any
+with_gone name Nothing = Tube name
+with_gone name (Tube gone) = if is_same_name gone name then Tube name else Any
 with_gone name Any = Any
 
 -- the tube exists
 abbrev pub with_existing : List ℕ → MaybeGone → MaybeGone
 with_existing name Nothing = Nothing
-with_existing name (Of gone) = if is_same_name gone name then Nothing else Of gone
+with_existing name (Tube gone) = if is_same_name gone name then Nothing else Tube gone
 with_existing name Any = Any
 
 -- the tube exists, or may have gone

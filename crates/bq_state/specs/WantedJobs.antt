@@ -24,17 +24,10 @@ with_wanted name (Tube wanted_tube) = if is_same_name wanted_tube name then Tube
 with_wanted name (Client waiter) = Any
 with_wanted name Any = Any
 
--- also those for which the client at this seat waits
-abbrev pub with_waiter : ℕ → Wanted → Wanted
-with_waiter seat Nothing = Client seat
-with_waiter seat _ = Any
-
-abbrev pub with_all_wanted : Wanted → Wanted
-with_all_wanted _ = Any
-
--- Of the changes of a seat, one lets a client wait.
+-- Of the changes of a seat, one lets a client wait: then also the jobs for which it waits.
 abbrev pub wanted_after_seat : ℕ → SeatChange → Wanted → Wanted
-wanted_after_seat seat (Wait ticket until) wanted = with_waiter seat wanted
+wanted_after_seat seat (Wait ticket until) Nothing = Client seat
+wanted_after_seat seat (Wait ticket until) _ = Any
 wanted_after_seat seat _ wanted = wanted
 
 -- Of the changes of a tube, one may end a pause.

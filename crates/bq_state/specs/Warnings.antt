@@ -3,18 +3,18 @@ use Rattle.std.specs.List.{AllByRecursion, list_any}
 use Rattle.std.specs.Prelude.{◌&&◌, ◌==◌, ◌||◌, ◌≡◌, if◌then◌else◌, Bool, List, None, Option, Some, ℕ, false, not, true}
 use Rattle.bq_job.specs.{declared.job.{Job.Job, JobState.JobState}, machine.{SeatRecord, is_held_by, is_waiting, seat_with}}
 use Rattle.bq_job.specs.declared.job.JobState.TheVariants as states
-use Rattle.bq_state.specs.declared.known.warns.Warns.{Warns, TheVariants.{Any, Client, Nobody}}
+use Rattle.bq_state.specs.declared.known.warns.Warns.{Warns, TheVariants.{Any, Client, Nothing}}
 use Rattle.bq_state.specs.declared.seats.SeatChange.{SeatChange, TheVariants.{Clear, StopWaiting, Wait}}
 
 -- the client at this seat may hold a job while it waits
 abbrev pub may_warn : Warns → ℕ → Bool
-may_warn Nobody seat = false
+may_warn Nothing seat = false
 may_warn (Client holder) seat = seat == holder
 may_warn Any seat = true
 
 -- also the client at this seat
 abbrev pub with_holder : ℕ → Warns → Warns
-with_holder seat Nobody = Client seat
+with_holder seat Nothing = Client seat
 with_holder seat (Client holder) = if holder == seat then Client seat else Any
 with_holder seat Any = Any
 
@@ -25,8 +25,8 @@ with_holder_of _ warns = warns
 
 -- without the client at this seat
 abbrev pub without_holder : ℕ → Warns → Warns
-without_holder seat Nobody = Nobody
-without_holder seat (Client holder) = if holder == seat then Nobody else Client holder
+without_holder seat Nothing = Nothing
+without_holder seat (Client holder) = if holder == seat then Nothing else Client holder
 without_holder seat Any = Any
 
 -- Of the changes of a seat, two end a wait.
@@ -38,7 +38,7 @@ warned_by_seat seat _ warns = warns
 -- If no client is due to get DEADLINE_SOON, none holds a job.
 abbrev pub warned_if_due : Bool → Warns → Warns
 warned_if_due true warns = warns
-warned_if_due false warns = Nobody
+warned_if_due false warns = Nothing
 
 -- there is a client at the seat, and it waits
 abbrev pub is_waiting_there : Option SeatRecord → Bool

@@ -273,7 +273,7 @@ pub fn note_leases(state: &mut CoreParts, seat: Seat)
     ensures asks { Asks 1 state.old.jobs state.new.jobs }
 {
     let holds = state.holds_some(seat);
-    state.known.warns.warn_if(seat, holds);
+    state.known.warns.add_client_if(seat, holds);
 }
 
 /// Finds when the first wait times out, if that isn't known.
@@ -356,7 +356,7 @@ pub fn provide_tube(
     }
     let number = state.tubes.provide(alloc, tube)?;
     state.jobs.learn(state.tubes.names());
-    state.known.maybe_gone.add(tube, number);
+    state.known.maybe_gone.add_tube(tube, number);
     Ok(number)
 }
 
@@ -408,7 +408,7 @@ pub fn ignore_tube(state: &mut CoreParts, seat: Seat, tube: &TubeName) -> u64
         state
             .tubes
             .recount(tube, TubeNumber::unknown(), Moving::Goes, share);
-        state.known.maybe_gone.add(tube, TubeNumber::unknown());
+        state.known.maybe_gone.add_tube(tube, TubeNumber::unknown());
         seats::ignore(&mut state.seats, seat, tube)
     } else {
         0

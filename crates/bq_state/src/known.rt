@@ -49,7 +49,7 @@ impl Known {
             connected: 0,
             maybe_gone: MaybeGone::Nothing,
             wanted: Wanted::Nothing,
-            warns: Warns::Nobody,
+            warns: Warns::Nothing,
             first_timeout: FirstTimeout::Known(None),
         }
     }
@@ -69,9 +69,9 @@ impl Known {
         ensures { self.new ≡ with_job job.now is_wanted waits self.old }
     {
         self.tally.enter(Standing::of(job));
-        self.maybe_gone.remove(name);
+        self.maybe_gone.remove_tube(name);
         self.wanted.add_tube_if(name, number, is_wanted);
-        self.warns.warn_holder_if(job.state, waits);
+        self.warns.add_holder_if(job.state, waits);
     }
 
     /// The job of this report is removed from the tube with this name and number. `has_seats` says
@@ -87,7 +87,9 @@ impl Known {
         ensures { self.new ≡ with_removal removed.now has_seats self.old }
     {
         self.tally.leave(removed.at);
-        self.maybe_gone.add_if(name, number, !has_seats);
+        if !has_seats {
+            self.maybe_gone.add_tube(name, number);
+        }
     }
 
     /// A job of the tube with this name and number is changed; the last two arguments describe it
@@ -107,7 +109,7 @@ impl Known {
         self.tally.leave(moved.from);
         self.tally.enter(moved.to);
         self.wanted.add_tube_if(name, number, is_wanted);
-        self.warns.warn_holder_if(moved.to.state, waits);
+        self.warns.add_holder_if(moved.to.state, waits);
     }
 
     /// Notes that a seat, if there is one, is about to change. Its tubes have stopped counting it,
@@ -136,7 +138,7 @@ impl Known {
         ensures { self.new ≡ with_joined (option_copied client.entry) seat what.now self.old }
     {
         self.wanted.change_seat(seat, what);
-        self.warns.warn_seat(seat, what);
+        self.warns.change_seat(seat, what);
         if is_connected(client) {
             self.connected = self.connected.saturating_add(1);
         }

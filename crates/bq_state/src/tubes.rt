@@ -301,7 +301,7 @@ impl Tubes {
     {
         match maybe_gone {
             MaybeGone::Nothing => {}
-            MaybeGone::Of(gone) => walks::forget_one(&mut self.kept, &mut self.ends, jobs, gone),
+            MaybeGone::Tube(gone) => walks::forget_one(&mut self.kept, &mut self.ends, jobs, gone),
             MaybeGone::Any => walks::forget_all(&mut self.kept, &mut self.ends, jobs),
         }
     }

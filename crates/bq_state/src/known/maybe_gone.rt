@@ -1,7 +1,7 @@
 //! Which entries may be of tubes that have gone.
-ghost use Rattle.std.specs.{Option.option_copied, Prelude.{[], if◌then◌else◌, ◌∷◌, ◌≡◌}};
-ghost use Rattle.bq_state.specs.Leaving.{exists_in, gone_all, gone_if, gone_of, gone_unless};
-ghost use Rattle.bq_state.specs.MaybeGoneTubes.{is_none_gone, with_existing, with_gone};
+ghost use Rattle.std.specs.{Option.option_copied, Prelude.{◌≡◌}};
+ghost use Rattle.bq_state.specs.Leaving.{exists_in, gone_all, gone_of, gone_unless};
+ghost use Rattle.bq_state.specs.MaybeGoneTubes.{is_nothing, with_existing, with_gone};
 
 use crate::seats::SeatRecord;
 use crate::tubes::{Share, Tubes};
@@ -15,7 +15,7 @@ pub enum MaybeGone {
     /// None: each entry is of a tube that exists.
     Nothing,
     /// At most this tube, which a job, a user or a watcher left, or whose entry is new.
-    Of(Tube),
+    Tube(Tube),
     /// Any tube.
     Any,
 }
@@ -23,7 +23,7 @@ pub enum MaybeGone {
 impl MaybeGone {
     /// Returns true if no tube may have gone.
     pub(crate) fn is_nothing(&self) -> bool
-        ensures { result ≡ is_none_gone self.now }
+        ensures { result ≡ is_nothing self.now }
     {
         match self {
             MaybeGone::Nothing => true,
@@ -33,39 +33,30 @@ impl MaybeGone {
 
     /// This tube may have gone too. It is not inlined, since it is rare and copies a name.
     #[inline(never)]
-    pub(crate) fn add(&mut self, name: &TubeName, hint: TubeNumber)
+    pub(crate) fn add_tube(&mut self, name: &TubeName, hint: TubeNumber)
         ensures { self.new ≡ with_gone name.now self.old }
     {
-        *self = match &*self {
-            MaybeGone::Nothing => MaybeGone::Of(Tube::new(name, hint)),
-            MaybeGone::Of(gone) => if gone.name() == name {
-                MaybeGone::Of(Tube::new(name, hint))
-            } else {
-                MaybeGone::Any
-            },
-            MaybeGone::Any => MaybeGone::Any,
+        let is_alone = match &*self {
+            MaybeGone::Nothing => true,
+            MaybeGone::Tube(gone) => gone.name() == name,
+            MaybeGone::Any => false,
         };
-    }
-
-    /// This tube may have gone too, if `may_be_gone`.
-    pub(crate) fn add_if(&mut self, name: &TubeName, hint: TubeNumber, may_be_gone: bool)
-        ensures { self.new ≡ (if may_be_gone then with_gone name.now self.old else self.old) }
-    {
-        if may_be_gone {
-            self.add(name, hint);
+        if is_alone {
+            *self = MaybeGone::Tube(Tube::new(name, hint));
+        } else {
+            *self = MaybeGone::Any;
         }
     }
 
     /// This tube exists.
-    pub(crate) fn remove(&mut self, name: &TubeName)
+    pub(crate) fn remove_tube(&mut self, name: &TubeName)
         ensures { self.new ≡ with_existing name.now self.old }
     {
-        let is_removed = match &*self {
-            MaybeGone::Nothing => false,
-            MaybeGone::Of(gone) => gone.name() == name,
-            MaybeGone::Any => false,
+        let is_alone = match &*self {
+            MaybeGone::Tube(gone) => gone.name() == name,
+            _ => false,
         };
-        if is_removed {
+        if is_alone {
             *self = MaybeGone::Nothing;
         }
     }
@@ -75,33 +66,17 @@ impl MaybeGone {
         ensures { self.new ≡ gone_unless (exists_in tubes.now tube.now) tube.now self.old }
     {
         if !tubes.is_tube(tube.name(), tube.number()) {
-            self.add(tube.name(), tube.number());
+            self.add_tube(tube.name(), tube.number());
         }
     }
 
     // Does the same for each of these tubes.
     #[tactic(auto, using(crate::proofs::LoopLemmas::folded_more))]
-    fn add_all(&mut self, tubes: &Tubes, watched: &[Tube])
+    fn add_tubes(&mut self, tubes: &Tubes, watched: &[Tube])
         ensures { self.new ≡ gone_all tubes.now watched.now self.old }
     {
         for i in 0..watched.len() {
             self.add_unless_there(tubes, &watched[i]);
-        }
-    }
-
-    fn add_used(&mut self, tubes: &Tubes, used: &Tube, is_left: bool)
-        ensures { self.new ≡ gone_if is_left tubes.now (used.now ∷ []) self.old }
-    {
-        if is_left {
-            self.add_unless_there(tubes, used);
-        }
-    }
-
-    fn add_watched(&mut self, tubes: &Tubes, watched: &[Tube], is_left: bool)
-        ensures { self.new ≡ gone_if is_left tubes.now watched.now self.old }
-    {
-        if is_left {
-            self.add_all(tubes, watched);
         }
     }
 
@@ -114,7 +89,11 @@ impl MaybeGone {
         let Some(client) = client else {
             return;
         };
-        self.add_used(tubes, client.used(), what.using);
-        self.add_watched(tubes, client.watched(), what.watching);
+        if what.using {
+            self.add_unless_there(tubes, client.used());
+        }
+        if what.watching {
+            self.add_tubes(tubes, client.watched());
+        }
     }
 }

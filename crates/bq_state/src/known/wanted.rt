@@ -1,6 +1,7 @@
 //! Which jobs waiting clients may have, as far as it is known without a search.
 ghost use Rattle.std.specs.Prelude.{if◌then◌else◌, ◌≡◌};
-ghost use Rattle.bq_state.specs.WantedJobs.{is_nothing, wanted_after_seat, wanted_after_tube, with_all_wanted, with_waiter, with_wanted};
+ghost use Rattle.bq_state.specs.WantedJobs.{is_nothing, wanted_after_seat, wanted_after_tube, with_wanted};
+ghost use Rattle.bq_state.specs.declared.known.wanted.Wanted.TheVariants as wanted_jobs;
 
 use crate::seats::SeatChange;
 use crate::tubes::TubeChange;
@@ -39,7 +40,7 @@ impl Wanted {
     {
         let is_alone = match &*self {
             Wanted::Nothing => true,
-            Wanted::Tube(wanted_tube) => wanted_tube.name() == name,
+            Wanted::Tube(wanted) => wanted.name() == name,
             Wanted::Client(_) | Wanted::Any => false,
         };
         if is_alone {
@@ -47,16 +48,6 @@ impl Wanted {
         } else {
             *self = Wanted::Any;
         }
-    }
-
-    // The jobs for which the client at this seat waits may be had too.
-    fn add_client(&mut self, seat: Seat)
-        ensures { self.new ≡ with_waiter seat self.old }
-    {
-        *self = match &*self {
-            Wanted::Nothing => Wanted::Client(seat),
-            _ => Wanted::Any,
-        };
     }
 
     /// The jobs of this tube may be had too, if `is_wanted`. It is looked for at the number `hint`
@@ -71,20 +62,23 @@ impl Wanted {
 
     /// Any job may be had, if `is_wanted`.
     pub(crate) fn add_all_if(&mut self, is_wanted: bool)
-        ensures { self.new ≡ (if is_wanted then with_all_wanted self.old else self.old) }
+        ensures { self.new ≡ (if is_wanted then wanted_jobs.Any else self.old) }
     {
         if is_wanted {
             *self = Wanted::Any;
         }
     }
 
-    /// What may be had after a change of a seat.
+    /// What may be had after a change of a seat: if its client waits, the jobs for which it waits
+    /// too.
     pub(crate) fn change_seat(&mut self, seat: Seat, what: &SeatChange)
         ensures { self.new ≡ wanted_after_seat seat what.now self.old }
     {
-        match what {
-            SeatChange::Wait(_, _) => self.add_client(seat),
-            _ => {}
+        if let SeatChange::Wait(_, _) = what {
+            *self = match &*self {
+                Wanted::Nothing => Wanted::Client(seat),
+                _ => Wanted::Any,
+            };
         }
     }
 
@@ -92,9 +86,8 @@ impl Wanted {
     pub(crate) fn change_tube(&mut self, name: &TubeName, hint: TubeNumber, what: TubeChange)
         ensures { self.new ≡ wanted_after_tube name.now what self.old }
     {
-        match what {
-            TubeChange::Pause(seconds, _) => self.add_tube_if(name, hint, seconds == 0),
-            _ => {}
+        if let TubeChange::Pause(seconds, _) = what {
+            self.add_tube_if(name, hint, seconds == 0);
         }
     }
 }

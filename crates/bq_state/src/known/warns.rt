@@ -10,7 +10,7 @@ use bq_job::{JobState, Seat};
 #[derive(Clone, Copy)]
 pub enum Warns {
     /// None.
-    Nobody,
+    Nothing,
     /// At most the client at this seat.
     Client(Seat),
     /// Any.
@@ -19,70 +19,58 @@ pub enum Warns {
 
 impl Warns {
     // The client at this seat may hold a job too.
-    fn warn(&mut self, seat: Seat)
+    fn add_client(&mut self, seat: Seat)
         ensures { self.new ≡ with_holder seat self.old }
     {
-        *self = match *self {
-            Warns::Nobody => Warns::Client(seat),
-            Warns::Client(holder) => if holder == seat {
-                Warns::Client(seat)
-            } else {
-                Warns::Any
-            },
-            Warns::Any => Warns::Any,
+        let is_alone = match *self {
+            Warns::Nothing => true,
+            Warns::Client(holder) => holder == seat,
+            Warns::Any => false,
         };
-    }
-
-    /// The client at this seat may hold a job too, if `holds`.
-    pub(crate) fn warn_if(&mut self, seat: Seat, holds: bool)
-        ensures { self.new ≡ (if holds then with_holder seat self.old else self.old) }
-    {
-        if holds {
-            self.warn(seat);
+        if is_alone {
+            *self = Warns::Client(seat);
+        } else {
+            *self = Warns::Any;
         }
     }
 
-    // Adds the holder of a job in this state, if there is one.
-    fn warn_holder(&mut self, at: JobState)
-        ensures { self.new ≡ with_holder_of at self.old }
+    /// The client at this seat may hold a job too, if `holds`.
+    pub(crate) fn add_client_if(&mut self, seat: Seat, holds: bool)
+        ensures { self.new ≡ (if holds then with_holder seat self.old else self.old) }
     {
-        match at {
-            JobState::Reserved(seat, _) => self.warn(seat),
-            _ => {}
+        if holds {
+            self.add_client(seat);
         }
     }
 
     /// Adds the holder of a job in this state, if it waits.
-    pub(crate) fn warn_holder_if(&mut self, at: JobState, waits: bool)
+    pub(crate) fn add_holder_if(&mut self, at: JobState, waits: bool)
         ensures { self.new ≡ (if waits then with_holder_of at self.old else self.old) }
     {
-        if waits {
-            self.warn_holder(at);
+        if let JobState::Reserved(seat, _) = at {
+            self.add_client_if(seat, waits);
         }
     }
 
     // The client at this seat no longer waits.
-    fn forget(&mut self, seat: Seat)
+    fn remove_client(&mut self, seat: Seat)
         ensures { self.new ≡ without_holder seat self.old }
     {
-        *self = match *self {
-            Warns::Nobody => Warns::Nobody,
-            Warns::Client(holder) => if holder == seat {
-                Warns::Nobody
-            } else {
-                Warns::Client(holder)
-            },
-            Warns::Any => Warns::Any,
+        let is_alone = match *self {
+            Warns::Client(holder) => holder == seat,
+            _ => false,
         };
+        if is_alone {
+            *self = Warns::Nothing;
+        }
     }
 
     /// What is known after a change of a seat.
-    pub(crate) fn warn_seat(&mut self, seat: Seat, what: &SeatChange)
+    pub(crate) fn change_seat(&mut self, seat: Seat, what: &SeatChange)
         ensures { self.new ≡ warned_by_seat seat what.now self.old }
     {
         match what {
-            SeatChange::StopWaiting => self.forget(seat),
-            SeatChange::Clear => self.forget(seat),
+            SeatChange::StopWaiting | SeatChange::Clear => self.remove_client(seat),
             _ => {}
         }
     }
@@ -93,7 +81,7 @@ impl Warns {
         ensures { self.new ≡ warned_if_due is_due self.old }
     {
         if !is_due {
-            *self = Warns::Nobody;
+            *self = Warns::Nothing;
         }
     }
 }

@@ -9,4 +9,4 @@ invariant_of-state-2-clause-sound c =
     let none : has_entry name st.tubes.entries ≡ false = sym c.number_of.ensures.there ∙ ap is_some c.in_default.is in
     let entries = entries_provided st name in
     let known = so_provided st name c.provide.new.self.numbers none in
-    rw (c.add.ensures, c.in_ok-number.ensures.after, c.learn.ensures) assumption
+    rw (c.add_tube.ensures, c.in_ok-number.ensures.after, c.learn.ensures) assumption
