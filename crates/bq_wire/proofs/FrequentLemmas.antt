@@ -29,10 +29,10 @@ line_before (a ∷ b ∷ line) all =
     let here : (a == 13) ≡ false = grind (arith, nat_tests, all) in
     rw (here, line_before (b ∷ line) (grind (arith, nat_tests, all)))
 
-pub reserve_is : (piece rest : List ℕ) (end : ℕ) (asked : spec.LineRead) → piece ≡ codes "reserve" ++ 13 ∷ 10 ∷ rest → end ≡ 9
-    → asked ≡ spec.Whole requests.Reserve → IsLineAsking asked (take end piece)
-reserve_is piece rest end asked is nine reserve =
-    rw (is, nine, reserve) (record { line = codes "reserve"; first_line_is = refl; read_is = refl })
+pub reserve_is : (piece : List ℕ) (end : ℕ) (asked : spec.LineRead) → end ≡ 9 → asked ≡ spec.Whole requests.Reserve
+    → take end piece ≡ codes "reserve" ++ 13 ∷ 10 ∷ [] → IsLineAsking asked (take end piece)
+reserve_is piece end asked nine reserve is =
+    rw (reserve, is) (record { line = codes "reserve"; first_line_is = refl; read_is = refl })
 
 -- A text begins with numbers, each but the last followed by a space, and then the CR before `rest`. These are their words.
 record Numbers (text rest : List ℕ) (these : List (List ℕ)) : Type 0 where

@@ -1,7 +1,7 @@
 -- Where command lines end.
 use Rattle.std.proofs.Common.{◌≡◌, ◌<◌, ◌≤◌, ℕ, ◌+◌, ◌-◌, zero, suc, Bool, true, false, ◌&&◌}
 use Rattle.std.proofs.Common.{◌==◌, List, [], ◌∷◌, ◌++◌, Option, Some, None, add-one}
-use Rattle.std.proofs.Common.{refl, arith, length, length-append, take, drop, get_or, MatchOption, option_map, if◌then◌else◌}
+use Rattle.std.proofs.Common.{refl, arith, length, length-append, take, drop, get_or, option_map, if◌then◌else◌}
 use Rattle.std.proofs.Math.Bool.{and-false, and-true}
 use Rattle.std.proofs.lemmas.Bool.{cases_Bool, Decides.nat_tests}
 use Rattle.std.proofs.lemmas.Grind.{common_steps}
@@ -38,17 +38,14 @@ line_end_at c (b ∷ bytes) (suc k) low here before =
     let later = line_end_at (b == 13) bytes k (omega arith) here (λ j less. before (suc j) (omega arith)) in
     rw (not_here, and-false c, later) (one_more (last_is_cr (b == 13) (take k bytes)) k (line_end_after false (drop (suc k) bytes)))
 
--- the first line feed, as the code searches for it
-pub first_feed : (c : Bool) (bytes : List ℕ) (r : Option ℕ) → IsFirstByte (is_byte 10) bytes r
-    → MatchOption r (line_end_after c bytes ≡ None) (λ k. (k < length bytes)
-    ×
-    (line_end_after c bytes ≡ (if last_is_cr c (take k bytes) then Some (k + 1) else later_by (k + 1)
-    (line_end_after false (drop (k + 1) bytes)))))
-first_feed c bytes None none = line_end_none c bytes (λ k low. none k (omega arith) low)
-first_feed c bytes (Some k) found = (
-  found.0.high,
-  rw add-one (line_end_at c bytes k found.0.high found.1 (λ j less. found.0.before j (omega arith) less)),
-)
+-- the same, as the code searches for the first LF
+pub no_feed : (c : Bool) (bytes : List ℕ) → IsFirstByte (is_byte 10) bytes None → line_end_after c bytes ≡ None
+no_feed c bytes none = line_end_none c bytes (λ k low. none k (omega arith) low)
+
+pub feed_at : (c : Bool) (bytes : List ℕ) (k : ℕ) → IsFirstByte (is_byte 10) bytes (Some k)
+    → line_end_after c bytes ≡ (if last_is_cr c (take k bytes) then Some (k + 1) else later_by (k + 1)
+    (line_end_after false (drop (k + 1) bytes)))
+feed_at c bytes k found = rw add-one (line_end_at c bytes k found.0.high found.1 (λ j less. found.0.before j (omega arith) less))
 
 pub last_is_cr_last : (c : Bool) (bytes : List ℕ) → 0 < length bytes → last_is_cr c bytes ≡ (get_or bytes (length bytes - 1) 0 == 13)
 last_is_cr_last c [] some = absurd (omega arith)
@@ -89,9 +86,9 @@ line_end-append c (b ∷ text) more h =
     let no = no_end_cases (c && b == 10) (line_end_after (b == 13) text) h in
     rw (no.0, line_end-append (b == 13) text more no.1) (later_by-suc (length text) (line_end_after (last_is_cr (b == 13) text) more))
 
-pub last_is_cr-append : (c : Bool) (text more : List ℕ) → last_is_cr c (text ++ more) ≡ last_is_cr (last_is_cr c text) more
-last_is_cr-append c [] more = refl
-last_is_cr-append c (b ∷ text) more = last_is_cr-append (b == 13) text more
+pub last_is_cr_append : (c : Bool) (text more : List ℕ) → last_is_cr c (text ++ more) ≡ last_is_cr (last_is_cr c text) more
+last_is_cr_append c [] more = refl
+last_is_cr_append c (b ∷ text) more = last_is_cr_append (b == 13) text more
 
 -- where the first line of a text ends
 first_line_at : (a : ℕ) (bytes : List ℕ)

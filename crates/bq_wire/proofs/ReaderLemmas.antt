@@ -26,7 +26,7 @@ use Rattle.bq_wire.specs.declared.put_body.PutBody.{PutBody}
 use Rattle.bq_wire.specs.declared.reader.ReaderPlace.{ReaderPlace}
 use Rattle.bq_wire.specs.declared.reader.ReaderPlace.TheVariants.{InLine, InLongLine, InBody}
 use Rattle.bq_wire.specs.declared.reader.ReaderState.{ReaderState}
-use Rattle.bq_wire.proofs.LineEndLemmas.{goes_on, ends_there, line_end_within, line_end_one, last_is_cr-append}
+use Rattle.bq_wire.proofs.LineEndLemmas.{goes_on, ends_there, line_end_within, line_end_one, last_is_cr_append}
 
 -- a text without a command line does not begin with a unit
 pub no_line_no_unit : (m : ℕ) (text : List ℕ) → first_line text ≡ None → BeginsNoUnit m text
@@ -141,7 +141,7 @@ pub long_stands : (m : ℕ) (kept text piece : List ℕ) (last after_cr : Bool) 
     → last_is_cr false text ≡ after_cr
     → longest_line < length_beside_cr text → line_end_after after_cr piece ≡ None → last ≡ last_is_cr after_cr piece
     → StandsAt (record { max_job_size = m; kept = kept; place = InLongLine last }) (InLongLine last) (text ++ piece)
-long_stands m kept text piece last after_cr nothing none cr long more last_is = grind (arith, goes_on, last_is_cr-append, common_steps)
+long_stands m kept text piece last after_cr nothing none cr long more last_is = grind (arith, goes_on, last_is_cr_append, common_steps)
 
 -- a command line that ends has at least one byte before its LF
 pub some_byte : (old piece : List ℕ) (e : ℕ) → line_end_after (last_is_cr false old) piece ≡ Some e

@@ -24,6 +24,7 @@ pub struct EndedLine {
 
 /// Reads the command line at the beginning of the piece, if it is one of a put, a reserve or a delete,
 /// is right, and ends in the piece. A complete request is put into `place`.
+#[tactic(auto, using(crate::proofs::FrequentLemmas::reserve_is))]
 #[inline(always)]
 pub fn frequent_line(piece: &[u8], place: &mut Request) -> Option<EndedLine>
     ensures some { IfSome result (λ line. 0 < line.end) }

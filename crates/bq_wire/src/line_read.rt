@@ -78,6 +78,7 @@ struct LineFeed {
 }
 
 // Returns the first line feed. `after_cr` says whether the first byte follows a CR.
+#[tactic(auto, using(crate::proofs::LineEndLemmas::no_feed, crate::proofs::LineEndLemmas::feed_at))]
 fn first_line_feed(after_cr: bool, bytes: &[u8]) -> Option<LineFeed>
     ensures found { MatchOption result (ends.line_end_after after_cr bytes.now ≡ None) (λ feed. ends.line_end_after after_cr bytes.now
         ≡ (if feed.behind_cr then Some (feed.at + 1) else ends.later_by (feed.at + 1)

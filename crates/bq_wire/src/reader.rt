@@ -299,6 +299,7 @@ fn any_line_in(kept: &mut KeptLine, piece: &[u8], place: &mut Request) -> Option
 }
 
 // Keeps the bytes of an unfinished command line, or none if the line is too long.
+#[tactic(auto, using(std::proofs::lemmas::Grind::common_steps, crate::proofs::LineEndLemmas::last_is_cr_append))]
 fn keep(kept: &mut KeptLine, piece: &[u8]) -> ReaderPlace
     ensures { Keeps kept.old kept.new result piece.now }
 {

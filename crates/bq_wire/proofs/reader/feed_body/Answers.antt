@@ -22,9 +22,3 @@ returns-else-is_whole-clause-feeds c = λ text stands.
     let piece : take taken.result c.args.piece.now ≡ c.args.piece.now = rw all (take-length c.args.piece.now) in
     let takes : TakesBytes c.args.body taken.new.self c.args.piece.now = rw piece at taken.ensures.takes in
     search (waits_by, begun_more)
-
-pub returns-then-is_whole-clause-missing : goal.returns-then-is_whole-clause-missing
-returns-then-is_whole-clause-missing c = grind arith
-
-pub returns-else-is_whole-clause-missing : goal.returns-else-is_whole-clause-missing
-returns-else-is_whole-clause-missing c = grind arith

@@ -1,9 +1,6 @@
-use Rattle.std.proofs.Common.{◌+◌, ◌-◌, arith, drop, take}
+use Rattle.std.proofs.Common.{◌+◌, ◌-◌, drop, take}
 use Rattle.bq_wire.proofs.ReaderLemmas.{feeds_put, two_parts}
 use Rattle.bq_wire.proofs.reader.feed_put.Goals as goal
-
-pub returns-then-is_at_hand-clause-fed : goal.returns-then-is_at_hand-clause-fed
-returns-then-is_at_hand-clause-fed c = grind arith
 
 pub returns-then-is_at_hand-clause-feeds : goal.returns-then-is_at_hand-clause-feeds
 returns-then-is_at_hand-clause-feeds c = λ nothing text line.
@@ -11,6 +8,3 @@ returns-then-is_at_hand-clause-feeds c = λ nothing text line.
     (take (c.args.put.bytes + 2 - c.args.put.bytes) (drop c.args.put.bytes c.args.piece.now)) c.whole_put.new.place
     nothing c.requires line (c.is_at_hand.ensures.whole c.if-is_at_hand.true) (two_parts c.args.piece.now c.args.put.bytes)
     (c.is_at_hand.ensures.small c.if-is_at_hand.true) c.whole_put.ensures
-
-pub returns-clause-feeds : goal.returns-clause-feeds
-returns-clause-feeds c = grind arith
