@@ -1,4 +1,4 @@
-use Rattle.std.proofs.Common.{refl, arith}
+use Rattle.std.proofs.Common.{refl}
 use Rattle.bq_seat.specs.SeatParts.{holding}
 use Rattle.bq_seat.proofs.LooksLemmas.{answered_all, one_unanswered}
 use Rattle.bq_seat.proofs.MoveLemmas.{goes_on, turn}
@@ -12,9 +12,3 @@ returns-in-Reading c = goes_on (holding c.args.bytes.now c.args.self.now) c.in-R
 pub returns-in-ReadingOn : goal.returns-in-ReadingOn
 returns-in-ReadingOn c = turn c.in-ReadingOn.is c.keep.ensures.action c.keep.ensures.after (refl, refl, refl, tt, tt)
     (λ p h. handed_in_waiting c.args.bytes.now h.0 h.1 h.2) (λ p h. rw (one_unanswered h.0.0) refl)
-
-pub take_in-requires : goal.take_in-requires
-take_in-requires c = grind arith
-
-pub keep-requires : goal.keep-requires
-keep-requires c = grind arith

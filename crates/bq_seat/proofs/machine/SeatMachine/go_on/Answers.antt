@@ -1,11 +1,6 @@
-use Rattle.std.proofs.Common.{arith}
-use Rattle.std.proofs.lemmas.Grind.{common_steps}
 use Rattle.bq_seat.proofs.OpenLemmas as going
 use Rattle.bq_seat.proofs.machine.SeatMachine.go_on.Goals as goal
 
 pub returns-then-self : goal.returns-then-self
 returns-then-self c =
     going.goes_told c.args.self.now _ _ c.args.self.now.kept c.if-self.true c.close.ensures.action c.close.ensures.after
-
-pub returns-then-is_empty : goal.returns-then-is_empty
-returns-then-is_empty c = grind (arith, common_steps)
