@@ -48,7 +48,6 @@ const RING_PLACES: usize = 4;
 
 impl CoreEnd {
     // Makes the next seat's end, and the ring between it and the core's end.
-    #[tactic(auto, using(crate::proofs::PassLemmas::makes))]
     pub(crate) fn next_end<I: IntakeInvariant>(
         &mut self,
         alloc: Global,
