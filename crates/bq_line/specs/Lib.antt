@@ -20,4 +20,5 @@ pub mod ScriptPlace
 pub mod Streams
 pub mod Submitting
 pub mod Tending
+pub mod Watched
 pub mod Writing

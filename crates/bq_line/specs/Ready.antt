@@ -1,7 +1,6 @@
 -- What is known of a stream that never waits, and why.
-use Rattle.std.specs.Prelude.{ℕ, ◌≡◌, ◌&&◌, ◌||◌, Bool, true, false, not, nat_lt, Option, Some, None, Result, Ok, Err}
+use Rattle.std.specs.Prelude.{ℕ, ◌≡◌, ◌&&◌, ◌||◌, Bool, true, not, nat_lt, Option, Some, None, Result, Ok, Err}
 use Rattle.bq_line.specs.LineCalls.{found_nothing}
-use Rattle.bq_line.specs.Streams.{KeepsWaits}
 use Rattle.bq_line.specs.declared.line.Readiness.{Readiness}
 use Rattle.bq_line.specs.declared.line.stream_error.StreamError.{StreamError}
 
@@ -49,24 +48,3 @@ abbrev pub ReportsAfterWrite : {S : Type 0} → (Bool → S → Bool) → (S →
 ReportsAfterWrite reports_bytes reports_room old result new =
     ((is_closing : Bool) → reports_bytes is_closing old ≡ true → reports_bytes is_closing new ≡ true)
     × (found_nothing result ≡ true → reports_room new ≡ true)
-
--- Whatever is marked as not worth a call will be reported by the system once it is.
-abbrev pub AreMarksSure : {S : Type 0} → (Bool → S → Bool) → (S → Bool) → Readiness → S → Type 0
-AreMarksSure reports_bytes reports_room ready stream =
-    (ready.reads ≡ false → reports_bytes ready.is_closing stream ≡ true) × (ready.writes ≡ false → reports_room stream ≡ true)
-
--- A stream is watched: it was set not to wait, and nothing is missed that the marks leave out.
-abbrev pub IsWatched : {S : Type 0} → (Bool → S → Bool) → (Bool → S → Bool) → (S → Bool) → Option Readiness → S → Type 0
-IsWatched is_nonblocking reports_bytes reports_room None stream = ⊥
-IsWatched is_nonblocking reports_bytes reports_room (Some ready) stream =
-    (is_nonblocking true stream ≡ true) × AreMarksSure reports_bytes reports_room ready stream
-
--- A stream that is watched stays watched, and whether its calls wait is as before. That the end of
--- its input or urgent data was reported is not forgotten.
-abbrev pub StaysWatched : {S : Type 0} → (Bool → S → Bool) → (Bool → S → Bool) → (S → Bool) → Option Readiness → S → Option Readiness → S
-    → Type 0
-StaysWatched is_nonblocking reports_bytes reports_room None old now new = Unit {0}
-StaysWatched is_nonblocking reports_bytes reports_room (Some known) old None new = ⊥
-StaysWatched is_nonblocking reports_bytes reports_room (Some known) old (Some now) new =
-    KeepsWaits is_nonblocking old new × (known.is_closing ≡ true → now.is_closing ≡ true)
-    × (AreMarksSure reports_bytes reports_room known old → AreMarksSure reports_bytes reports_room now new)

@@ -3,7 +3,7 @@
 use Rattle.std.specs.Prelude.{ℕ, ◌≡◌, ◌<◌, Bool, false, true, List, length, Option, None, Result, Ok, Err, IfSome}
 use Rattle.std.proofs.Common.{◌∙◌, sym, true≢false}
 use Rattle.std.specs.Io.{ReadsAtMost, WritesAtMost}
-use Rattle.std.specs.Io.KnownBytes.{Appends, Consumes, Keeps, ReadConsumes, WriteAppends}
+use Rattle.std.specs.Io.KnownBytes.{Appends, Consumes, Keeps, ReadConsumes, WriteAppends, prepend_known}
 use Rattle.bq_job.specs.promise.LineSteps.{LineSeen}
 use Rattle.bq_line.specs.declared.line.stream_error.StreamError.{StreamError}
 use Rattle.bq_line.specs.declared.line.stream_error.StreamError.TheVariants as errors
@@ -14,6 +14,14 @@ pub record StreamSeen : Type 0 where
   pub left : Option (List ℕ)
   pub held : Option (List ℕ)
   pub may_fail : Bool
+
+-- the same, by what the trait of the stream means
+abbrev pub stream_seen : {S : Type 0} → (S → Option (List ℕ)) → (S → Option (List ℕ)) → (S → Bool) → S → StreamSeen
+stream_seen remaining contents may_fail stream = record { left = remaining stream; held = contents stream; may_fail = may_fail stream }
+
+-- with these bytes before those that the stream has left
+abbrev pub behind : List ℕ → StreamSeen → StreamSeen
+behind came stream = record { left = prepend_known came stream.left; held = stream.held; may_fail = stream.may_fail }
 
 -- A stream that may fail is none that may not.
 pub not_both : {A : Type 0} (may_fail : Bool) → may_fail ≡ true → may_fail ≡ false → A
@@ -36,22 +44,28 @@ FailsToWriteIf may_fail (Ok n) buf = n ≡ 0 → 0 < length buf → may_fail ≡
 FailsToWriteIf may_fail (Err e) buf = HasCause may_fail e
 
 -- A read put the next bytes that the stream had left into `buf`, at most as many as fit. A read of no
--- bytes, into a buffer with room, means that none were left. An error leaves them as they were.
-abbrev pub ReadsFrom : {E : Type 0} → Option (List ℕ) → Option (List ℕ) → Result ℕ E → List ℕ → Type 0
-ReadsFrom left later result buf = ReadsAtMost result buf × ReadConsumes left later result buf
+-- bytes, into a buffer with room, means that none were left. An error leaves them as they were, and is a
+-- fault only if the stream may fail. What was written is unchanged.
+abbrev pub ReadsFrom : StreamSeen → Result ℕ StreamError → List ℕ → StreamSeen → Type 0
+ReadsFrom old result buf new =
+    ReadsAtMost result buf × ReadConsumes old.left new.left result buf × Keeps old.held new.held × FailsIf old.may_fail result
+    × (new.may_fail ≡ old.may_fail)
 
--- A write took bytes from the front of `buf`, and the stream holds them after what it held. An error
--- leaves what it held as it was.
-abbrev pub WritesTo : {E : Type 0} → Option (List ℕ) → Option (List ℕ) → Result ℕ E → List ℕ → Type 0
-WritesTo held later result buf = WritesAtMost result buf × WriteAppends held later result buf
+-- A write took bytes from the front of `all`, which begins with `first`, and the stream holds them after
+-- what it held. An error leaves what it held as it was. The write fails only if the stream may fail. What
+-- is left to read is unchanged.
+abbrev pub WritesTo : StreamSeen → Result ℕ StreamError → List ℕ → List ℕ → StreamSeen → Type 0
+WritesTo old result first all new =
+    WritesAtMost result all × WriteAppends old.held new.held result all × Keeps old.left new.left × FailsToWriteIf old.may_fail result first
+    × (new.may_fail ≡ old.may_fail)
+
+-- No byte was read from the stream, and none was written to it.
+abbrev pub MovesNothing : StreamSeen → StreamSeen → Type 0
+MovesNothing old new = Keeps old.left new.left × Keeps old.held new.held × (new.may_fail ≡ old.may_fail)
 
 -- Whether its calls wait is as before.
 abbrev pub KeepsWaits : {S : Type 0} → (Bool → S → Bool) → S → S → Type 0
 KeepsWaits is_nonblocking old new = (nonblocking : Bool) → is_nonblocking nonblocking new ≡ is_nonblocking nonblocking old
-
--- No byte was read from the stream, and none was written to it.
-abbrev pub MovesNothing : {S : Type 0} → (S → Option (List ℕ)) → (S → Option (List ℕ)) → S → S → Type 0
-MovesNothing remaining contents old new = Keeps (remaining old) (remaining new) × Keeps (contents old) (contents new)
 
 -- The connection is over a stream that had the state `first` before the connection was made, and
 -- has `last` now. The connection read the bytes that the stream returned since then, and it wrote

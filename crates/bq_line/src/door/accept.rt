@@ -1,7 +1,7 @@
 //! Accepts the next connection of a listener.
 ghost use Rattle.std.specs.Prelude.{◌≡◌, ◌⊎◌, Err, IfErr, IfOk, true};
 ghost use Rattle.bq_line.specs.Accepts.{ends_listener, is_listener_fault, most_failures};
-ghost use Rattle.bq_line.specs.Ready.{IsWatched};
+ghost use Rattle.bq_line.specs.Watched.{IsWatched};
 
 use super::failures::Failures;
 use super::refusals::Refusals;
@@ -91,8 +91,7 @@ pub(super) fn accept_now<R: Eprint, T: Listen, W: Watcher>(
 ) -> Result<Connection<T::Stream>, NotAccepted>
     ensures fault { result ≡ Err NotAccepted.OfListener → T.may_fail listener.now ≡ true }
     ensures stream { IfOk result (λ c. T.Stream.may_fail c.stream ≡ T.streams_may_fail listener.now) }
-    ensures watched { IfOk result (λ c. IsWatched T.Stream.is_nonblocking T.Stream.reports_bytes T.Stream.reports_room
-        c.ready c.stream) }
+    ensures watched { IfOk result (λ c. IsWatched T.Stream.Socket c.ready c.stream) }
     // A connection that the system refuses to watch is not opened.
     ensures registered { IfOk result (λ c. W.watches watcher.now (T.Stream.descriptor c.stream) ≡ true) }
 {
@@ -117,8 +116,7 @@ fn try_accept<R: Eprint, T: Listen, W: Watcher>(
 ) -> Result<Connection<T::Stream>, NotAccepted>
     ensures fault { result ≡ Err NotAccepted.OfListener → T.may_fail listener.now ≡ true }
     ensures stream { IfOk result (λ c. T.Stream.may_fail c.stream ≡ T.streams_may_fail listener.now) }
-    ensures watched { IfOk result (λ c. IsWatched T.Stream.is_nonblocking T.Stream.reports_bytes T.Stream.reports_room
-        c.ready c.stream) }
+    ensures watched { IfOk result (λ c. IsWatched T.Stream.Socket c.ready c.stream) }
     ensures registered { IfOk result (λ c. W.watches watcher.now (T.Stream.descriptor c.stream) ≡ true) }
 {
     match listener.accept() {

@@ -2,8 +2,8 @@ ghost use Rattle.std.specs.Prelude.{◌≡◌, ◌⊎◌, ◌↔◌, [], IfOk, I
 ghost use Rattle.bq_line.specs.Accepts.{most_failures};
 ghost use Rattle.bq_line.specs.Doors.{IfLine, IfOpened, IsLookedFor, IsNoMore, IsNoneFound, IsOpened, MayOpen};
 ghost use Rattle.bq_line.specs.InAll.{in_all};
-ghost use Rattle.bq_line.specs.Ready.{IsWatched};
 ghost use Rattle.bq_line.specs.Streams.{IsSureLine};
+ghost use Rattle.bq_line.specs.Watched.{IsWatched};
 
 use super::accept::{NotAccepted, accept, accept_now, close_next};
 use super::failures::Failures;
@@ -281,8 +281,7 @@ impl<'l, R: Clock + Eprint, S: Socket + Drop + Send, T: Listen<Stream = S>> Door
             ⟦<ListenDoor<'l, R, T> as Door>⟧.same first self.new }
         // No call on the connection waits. Of each call that it leaves out, the system reports when
         // to make it.
-        ensures watched { IfLine result (λ line. IsWatched S.is_nonblocking S.reports_bytes S.reports_room
-            line.line.stream.ready line.line.stream.stream) }
+        ensures watched { IfLine result (λ line. IsWatched S.Socket line.line.stream.ready line.line.stream.stream) }
         // A connection that the system refuses to watch is not opened.
         ensures registered { IfLine result (λ line. W.watches watcher.now (S.descriptor line.line.stream.stream) ≡ true) }
         // Unless it is recorded that the listener was set not to wait, it is not asked. Only a

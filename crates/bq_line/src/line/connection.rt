@@ -1,11 +1,11 @@
 //! A connection: the stream of a client over a socket, with what is known of its readiness.
-ghost use Rattle.std.specs.Prelude.{◌≡◌, Bool, IfOk, None, OnErr, OnOk, Some, ◌++◌, false, not, true};
-ghost use Rattle.std.specs.Io.KnownBytes.{Keeps};
+ghost use Rattle.std.specs.Prelude.{◌≡◌, Bool, IfOk, None, OnErr, OnOk, ◌++◌, false, not, true};
 ghost use Rattle.std.specs.Option.{option_map};
-ghost use Rattle.bq_line.specs.Ready.{IsWatched, KeepsReports, StaysWatched, both};
-ghost use Rattle.bq_line.specs.Streams.{FailsIf, FailsToWriteIf, KeepsWaits, MovesNothing, ReadsFrom, WritesTo};
+ghost use Rattle.bq_line.specs.Ready.{KeepsReports, both};
+ghost use Rattle.bq_line.specs.Streams.{FailsIf, KeepsWaits, MovesNothing, ReadsFrom, WritesTo, stream_seen};
+ghost use Rattle.bq_line.specs.Watched.{IsWatched, StaysWatched};
 
-use super::socket::{read_once, write_once, write_slices_once};
+use super::socket::write_slices_once;
 use super::{Duplex, Readiness, Socket, StreamError, Watcher, found_nothing, in_brief};
 use std::io;
 
@@ -55,11 +55,10 @@ impl<S: Socket> Connection<S> {
     where
         S: Drop,
         // Only a successful switch and a successful registration make a watched connection.
-        ensures watched { IfOk result (λ c. IsWatched S.is_nonblocking S.reports_bytes S.reports_room c.ready c.stream) }
+        ensures watched { IfOk result (λ c. IsWatched S.Socket c.ready c.stream) }
         ensures registered { IfOk result (λ c. W.watches watcher.now (S.descriptor c.stream) ≡ true) }
         ensures gathers { IfOk result (λ c. c.gathers ≡ false) }
-        ensures bytes { IfOk result (λ c. MovesNothing S.remaining S.contents stream c.stream) }
-        ensures same { IfOk result (λ c. S.may_fail c.stream ≡ S.may_fail stream) }
+        ensures moves { let at = stream_seen S.remaining S.contents S.may_fail in IfOk result (λ c. MovesNothing (at stream) (at c.stream)) }
     {
         let Ok(()) = stream.set_nodelay(true) else {
             return Err(NotWatched::HasGone);
@@ -78,72 +77,25 @@ impl<S: Socket> Connection<S> {
         }
     }
 
-    // Reads the stream once if it is ready.
+    // Reads the stream once. A watched one is read only if it is ready; for any other, `waits` says
+    // whether the read waits.
     #[inline(always)]
     #[tactic(auto, using(crate::proofs::ReadyLemmas::read_stays, crate::proofs::ReadyLemmas::stays_same))]
-    fn read_ready(&mut self, buf: &mut [u8], ready: Readiness) -> Result<usize, StreamError>
-        requires known { self.old.ready ≡ Some ready }
-        ensures bytes { ReadsFrom (S.remaining self.old.stream) (S.remaining self.new.stream) result buf.new }
-        ensures apart { Keeps (S.contents self.old.stream) (S.contents self.new.stream) }
-        ensures fault { FailsIf (S.may_fail self.old.stream) result }
-        ensures same { S.may_fail self.new.stream ≡ S.may_fail self.old.stream }
-        ensures watched { StaysWatched S.is_nonblocking S.reports_bytes S.reports_room
-            self.old.ready self.old.stream self.new.ready self.new.stream }
+    fn read_by(&mut self, buf: &mut [u8], waits: bool) -> Result<usize, StreamError>
+        ensures reads { let at = stream_seen S.remaining S.contents S.may_fail in ReadsFrom (at self.old.stream) result buf.new (at self.new.stream) }
+        ensures waits { self.old.ready ≡ None → OnOk result (self.new.waits ≡ waits) }
+        ensures watched { StaysWatched S.Socket self.old.ready self.old.stream self.new.ready self.new.stream }
     {
+        let Some(ready) = self.ready else {
+            self.set_waits(waits)?;
+            return in_brief(self.stream.read(buf));
+        };
         if !ready.reads {
             return Err(StreamError::NotYet);
         }
-        let came = read_once(&mut self.stream, buf);
+        let came = in_brief(self.stream.read(buf));
         self.ready = Some(ready.after_read(&came, buf.len()));
         came
-    }
-
-    // Writes to the stream once if it is ready. Mostly there is still room then, as was known.
-    #[inline(always)]
-    #[tactic(auto, using(crate::proofs::ReadyLemmas::write_stays, crate::proofs::ReadyLemmas::room_stays, crate::proofs::ReadyLemmas::stays_same))]
-    fn write_ready(&mut self, buf: &[u8], ready: Readiness) -> Result<usize, StreamError>
-        requires known { self.old.ready ≡ Some ready }
-        ensures bytes { WritesTo (S.contents self.old.stream) (S.contents self.new.stream) result buf.now }
-        ensures apart { Keeps (S.remaining self.old.stream) (S.remaining self.new.stream) }
-        ensures fault { FailsToWriteIf (S.may_fail self.old.stream) result buf.now }
-        ensures same { S.may_fail self.new.stream ≡ S.may_fail self.old.stream }
-        ensures watched { StaysWatched S.is_nonblocking S.reports_bytes S.reports_room
-            self.old.ready self.old.stream self.new.ready self.new.stream }
-    {
-        if !ready.writes {
-            return Err(StreamError::NotYet);
-        }
-        let took = write_once(&mut self.stream, buf);
-        if found_nothing(&took) {
-            self.ready = Some(ready.after_write(&took));
-            return took;
-        }
-        took
-    }
-
-    #[tactic(auto, using(crate::proofs::ReadyLemmas::write_stays, crate::proofs::ReadyLemmas::stays_same))]
-    fn write_together_ready(
-        &mut self,
-        first: &[u8],
-        second: &[u8],
-        third: &[u8],
-        ready: Readiness,
-    ) -> Result<usize, StreamError>
-        requires known { self.old.ready ≡ Some ready }
-        ensures bytes { WritesTo (S.contents self.old.stream) (S.contents self.new.stream)
-            result (first.now ++ second.now ++ third.now) }
-        ensures apart { Keeps (S.remaining self.old.stream) (S.remaining self.new.stream) }
-        ensures fault { FailsToWriteIf (S.may_fail self.old.stream) result first.now }
-        ensures same { S.may_fail self.new.stream ≡ S.may_fail self.old.stream }
-        ensures watched { StaysWatched S.is_nonblocking S.reports_bytes S.reports_room
-            self.old.ready self.old.stream self.new.ready self.new.stream }
-    {
-        if !ready.writes {
-            return Err(StreamError::NotYet);
-        }
-        let took = write_slices_once(&mut self.stream, first, second, third);
-        self.ready = Some(ready.after_write(&took));
-        took
     }
 
     // Sets whether calls of the stream wait.
@@ -153,9 +105,8 @@ impl<S: Socket> Connection<S> {
         ensures made { OnOk result ((self.old.waits ≡ waits → ⊥) → S.is_nonblocking (not waits) self.new.stream ≡ true) }
         ensures kept { OnErr result (self.new.waits ≡ self.old.waits) }
         ensures gathers { self.new.gathers ≡ self.old.gathers }
-        ensures bytes { MovesNothing S.remaining S.contents self.old.stream self.new.stream }
+        ensures moves { let at = stream_seen S.remaining S.contents S.may_fail in MovesNothing (at self.old.stream) (at self.new.stream) }
         ensures fault { FailsIf (S.may_fail self.old.stream) result }
-        ensures same { S.may_fail self.new.stream ≡ S.may_fail self.old.stream }
     {
         if self.waits != waits {
             in_brief(self.stream.set_nonblocking(!waits))?;
@@ -170,8 +121,7 @@ impl<S: Socket> Connection<S> {
         ensures made { OnOk result ((self.old.gathers ≡ gathers → ⊥) → S.is_nodelay (not gathers) self.new.stream) }
         ensures kept { OnErr result (self.new.gathers ≡ self.old.gathers) }
         ensures waits { self.new.waits ≡ self.old.waits }
-        ensures bytes { MovesNothing S.remaining S.contents self.old.stream self.new.stream }
-        ensures same { S.may_fail self.new.stream ≡ S.may_fail self.old.stream }
+        ensures moves { let at = stream_seen S.remaining S.contents S.may_fail in MovesNothing (at self.old.stream) (at self.new.stream) }
         ensures quiet { KeepsWaits S.is_nonblocking self.old.stream self.new.stream }
         ensures reports { KeepsReports S.reports_bytes S.reports_room self.old.stream self.new.stream }
         ensures ready { self.new.ready ≡ self.old.ready }
@@ -202,75 +152,67 @@ impl<S: Socket> Duplex for Connection<S> {
 
     #[inline(always)]
     fn read(&mut self, buf: &mut [u8]) -> Result<usize, StreamError>
-        ensures bytes { ReadsFrom (S.remaining self.old.stream) (S.remaining self.new.stream) result buf.new }
-        ensures apart { Keeps (S.contents self.old.stream) (S.contents self.new.stream) }
+        ensures reads { let at = stream_seen S.remaining S.contents S.may_fail in ReadsFrom (at self.old.stream) result buf.new (at self.new.stream) }
         ensures waits { self.old.ready ≡ None → OnOk result (self.new.waits ≡ true) }
-        ensures fault { FailsIf (S.may_fail self.old.stream) result }
-        ensures same { S.may_fail self.new.stream ≡ S.may_fail self.old.stream }
-        ensures watched { StaysWatched S.is_nonblocking S.reports_bytes S.reports_room
-            self.old.ready self.old.stream self.new.ready self.new.stream }
+        ensures watched { StaysWatched S.Socket self.old.ready self.old.stream self.new.ready self.new.stream }
     {
-        if let Some(ready) = self.ready {
-            return self.read_ready(buf, ready);
-        }
-        self.set_waits(true)?;
-        read_once(&mut self.stream, buf)
+        self.read_by(buf, true)
     }
 
     fn read_now(&mut self, buf: &mut [u8]) -> Result<usize, StreamError>
-        ensures bytes { ReadsFrom (S.remaining self.old.stream) (S.remaining self.new.stream) result buf.new }
-        ensures apart { Keeps (S.contents self.old.stream) (S.contents self.new.stream) }
+        ensures reads { let at = stream_seen S.remaining S.contents S.may_fail in ReadsFrom (at self.old.stream) result buf.new (at self.new.stream) }
         ensures waits { self.old.ready ≡ None → OnOk result (self.new.waits ≡ false) }
-        ensures fault { FailsIf (S.may_fail self.old.stream) result }
-        ensures same { S.may_fail self.new.stream ≡ S.may_fail self.old.stream }
-        ensures watched { StaysWatched S.is_nonblocking S.reports_bytes S.reports_room
-            self.old.ready self.old.stream self.new.ready self.new.stream }
+        ensures watched { StaysWatched S.Socket self.old.ready self.old.stream self.new.ready self.new.stream }
     {
-        if let Some(ready) = self.ready {
-            return self.read_ready(buf, ready);
-        }
-        self.set_waits(false)?;
-        read_once(&mut self.stream, buf)
+        self.read_by(buf, false)
     }
 
+    // Mostly there is still room after a write, as was known.
     #[inline(always)]
+    #[tactic(auto, using(crate::proofs::ReadyLemmas::write_stays, crate::proofs::ReadyLemmas::room_stays, crate::proofs::ReadyLemmas::stays_same))]
     fn write(&mut self, buf: &[u8]) -> Result<usize, StreamError>
-        ensures bytes { WritesTo (S.contents self.old.stream) (S.contents self.new.stream) result buf.now }
-        ensures apart { Keeps (S.remaining self.old.stream) (S.remaining self.new.stream) }
+        ensures writes { let at = stream_seen S.remaining S.contents S.may_fail in WritesTo (at self.old.stream) result buf.now buf.now (at self.new.stream) }
         ensures waits { self.old.ready ≡ None → OnOk result (self.new.waits ≡ true) }
-        ensures fault { FailsToWriteIf (S.may_fail self.old.stream) result buf.now }
-        ensures same { S.may_fail self.new.stream ≡ S.may_fail self.old.stream }
-        ensures watched { StaysWatched S.is_nonblocking S.reports_bytes S.reports_room
-            self.old.ready self.old.stream self.new.ready self.new.stream }
+        ensures watched { StaysWatched S.Socket self.old.ready self.old.stream self.new.ready self.new.stream }
     {
-        if let Some(ready) = self.ready {
-            return self.write_ready(buf, ready);
+        let Some(ready) = self.ready else {
+            // The last read may not have waited.
+            self.set_waits(true)?;
+            return in_brief(self.stream.write(buf));
+        };
+        if !ready.writes {
+            return Err(StreamError::NotYet);
         }
-        // The last read may not have waited.
-        self.set_waits(true)?;
-        write_once(&mut self.stream, buf)
+        let took = in_brief(self.stream.write(buf));
+        if found_nothing(&took) {
+            self.ready = Some(ready.after_write(&took));
+            return took;
+        }
+        took
     }
 
+    #[tactic(auto, using(crate::proofs::ReadyLemmas::write_stays, crate::proofs::ReadyLemmas::stays_same))]
     fn write_together(
         &mut self,
         first: &[u8],
         second: &[u8],
         third: &[u8],
     ) -> Result<usize, StreamError>
-        ensures bytes { WritesTo (S.contents self.old.stream) (S.contents self.new.stream)
-            result (first.now ++ second.now ++ third.now) }
-        ensures apart { Keeps (S.remaining self.old.stream) (S.remaining self.new.stream) }
+        ensures writes { let at = stream_seen S.remaining S.contents S.may_fail in
+            WritesTo (at self.old.stream) result first.now (first.now ++ second.now ++ third.now) (at self.new.stream) }
         ensures waits { self.old.ready ≡ None → OnOk result (self.new.waits ≡ true) }
-        ensures fault { FailsToWriteIf (S.may_fail self.old.stream) result first.now }
-        ensures same { S.may_fail self.new.stream ≡ S.may_fail self.old.stream }
-        ensures watched { StaysWatched S.is_nonblocking S.reports_bytes S.reports_room
-            self.old.ready self.old.stream self.new.ready self.new.stream }
+        ensures watched { StaysWatched S.Socket self.old.ready self.old.stream self.new.ready self.new.stream }
     {
-        if let Some(ready) = self.ready {
-            return self.write_together_ready(first, second, third, ready);
+        let Some(ready) = self.ready else {
+            self.set_waits(true)?;
+            return write_slices_once(&mut self.stream, first, second, third);
+        };
+        if !ready.writes {
+            return Err(StreamError::NotYet);
         }
-        self.set_waits(true)?;
-        write_slices_once(&mut self.stream, first, second, third)
+        let took = write_slices_once(&mut self.stream, first, second, third);
+        self.ready = Some(ready.after_write(&took));
+        took
     }
 
     // A socket has no buffer of its own.
@@ -279,11 +221,8 @@ impl<S: Socket> Duplex for Connection<S> {
     }
 
     fn expect_more(&mut self, more: bool)
-        ensures bytes { Keeps (S.contents self.old.stream) (S.contents self.new.stream) }
-        ensures apart { Keeps (S.remaining self.old.stream) (S.remaining self.new.stream) }
-        ensures same { S.may_fail self.new.stream ≡ S.may_fail self.old.stream }
-        ensures watched { StaysWatched S.is_nonblocking S.reports_bytes S.reports_room
-            self.old.ready self.old.stream self.new.ready self.new.stream }
+        ensures moves { let at = stream_seen S.remaining S.contents S.may_fail in MovesNothing (at self.old.stream) (at self.new.stream) }
+        ensures watched { StaysWatched S.Socket self.old.ready self.old.stream self.new.ready self.new.stream }
     {
         // A stream that can't be switched stays as it was, and is tried again at the next hint.
         let _switched = self.set_gathers(more);
@@ -305,11 +244,8 @@ impl<S: Socket> Duplex for Connection<S> {
 
     fn note_ready(&mut self, ready: Readiness)
         ensures noted { self.new.ready ≡ option_map (λ known. both known ready) self.old.ready }
-        ensures bytes { Keeps (S.contents self.old.stream) (S.contents self.new.stream) }
-        ensures apart { Keeps (S.remaining self.old.stream) (S.remaining self.new.stream) }
-        ensures same { S.may_fail self.new.stream ≡ S.may_fail self.old.stream }
-        ensures watched { StaysWatched S.is_nonblocking S.reports_bytes S.reports_room
-            self.old.ready self.old.stream self.new.ready self.new.stream }
+        ensures moves { let at = stream_seen S.remaining S.contents S.may_fail in MovesNothing (at self.old.stream) (at self.new.stream) }
+        ensures watched { StaysWatched S.Socket self.old.ready self.old.stream self.new.ready self.new.stream }
     {
         if let Some(known) = self.ready {
             self.ready = Some(known.and(ready));

@@ -1,8 +1,7 @@
 ghost use Rattle.std.specs.Prelude.{◌≡◌, ◌<◌, [], None, OnErr, false, if◌then◌else◌, length, take, true, ◌++◌};
 ghost use Rattle.std.specs.Io.{ReadsAtMost};
-ghost use Rattle.std.specs.Io.KnownBytes.{Keeps};
 ghost use Rattle.bq_line.specs.LineCalls.{after_flush, after_read, after_write, is_nothing_yet, with_line_fault};
-ghost use Rattle.bq_line.specs.Streams.{FailsToWriteIf, MovesNothing, ReadsFrom, StaysOver, WritesTo};
+ghost use Rattle.bq_line.specs.Streams.{MovesNothing, ReadsFrom, StaysOver, WritesTo, stream_seen};
 
 use crate::line::stream::{Duplex, ReadBuffer, fill, read_by, read_through};
 use crate::line::{Line, Readiness, StreamError, note_fault};
@@ -27,8 +26,7 @@ impl<S: Duplex> IoLine<S> {
     pub fn new(stream: S) -> IoLine<S>
         ensures new { result
             ≡ record { stream = stream; ended = false; fault = None; read = []; written = [] } }
-        ensures over { ⟦<IoLine<S> as Line>⟧.lies_over
-            (record { left = S.remaining stream; held = S.contents stream; may_fail = S.may_fail stream }) result }
+        ensures over { ⟦<IoLine<S> as Line>⟧.lies_over (stream_seen S.remaining S.contents S.may_fail stream) result }
     {
         IoLine {
             stream,
@@ -69,8 +67,7 @@ impl<S: Duplex> IoLine<S> {
         requires { 0 < length buf.old }
         ensures seen { ⟦<IoLine<S> as Line>⟧.seen self.new
             ≡ after_read result buf.new (⟦<IoLine<S> as Line>⟧.seen self.old) }
-        ensures stream { ReadsFrom (S.remaining self.old.stream)
-            (S.remaining self.new.stream) result buf.new }
+        ensures stream { let at = stream_seen S.remaining S.contents S.may_fail in ReadsFrom (at self.old.stream) result buf.new (at self.new.stream) }
         ensures stays { StaysOver ⟦<IoLine<S> as Line>⟧.lies_over self.old self.new }
     {
         let result = read_by(&mut self.stream, buf, waits);
@@ -100,7 +97,7 @@ impl<S: Duplex> Line for IoLine<S> {
 
     ghost lies_over = { λ first line. LiesOver first
         (record { read = line.read; written = line.written; ended = line.ended; fault = line.fault })
-        (record { left = S.remaining line.stream; held = S.contents line.stream; may_fail = S.may_fail line.stream }) };
+        (stream_seen S.remaining S.contents S.may_fail line.stream) };
 
     // It has no buffer of its own.
     ghost unread = { λ line. [] };
@@ -113,8 +110,7 @@ impl<S: Duplex> Line for IoLine<S> {
         requires { 0 < length buf.old }
         ensures seen { ⟦<IoLine<S> as Line>⟧.seen self.new
             ≡ after_read result buf.new (⟦<IoLine<S> as Line>⟧.seen self.old) }
-        ensures stream { ReadsFrom (S.remaining self.old.stream)
-            (S.remaining self.new.stream) result buf.new }
+        ensures stream { let at = stream_seen S.remaining S.contents S.may_fail in ReadsFrom (at self.old.stream) result buf.new (at self.new.stream) }
         ensures stays { StaysOver ⟦<IoLine<S> as Line>⟧.lies_over self.old self.new }
     {
         self.read_by(buf, true)
@@ -124,8 +120,7 @@ impl<S: Duplex> Line for IoLine<S> {
         requires { 0 < length buf.old }
         ensures seen { ⟦<IoLine<S> as Line>⟧.seen self.new
             ≡ after_read result buf.new (⟦<IoLine<S> as Line>⟧.seen self.old) }
-        ensures stream { ReadsFrom (S.remaining self.old.stream)
-            (S.remaining self.new.stream) result buf.new }
+        ensures stream { let at = stream_seen S.remaining S.contents S.may_fail in ReadsFrom (at self.old.stream) result buf.new (at self.new.stream) }
         ensures stays { StaysOver ⟦<IoLine<S> as Line>⟧.lies_over self.old self.new }
     {
         self.read_by(buf, false)
@@ -142,11 +137,7 @@ impl<S: Duplex> Line for IoLine<S> {
         requires { 0 < length buf.now }
         ensures seen { ⟦<IoLine<S> as Line>⟧.seen self.new
             ≡ after_write result buf.now (⟦<IoLine<S> as Line>⟧.seen self.old) }
-        ensures stream { WritesTo (S.contents self.old.stream)
-            (S.contents self.new.stream) result buf.now }
-        ensures apart { Keeps (S.remaining self.old.stream) (S.remaining self.new.stream) }
-        ensures fault { FailsToWriteIf (S.may_fail self.old.stream) result buf.now }
-        ensures same { S.may_fail self.new.stream ≡ S.may_fail self.old.stream }
+        ensures stream { let at = stream_seen S.remaining S.contents S.may_fail in WritesTo (at self.old.stream) result buf.now buf.now (at self.new.stream) }
         ensures stays { StaysOver ⟦<IoLine<S> as Line>⟧.lies_over self.old self.new }
     {
         let result = self.stream.write(buf);
@@ -167,11 +158,8 @@ impl<S: Duplex> Line for IoLine<S> {
         requires { 0 < length first.now }
         ensures seen { ⟦<IoLine<S> as Line>⟧.seen self.new
             ≡ after_write result (first.now ++ second.now ++ third.now) (⟦<IoLine<S> as Line>⟧.seen self.old) }
-        ensures stream { WritesTo (S.contents self.old.stream)
-            (S.contents self.new.stream) result (first.now ++ second.now ++ third.now) }
-        ensures apart { Keeps (S.remaining self.old.stream) (S.remaining self.new.stream) }
-        ensures fault { FailsToWriteIf (S.may_fail self.old.stream) result first.now }
-        ensures same { S.may_fail self.new.stream ≡ S.may_fail self.old.stream }
+        ensures stream { let at = stream_seen S.remaining S.contents S.may_fail in
+            WritesTo (at self.old.stream) result first.now (first.now ++ second.now ++ third.now) (at self.new.stream) }
         ensures stays { StaysOver ⟦<IoLine<S> as Line>⟧.lies_over self.old self.new }
     {
         let result = self.stream.write_together(first, second, third);
@@ -186,9 +174,8 @@ impl<S: Duplex> Line for IoLine<S> {
     fn flush(&mut self) -> Result<(), StreamError>
         ensures seen { ⟦<IoLine<S> as Line>⟧.seen self.new
             ≡ after_flush result (⟦<IoLine<S> as Line>⟧.seen self.old) }
-        ensures stream { MovesNothing S.remaining S.contents self.old.stream self.new.stream }
+        ensures stream { let at = stream_seen S.remaining S.contents S.may_fail in MovesNothing (at self.old.stream) (at self.new.stream) }
         ensures fault { OnErr result (S.may_fail self.old.stream ≡ true) }
-        ensures same { S.may_fail self.new.stream ≡ S.may_fail self.old.stream }
         ensures stays { StaysOver ⟦<IoLine<S> as Line>⟧.lies_over self.old self.new }
     {
         let result = self.stream.flush();
@@ -200,8 +187,7 @@ impl<S: Duplex> Line for IoLine<S> {
 
     fn expect_more(&mut self, more: bool)
         ensures seen { ⟦<IoLine<S> as Line>⟧.seen self.new ≡ ⟦<IoLine<S> as Line>⟧.seen self.old }
-        ensures stream { MovesNothing S.remaining S.contents self.old.stream self.new.stream }
-        ensures same { S.may_fail self.new.stream ≡ S.may_fail self.old.stream }
+        ensures stream { let at = stream_seen S.remaining S.contents S.may_fail in MovesNothing (at self.old.stream) (at self.new.stream) }
         ensures stays { StaysOver ⟦<IoLine<S> as Line>⟧.lies_over self.old self.new }
     {
         self.stream.expect_more(more);
@@ -217,8 +203,7 @@ impl<S: Duplex> Line for IoLine<S> {
 
     fn note_ready(&mut self, ready: Readiness)
         ensures seen { ⟦<IoLine<S> as Line>⟧.seen self.new ≡ ⟦<IoLine<S> as Line>⟧.seen self.old }
-        ensures stream { MovesNothing S.remaining S.contents self.old.stream self.new.stream }
-        ensures same { S.may_fail self.new.stream ≡ S.may_fail self.old.stream }
+        ensures stream { let at = stream_seen S.remaining S.contents S.may_fail in MovesNothing (at self.old.stream) (at self.new.stream) }
         ensures stays { StaysOver ⟦<IoLine<S> as Line>⟧.lies_over self.old self.new }
     {
         self.stream.note_ready(ready);
@@ -245,8 +230,7 @@ impl<S: Duplex> BufferedLine<S> {
           line = record { stream = stream; ended = false; fault = None; read = []; written = [] };
           came = [];
         } }
-        ensures over { ⟦<BufferedLine<S> as Line>⟧.lies_over
-            (record { left = S.remaining stream; held = S.contents stream; may_fail = S.may_fail stream }) result }
+        ensures over { ⟦<BufferedLine<S> as Line>⟧.lies_over (stream_seen S.remaining S.contents S.may_fail stream) result }
     {
         came.clear();
         BufferedLine {
@@ -282,18 +266,13 @@ impl<S> BufferedLine<S> {
 
 impl<S: Duplex> Line for BufferedLine<S> {
     ghost use Rattle.std.specs.Prelude.{◌==◌, ◌||◌, not};
-    ghost use Rattle.std.specs.Io.KnownBytes.{prepend_known};
-    ghost use Rattle.bq_line.specs.Streams.{LiesOver};
+    ghost use Rattle.bq_line.specs.Streams.{LiesOver, behind};
 
     ghost seen = { λ line. ⟦<IoLine<S> as Line>⟧.seen line.line };
 
     // The buffered bytes come before those that the stream has left.
     ghost lies_over = { λ first line. LiesOver first (⟦<IoLine<S> as Line>⟧.seen line.line)
-        (record {
-          left = prepend_known line.came (S.remaining line.line.stream);
-          held = S.contents line.line.stream;
-          may_fail = S.may_fail line.line.stream;
-        }) };
+        (behind line.came (stream_seen S.remaining S.contents S.may_fail line.line.stream)) };
 
     ghost unread = { λ line. line.came };
 

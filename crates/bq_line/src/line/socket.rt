@@ -1,11 +1,9 @@
 //! The socket of a connection, and the system's TCP stream as one.
 ghost use Rattle.std.specs.Prelude.{◌≡◌, ℕ, ℤ, Bool, List, None, OnErr, OnOk, Option, ◌++◌, length, true};
-ghost use Rattle.std.specs.Io.{ReadsAtMost, WritesAtMost};
-ghost use Rattle.std.specs.Io.KnownBytes.{Keeps, ReadConsumes, WriteAppends};
 ghost use Rattle.std.specs.Io.Slices.{io_slices_bytes};
 ghost use Rattle.bq_line.specs.LineCalls.{in_brief};
 ghost use Rattle.bq_line.specs.Ready.{KeepsReports, ReportsAfterRead, ReportsAfterWrite};
-ghost use Rattle.bq_line.specs.Streams.{FailsIf, FailsToWriteIf, KeepsWaits, ReadsFrom, WritesTo};
+ghost use Rattle.bq_line.specs.Streams.{FailsIf, KeepsWaits, MovesNothing, ReadsFrom, WritesTo, stream_seen};
 
 use super::{StreamError, Watcher, in_brief};
 use std::io;
@@ -47,63 +45,46 @@ pub trait Socket {
 
     /// Reads as `std::io::Read` does.
     fn read(&mut self, buf: &mut [u8]) -> io::Result<usize>
-        ensures bound { ReadsAtMost result buf.new }
-        ensures bytes { ReadConsumes (remaining self.old) (remaining self.new) result buf.new }
-        ensures apart { Keeps (contents self.old) (contents self.new) }
-        ensures fault { FailsIf (may_fail self.old) (in_brief result) }
+        ensures reads { let at = stream_seen remaining contents may_fail in ReadsFrom (at self.old) (in_brief result) buf.new (at self.new) }
         ensures reports { ReportsAfterRead reports_bytes reports_room self.old (in_brief result) (length buf.new) self.new }
-        ensures waits { KeepsWaits is_nonblocking self.old self.new }
-        ensures same { may_fail self.new ≡ may_fail self.old };
+        ensures waits { KeepsWaits is_nonblocking self.old self.new };
 
     /// Writes as `std::io::Write` does.
     fn write(&mut self, buf: &[u8]) -> io::Result<usize>
-        ensures bound { WritesAtMost result buf.now }
-        ensures bytes { WriteAppends (contents self.old) (contents self.new) result buf.now }
-        ensures apart { Keeps (remaining self.old) (remaining self.new) }
-        ensures fault { FailsToWriteIf (may_fail self.old) (in_brief result) buf.now }
+        ensures writes { let at = stream_seen remaining contents may_fail in WritesTo (at self.old) (in_brief result) buf.now buf.now (at self.new) }
         ensures reports { ReportsAfterWrite reports_bytes reports_room self.old (in_brief result) self.new }
-        ensures waits { KeepsWaits is_nonblocking self.old self.new }
-        ensures same { may_fail self.new ≡ may_fail self.old };
+        ensures waits { KeepsWaits is_nonblocking self.old self.new };
 
     /// Writes a first part of several texts, as `write` does for the text that they form together.
     fn write_slices(&mut self, slices: &[IoSlice<'_>]) -> io::Result<usize>
-        ensures bound { WritesAtMost result (io_slices_bytes slices.now) }
-        ensures bytes { WriteAppends (contents self.old) (contents self.new) result (io_slices_bytes slices.now) }
-        ensures apart { Keeps (remaining self.old) (remaining self.new) }
-        ensures fault { FailsToWriteIf (may_fail self.old) (in_brief result) (io_slices_bytes slices.now) }
+        ensures writes { let at = stream_seen remaining contents may_fail in let bytes = io_slices_bytes slices.now in
+            WritesTo (at self.old) (in_brief result) bytes bytes (at self.new) }
         ensures reports { ReportsAfterWrite reports_bytes reports_room self.old (in_brief result) self.new }
-        ensures waits { KeepsWaits is_nonblocking self.old self.new }
-        ensures same { may_fail self.new ≡ may_fail self.old };
+        ensures waits { KeepsWaits is_nonblocking self.old self.new };
 
     /// Sets whether calls return `WouldBlock` in place of waiting for bytes or for room.
     fn set_nonblocking(&mut self, nonblocking: bool) -> io::Result<()>
         ensures switched { OnOk result (is_nonblocking nonblocking self.new ≡ true) }
         ensures kept { OnErr result (KeepsWaits is_nonblocking self.old self.new) }
-        ensures reports { KeepsReports reports_bytes reports_room self.old self.new }
-        ensures remaining { Keeps (remaining self.old) (remaining self.new) }
-        ensures contents { Keeps (contents self.old) (contents self.new) }
+        ensures moves { let at = stream_seen remaining contents may_fail in MovesNothing (at self.old) (at self.new) }
         ensures fault { FailsIf (may_fail self.old) (in_brief result) }
-        ensures same { may_fail self.new ≡ may_fail self.old };
+        ensures reports { KeepsReports reports_bytes reports_room self.old self.new };
 
     /// Sets whether each write is sent at once. If not, small writes may be held back, so that they
     /// go out together. Setting it sends those that are held back.
     fn set_nodelay(&mut self, nodelay: bool) -> io::Result<()>
         ensures switched { OnOk result (is_nodelay nodelay self.new) }
+        ensures moves { let at = stream_seen remaining contents may_fail in MovesNothing (at self.old) (at self.new) }
         ensures reports { KeepsReports reports_bytes reports_room self.old self.new }
-        ensures remaining { Keeps (remaining self.old) (remaining self.new) }
-        ensures contents { Keeps (contents self.old) (contents self.new) }
-        ensures waits { KeepsWaits is_nonblocking self.old self.new }
-        ensures same { may_fail self.new ≡ may_fail self.old };
+        ensures waits { KeepsWaits is_nonblocking self.old self.new };
 
     /// Has the system report when the socket is ready.
     fn watch<W: Watcher>(&mut self, watcher: &W) -> io::Result<()>
         ensures watched { OnOk result (W.watches watcher.now (descriptor self.new) ≡ true) }
         ensures bytes { OnOk result ((is_closing : Bool) → reports_bytes is_closing self.new ≡ true) }
         ensures room { OnOk result (reports_room self.new ≡ true) }
-        ensures remaining { Keeps (remaining self.old) (remaining self.new) }
-        ensures contents { Keeps (contents self.old) (contents self.new) }
-        ensures waits { KeepsWaits is_nonblocking self.old self.new }
-        ensures same { may_fail self.new ≡ may_fail self.old };
+        ensures moves { let at = stream_seen remaining contents may_fail in MovesNothing (at self.old) (at self.new) }
+        ensures waits { KeepsWaits is_nonblocking self.old self.new };
 }
 
 /// Nothing is assumed about the bytes that go over the system's sockets, so no clause says which
@@ -143,34 +124,6 @@ impl Socket for TcpStream {
     }
 }
 
-// Reads the socket by one call.
-#[inline(always)]
-#[tactic(auto, using(crate::proofs::SocketLemmas::read_in_brief))]
-pub(super) fn read_once<S: Socket>(socket: &mut S, buf: &mut [u8]) -> Result<usize, StreamError>
-    ensures bytes { ReadsFrom (S.remaining socket.old) (S.remaining socket.new) result buf.new }
-    ensures apart { Keeps (S.contents socket.old) (S.contents socket.new) }
-    ensures fault { FailsIf (S.may_fail socket.old) result }
-    ensures reports { ReportsAfterRead S.reports_bytes S.reports_room socket.old result (length buf.new) socket.new }
-    ensures waits { KeepsWaits S.is_nonblocking socket.old socket.new }
-    ensures same { S.may_fail socket.new ≡ S.may_fail socket.old }
-{
-    in_brief(socket.read(buf))
-}
-
-// Writes to the socket by one call.
-#[inline(always)]
-#[tactic(auto, using(crate::proofs::SocketLemmas::write_in_brief))]
-pub(super) fn write_once<S: Socket>(socket: &mut S, buf: &[u8]) -> Result<usize, StreamError>
-    ensures bytes { WritesTo (S.contents socket.old) (S.contents socket.new) result buf.now }
-    ensures apart { Keeps (S.remaining socket.old) (S.remaining socket.new) }
-    ensures fault { FailsToWriteIf (S.may_fail socket.old) result buf.now }
-    ensures reports { ReportsAfterWrite S.reports_bytes S.reports_room socket.old result socket.new }
-    ensures waits { KeepsWaits S.is_nonblocking socket.old socket.new }
-    ensures same { S.may_fail socket.new ≡ S.may_fail socket.old }
-{
-    in_brief(socket.write(buf))
-}
-
 // Writes three texts to the socket by one call.
 #[tactic(auto, using(crate::proofs::SocketLemmas::slices_in_brief))]
 pub(super) fn write_slices_once<S: Socket>(
@@ -179,12 +132,10 @@ pub(super) fn write_slices_once<S: Socket>(
     second: &[u8],
     third: &[u8],
 ) -> Result<usize, StreamError>
-    ensures bytes { WritesTo (S.contents socket.old) (S.contents socket.new) result (first.now ++ second.now ++ third.now) }
-    ensures apart { Keeps (S.remaining socket.old) (S.remaining socket.new) }
-    ensures fault { FailsToWriteIf (S.may_fail socket.old) result first.now }
+    ensures writes { let at = stream_seen S.remaining S.contents S.may_fail in
+        WritesTo (at socket.old) result first.now (first.now ++ second.now ++ third.now) (at socket.new) }
     ensures reports { ReportsAfterWrite S.reports_bytes S.reports_room socket.old result socket.new }
     ensures waits { KeepsWaits S.is_nonblocking socket.old socket.new }
-    ensures same { S.may_fail socket.new ≡ S.may_fail socket.old }
 {
     in_brief(socket.write_slices(&[
         IoSlice::new(first),

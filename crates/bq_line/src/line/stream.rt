@@ -2,9 +2,8 @@
 //! buffer.
 ghost use Rattle.std.specs.Prelude.{◌≡◌, ℕ, [], Bool, OnErr, OnOk, List, None, Option, ◌++◌};
 ghost use Rattle.std.specs.Prelude.{drop, false, length, min, take, true};
-ghost use Rattle.std.specs.Io.{ReadsAtMost, WritesAtMost};
-ghost use Rattle.std.specs.Io.KnownBytes.{IsAtEnd, Keeps, ReadConsumes, WriteAppends, prepend_known};
-ghost use Rattle.bq_line.specs.Streams.{FailsIf, FailsToWriteIf, ReadsFrom};
+ghost use Rattle.std.specs.Io.KnownBytes.{IsAtEnd};
+ghost use Rattle.bq_line.specs.Streams.{FailsIf, MovesNothing, ReadsFrom, WritesTo, behind, stream_seen};
 
 use super::{Readiness, StreamError, copy_first};
 use bq_seat::ByteBuffer;
@@ -30,31 +29,19 @@ pub trait Duplex {
 
     /// Reads as `std::io::Read` does.
     fn read(&mut self, buf: &mut [u8]) -> Result<usize, StreamError>
-        ensures bound { ReadsAtMost result buf.new }
-        ensures bytes { ReadConsumes (remaining self.old) (remaining self.new) result buf.new }
-        ensures apart { Keeps (contents self.old) (contents self.new) }
-        ensures fault { FailsIf (may_fail self.old) result }
-        ensures same { may_fail self.new ≡ may_fail self.old };
+        ensures { let at = stream_seen remaining contents may_fail in ReadsFrom (at self.old) result buf.new (at self.new) };
 
     /// Reads as `read` does, but returns `NotYet` where that would wait for bytes. A stream
     /// without such a read uses `read`, so the caller must be prepared to wait.
     fn read_now(&mut self, buf: &mut [u8]) -> Result<usize, StreamError>
-        ensures bound { ReadsAtMost result buf.new }
-        ensures bytes { ReadConsumes (remaining self.old) (remaining self.new) result buf.new }
-        ensures apart { Keeps (contents self.old) (contents self.new) }
-        ensures fault { FailsIf (may_fail self.old) result }
-        ensures same { may_fail self.new ≡ may_fail self.old }
+        ensures { let at = stream_seen remaining contents may_fail in ReadsFrom (at self.old) result buf.new (at self.new) }
     {
         self.read(buf)
     }
 
     /// Writes as `std::io::Write` does.
     fn write(&mut self, buf: &[u8]) -> Result<usize, StreamError>
-        ensures bound { WritesAtMost result buf.now }
-        ensures bytes { WriteAppends (contents self.old) (contents self.new) result buf.now }
-        ensures apart { Keeps (remaining self.old) (remaining self.new) }
-        ensures fault { FailsToWriteIf (may_fail self.old) result buf.now }
-        ensures same { may_fail self.new ≡ may_fail self.old };
+        ensures { let at = stream_seen remaining contents may_fail in WritesTo (at self.old) result buf.now buf.now (at self.new) };
 
     /// Writes a first part of three texts, as `write` does for the text that they form together. By
     /// default it writes from the first text only; a stream with gathered writes does not copy
@@ -65,29 +52,21 @@ pub trait Duplex {
         second: &[u8],
         third: &[u8],
     ) -> Result<usize, StreamError>
-        ensures bound { WritesAtMost result (first.now ++ second.now ++ third.now) }
-        ensures bytes { WriteAppends (contents self.old) (contents self.new)
-            result (first.now ++ second.now ++ third.now) }
-        ensures apart { Keeps (remaining self.old) (remaining self.new) }
-        ensures fault { FailsToWriteIf (may_fail self.old) result first.now }
-        ensures same { may_fail self.new ≡ may_fail self.old }
+        ensures { let at = stream_seen remaining contents may_fail in
+            WritesTo (at self.old) result first.now (first.now ++ second.now ++ third.now) (at self.new) }
     {
         self.write(first)
     }
 
     /// Sends what is held back, as `std::io::Write` does.
     fn flush(&mut self) -> Result<(), StreamError>
-        ensures bytes { Keeps (contents self.old) (contents self.new) }
-        ensures apart { Keeps (remaining self.old) (remaining self.new) }
-        ensures fault { OnErr result (may_fail self.old ≡ true) }
-        ensures same { may_fail self.new ≡ may_fail self.old };
+        ensures moves { let at = stream_seen remaining contents may_fail in MovesNothing (at self.old) (at self.new) }
+        ensures fault { OnErr result (may_fail self.old ≡ true) };
 
     /// A hint whether more will be written soon, so that small writes may go out together. It does
     /// not change which bytes were written, and a stream that can't use it does nothing.
     fn expect_more(&mut self, more: bool)
-        ensures bytes { Keeps (contents self.old) (contents self.new) }
-        ensures apart { Keeps (remaining self.old) (remaining self.new) }
-        ensures same { may_fail self.new ≡ may_fail self.old }
+        ensures { let at = stream_seen remaining contents may_fail in MovesNothing (at self.old) (at self.new) }
     {}
 
     /// Returns false if a read would only report that there are no bytes yet, as far as the stream
@@ -109,19 +88,14 @@ pub trait Duplex {
     /// Records what the system reported about the stream's readiness. A stream that is not watched
     /// does nothing.
     fn note_ready(&mut self, _ready: Readiness)
-        ensures bytes { Keeps (contents self.old) (contents self.new) }
-        ensures apart { Keeps (remaining self.old) (remaining self.new) }
-        ensures same { may_fail self.new ≡ may_fail self.old }
+        ensures { let at = stream_seen remaining contents may_fail in MovesNothing (at self.old) (at self.new) }
     {}
 }
 
 /// Reads a stream once; `waits` says whether that may wait for bytes.
 #[inline(always)]
 pub fn read_by<S: Duplex>(stream: &mut S, buf: &mut [u8], waits: bool) -> Result<usize, StreamError>
-    ensures bytes { ReadsFrom (S.remaining stream.old) (S.remaining stream.new) result buf.new }
-    ensures apart { Keeps (S.contents stream.old) (S.contents stream.new) }
-    ensures fault { FailsIf (S.may_fail stream.old) result }
-    ensures same { S.may_fail stream.new ≡ S.may_fail stream.old }
+    ensures { let at = stream_seen S.remaining S.contents S.may_fail in ReadsFrom (at stream.old) result buf.new (at stream.new) }
 {
     if waits {
         stream.read(buf)
@@ -144,12 +118,10 @@ pub fn fill<S: Duplex>(
     stream: &mut S,
     waits: bool,
 ) -> Result<(), StreamError>
-    ensures bytes { Keeps (prepend_known buffer.old (S.remaining stream.old))
-        (prepend_known buffer.new (S.remaining stream.new)) }
+    ensures moves { let at = stream_seen S.remaining S.contents S.may_fail in
+        MovesNothing (behind buffer.old (at stream.old)) (behind buffer.new (at stream.new)) }
     ensures end { OnOk result (buffer.new ≡ [] → IsAtEnd (S.remaining stream.new)) }
-    ensures apart { Keeps (S.contents stream.old) (S.contents stream.new) }
     ensures fault { FailsIf (S.may_fail stream.old) result }
-    ensures same { S.may_fail stream.new ≡ S.may_fail stream.old }
 {
     if buffer.is_empty() {
         refill(buffer, stream, waits)
@@ -165,11 +137,8 @@ pub fn read_through<S: Duplex>(
     buf: &mut [u8],
     waits: bool,
 ) -> Result<usize, StreamError>
-    ensures bytes { ReadsFrom (prepend_known buffer.old (S.remaining stream.old)) (prepend_known buffer.new (S.remaining stream.new))
-        result buf.new }
-    ensures apart { Keeps (S.contents stream.old) (S.contents stream.new) }
-    ensures fault { FailsIf (S.may_fail stream.old) result }
-    ensures same { S.may_fail stream.new ≡ S.may_fail stream.old }
+    ensures { let at = stream_seen S.remaining S.contents S.may_fail in
+        ReadsFrom (behind buffer.old (at stream.old)) result buf.new (behind buffer.new (at stream.new)) }
 {
     if buffer.is_empty() {
         read_by(stream, buf, waits)
@@ -196,12 +165,9 @@ fn refill<S: Duplex>(
     waits: bool,
 ) -> Result<(), StreamError>
     requires { buffer.old ≡ [] }
-    ensures bytes { Keeps (S.remaining stream.old)
-        (prepend_known buffer.new (S.remaining stream.new)) }
+    ensures moves { let at = stream_seen S.remaining S.contents S.may_fail in MovesNothing (at stream.old) (behind buffer.new (at stream.new)) }
     ensures end { OnOk result (buffer.new ≡ [] → IsAtEnd (S.remaining stream.new)) }
-    ensures apart { Keeps (S.contents stream.old) (S.contents stream.new) }
     ensures fault { FailsIf (S.may_fail stream.old) result }
-    ensures same { S.may_fail stream.new ≡ S.may_fail stream.old }
 {
     buffer.make_full();
     match read_by(stream, buffer.as_mut_slice(), waits) {

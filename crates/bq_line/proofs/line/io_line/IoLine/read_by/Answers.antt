@@ -6,6 +6,4 @@ pub returns-clause-stays : goal.returns-clause-stays
 returns-clause-stays g c first over =
     let of = stream_of g.S.Duplex in
     read_noted first (of c.args.self.now.stream) (of c.read_by-result.new.stream) _ _ _ c.read_by-result.result c.read_by-result.new.buf _
-    c.read_by-result.auto.buf c.requires c.read_by-result.ensures.bytes.1 c.read_by-result.ensures.apart c.read_by-result.ensures.same
-    c.read_by-result.ensures.fault c.note_read.ensures.seen
-    (ap of c.note_read.ensures.stream) over
+    c.read_by-result.auto.buf c.requires c.read_by-result.ensures c.note_read.ensures.seen (ap of c.note_read.ensures.stream) over
