@@ -227,6 +227,7 @@ impl<L: Line + Drop> Attendant<L> {
 
     /// Records what the system reported about the connection's readiness. A seat between two
     /// connections stays as it is.
+    #[tactic(auto, using(crate::proofs::TendingLemmas::tends_told))]
     pub fn note_ready(&mut self, ready: Readiness)
         ensures went { (door : DoorSeen) → Tends L.seen self.old door [] [] self.new door }
         ensures between { self.old.place ≡ LinePlace.Between → self.new.place ≡ LinePlace.Between }
@@ -237,6 +238,7 @@ impl<L: Line + Drop> Attendant<L> {
     }
 
     /// Swaps the read buffer of the open connection with this one if both are empty.
+    #[tactic(auto, using(crate::proofs::TendingLemmas::tends_told))]
     pub fn exchange(&mut self, buffer: &mut ReadBuffer)
         ensures { (door : DoorSeen) → Tends L.seen self.old door [] [] self.new door }
     {
@@ -246,6 +248,7 @@ impl<L: Line + Drop> Attendant<L> {
     }
 
     /// Sends what the connection holds back for further answers.
+    #[tactic(auto, using(crate::proofs::TendingLemmas::tends_told))]
     pub fn hand_on(&mut self)
         ensures { (door : DoorSeen) → Tends L.seen self.old door [] [] self.new door }
     {

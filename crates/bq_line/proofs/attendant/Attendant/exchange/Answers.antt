@@ -1,7 +1,0 @@
-use Rattle.bq_line.proofs.TendingLemmas.{tends_told}
-use Rattle.bq_line.proofs.attendant.Attendant.exchange.Goals as goal
-
-pub returns-in-On : goal.returns-in-On
-returns-in-On g c =
-    tends_told g.L.Line.seen c.args.self.now c.in-On.line c.exchange.new.self c.in-On.field-1 c.in-On.field-2 c.in-On.is
-    c.exchange.ensures.seen
