@@ -50,7 +50,7 @@ pub fn run_locked<
     config: Config,
     doors: Vec<D, Global>,
     clock: C,
-    mut control: I,
+    control: I,
     capacity: usize,
 ) -> Result<LockedRun<D, C, K>, RunFault>
     // No door has a connection that is open or was served, and no door is at its end.
@@ -74,7 +74,7 @@ pub fn run_locked<
     }
     let locked = Locked::new(alloc, config, capacity)?;
     let desk = Mutex::new(LockedDesk::new(locked, clock));
-    let served = serve_at_desk(rt, alloc, config.max_job_size, doors, &desk, &mut control);
+    let served = serve_at_desk(rt, alloc, config.max_job_size, doors, &desk, control);
     let doors = match served {
         Ok(doors) => doors,
         Err(fault) => {

@@ -1,6 +1,5 @@
-//! A seat with its door, for a thread of its own.
-ghost use Rattle.std.specs.Prelude.{◌≡◌, IfOk, IfSome, IsTrue, false, []};
-ghost use Rattle.std.specs.List.{All};
+//! A seat with its door, for a thread of its own, and the control line.
+ghost use Rattle.std.specs.Prelude.{◌≡◌, IfOk, IsTrue, false, []};
 ghost use Rattle.bq_core_api.specs.Limits.{is_body_size};
 ghost use Rattle.bq_seat.specs.Past.{Awaited};
 ghost use Rattle.bq_seat.specs.SeatStands.{awaited};
@@ -9,21 +8,26 @@ ghost use Rattle.bq_line.specs.Tending.{IsNewDoor, door_seen};
 
 use crate::bells::Bells;
 use crate::shared_desk::{SharedDesk, SharedSeat};
-use bq_host::Start;
+use bq_host::Member;
 use bq_job::{NoMemory, Seat};
 use bq_line::Door;
 use bq_line::attendant::{Attendant, LinePlace, Progress};
 use bq_line::buffers::Buffers;
+use bq_line::control::submit_control;
+use bq_line::control_line::{ControlLine, ControlReader};
 use bq_line::line::Line;
 use bq_seat::SeatMachine;
 use std::alloc::Global;
 use std::sync::Wait;
 use std::thread;
+use std::thread::Threads;
 
-/// A new seat and its door.
+/// A new seat at a desk, and its door.
 #[derive(Drop)]
-pub struct Post<D: Door> {
+pub struct Post<'a, D: Door, K> {
     alloc: Global,
+    desk: &'a K,
+    bells: &'a Bells,
     seat: Seat,
     pub max_job_size: u32,
     machine: SeatMachine,
@@ -35,9 +39,16 @@ pub struct Post<D: Door> {
     ghost none_over: { D.lines_over door ≡ [] },
 }
 
-impl<D: Door + Drop> Post<D> {
+impl<'a, D: Door + Drop, K> Post<'a, D, K> {
     /// Returns a post of this seat. All memory but that for bodies is allocated here.
-    pub fn new(alloc: Global, max_job_size: u32, seat: Seat, door: D) -> Result<Post<D>, NoMemory>
+    pub fn new(
+        alloc: Global,
+        max_job_size: u32,
+        desk: &'a K,
+        bells: &'a Bells,
+        seat: Seat,
+        door: D,
+    ) -> Result<Post<'a, D, K>, NoMemory>
         requires size { IsTrue (is_body_size max_job_size) }
         requires new { IsNewDoor (door_seen D.Door door) }
         ensures seat { IfOk result (λ post. post.seat ≡ seat) }
@@ -49,6 +60,8 @@ impl<D: Door + Drop> Post<D> {
         };
         Ok(Post {
             alloc,
+            desk,
+            bells,
             seat,
             max_job_size,
             machine,
@@ -57,27 +70,14 @@ impl<D: Door + Drop> Post<D> {
     }
 }
 
-impl<L: Line + Drop, D: Door<Line = L> + Drop> Post<D> {
-    /// Serves the door to its end and returns it. Returns `None` if a thread was not started; then
-    /// the door was not opened.
-    pub fn serve<R: Wait, K: SharedDesk>(
-        self,
-        rt: &R,
-        desk: &K,
-        bells: &Bells,
-        start: &Start,
-    ) -> Option<D>
-        ensures served { IfSome result
-            (λ door. IsServedToEnd self.max_job_size
-            (door_seen D.Door door)) }
-        ensures same { IfSome result (D.same self.door) }
-    {
-        if !start.wait(rt) {
-            drop(self);
-            return None;
-        }
+impl<'a, L: Line + Drop, D: Door<Line = L> + Drop, K: SharedDesk> Member<D> for Post<'a, D, K> {
+    ghost gives = { λ post door. IsServedToEnd post.max_job_size (door_seen D.Door door) × D.same post.door door };
+
+    fn serve<R: Threads + Wait>(self, rt: &R) -> D {
         let Post {
             alloc,
+            desk,
+            bells,
             seat,
             max_job_size: _,
             machine,
@@ -98,10 +98,7 @@ impl<L: Line + Drop, D: Door<Line = L> + Drop> Post<D> {
         let mut buffers = Buffers::new();
         for _ in rt.forever() {
             if attendant.is_done() {
-                drop(attendant);
-                drop(link);
-                drop(buffers);
-                return Some(door);
+                return door;
             }
             let progress = attendant.go_on(alloc, &mut door, &mut link, &mut buffers);
             yield_after(progress);
@@ -119,10 +116,33 @@ fn yield_after(progress: Progress) {
     }
 }
 
-/// Posts that share one limit of body sizes.
+/// The control line of a run, as one more seat at the desk.
 #[derive(Drop)]
-pub struct SeatPosts<D: Door> {
-    pub all: Vec<Post<D>, Global>,
-    pub max_job_size: u32,
-    ghost limits: { All (λ post. post.max_job_size ≡ max_job_size) all.items },
+pub struct ControlPost<'a, I, K> {
+    pub control: I,
+    pub desk: &'a K,
+    pub bells: &'a Bells,
+    pub seat: Seat,
+}
+
+impl<'a, I: ControlReader + Drop, K: SharedDesk> Member<ControlLine<I>> for ControlPost<'a, I, K> {
+    ghost gives = { λ post control. Unit {0} };
+
+    fn serve<R: Threads + Wait>(self, rt: &R) -> ControlLine<I> {
+        let ControlPost {
+            control,
+            desk,
+            bells,
+            seat,
+        } = self;
+        let mut link = SharedSeat {
+            rt,
+            desk,
+            bells,
+            seat,
+            at_hand: None,
+            rests: false,
+        };
+        submit_control(rt, ControlLine::new(control), &mut link)
+    }
 }

@@ -46,7 +46,7 @@ settled_more core later ends i new below c before here place d less = elim (case
 
 -- A property of a run that is built from what the threads returned holds for every run with these
 -- parts.
-pub same_run : {D C I K : Type 0} (P : Run D C I K → Type 0) (run : Run D C I K) (e : Ended D C I K) → run.doors ≡ e.ends.doors
-    → run.clock ≡ e.clock → run.control ≡ e.ends.control → run.core ≡ e.core
-    → P (record run { doors = e.ends.doors; clock = e.clock; control = e.ends.control; core = e.core }) → P run
+pub same_run : {D C I K : Type 0} (P : Run D C I K → Type 0) (run : Run D C I K) (e : Ended D C I K) → run.doors ≡ e.doors
+    → run.clock ≡ e.clock → run.control ≡ e.control → run.core ≡ e.core
+    → P (record run { doors = e.doors; clock = e.clock; control = e.control; core = e.core }) → P run
 same_run P run e doors clock control core p = grind arith

@@ -1,14 +1,14 @@
 -- The threads of a run: their posts, their starts and what they returned.
 use Rattle.std.proofs.Common.{◌≡◌, ◌==◌, ◌&&◌, ℕ, zero, suc, ◌<◌, true, false, not, Ok, Err, List, []}
-use Rattle.std.proofs.Common.{◌∷◌, ◌++◌, ◌∙◌, Some, map, length, refl, subst, sym, ap, arith, append-nil, append_assoc}
+use Rattle.std.proofs.Common.{◌∷◌, ◌++◌, ◌∙◌, Some, map, length, refl, sym, ap, arith}
 use Rattle.std.proofs.Common.{slice_get, slice_index_or}
-use Rattle.std.specs.Prelude.{◌↔◌, IsErrOf, IsTrue, Result, reverse}
+use Rattle.std.specs.Prelude.{◌↔◌, IsErrOf, IsTrue, Result}
 use Rattle.std.proofs.lemmas.Bool.{eq-eqb}
 use Rattle.bq_job.specs.declared.settings.Settings.{Settings}
 use Rattle.bq_core_api.specs.Limits.{are_in_range}
-use Rattle.std.specs.List.{All}
-use Rattle.std.proofs.lemmas.List.{length-append}
-use Rattle.bq_line.specs.Tending.{DoorSeen, IsDoorServed}
+use Rattle.std.specs.List.{All, AllZip}
+use Rattle.std.proofs.lemmas.List.{length-append, Elements.{All-head, All-tail}}
+use Rattle.bq_line.specs.Tending.{AreSame, DoorSeen, IsDoorServed}
 use Rattle.bq_host.specs.declared.fault.RunFault.{RunFault}
 use Rattle.bq_host.specs.declared.fault.RunFault.TheVariants.{BadConfiguration, NoMemory}
 use Rattle.bq_link.specs.EndStates.{CoreState, IsSameCore, IsSameSeat, SeatState}
@@ -18,46 +18,20 @@ use Rattle.bq_thread_work.specs.Ends.{IsNewEnd}
 use Rattle.bq_run.specs.Linked.{ArePaired}
 use Rattle.bq_run.specs.Threads.{AreServed}
 
--- One more thread was joined.
-pub served_more : {D : Type 0} (at : D → DoorSeen) (size : ℕ) (firsts lasts : List SeatState) (doors : List D)
-    (first last : SeatState) (door : D)
-    → AreServed at size firsts lasts doors → IsSameSeat first last → IsDoorServed size (at door) last.submitted last.taken
-    → AreServed at size (firsts ++ first ∷ []) (lasts ++ last ∷ []) (doors ++ door ∷ [])
-served_more at size [] [] [] first last door h same served = ((same, served), tt)
-served_more at size (f ∷ fs) (e ∷ es) (d ∷ ds) first last door h same served =
-    (h.0, served_more at size fs es ds first last door h.1 same served)
-served_more at size _ _ _ first last door h same served = absurd h
-
-pub joined_first : {X Y : Type 0} (f : X → Y) (firsts : List Y) (xs rest : List X) (x : X) → xs ≡ x ∷ rest
-    → (firsts ++ f x ∷ []) ++ map f rest ≡ firsts ++ map f xs
-joined_first {X} f firsts xs rest x e = append_assoc firsts (f x ∷ []) (map f rest) ∙ ap (λ (zs : List X). firsts ++ map f zs) (sym e)
-
-some_left : {X : Type 0} (x : X) (rest : List X) → length (x ∷ rest) ≡ 0 → ⊥
-some_left x rest e = absurd (omega (arith, e))
-
-pub none_left : {X : Type 0} (xs : List X) → length xs ≡ 0 → xs ≡ []
-none_left [] e = refl
-none_left (x ∷ xs) e = absurd (some_left x xs e)
-
--- All threads were joined.
-pub all_joined : {D X : Type 0} (at : D → DoorSeen) (size : ℕ) (f : X → SeatState) (all rest : List X) (lasts : List SeatState)
-    (doors : List D) → length rest ≡ 0
-    → ((firsts : List SeatState) × (firsts ++ map f rest ≡ map f all) × AreServed at size firsts lasts doors)
-    → AreServed at size (map f all) lasts doors
-all_joined at size f all [] lasts doors none (firsts, e, h) =
-    subst (λ (l : List SeatState). AreServed at size l lasts doors) (sym (append-nil firsts) ∙ e) h
-all_joined at size f all (x ∷ rest) lasts doors none h = absurd (some_left x rest none)
-
--- All of a list were taken from its end on, and put before the others in another list.
-pub all_put : {X Y : Type 0} (f : X → Y) (rest whole : List Y) (xs : List X) → length rest ≡ 0
-    → rest ++ reverse (map f xs) ≡ whole → reverse (map f xs) ≡ whole
-all_put f [] whole xs none e = e
-all_put f (y ∷ rest) whole xs none e = absurd (some_left y rest none)
-
-pub all_handed : {X Y : Type 0} (f : X → Y) (given whole : List Y) (rest : List X) → length rest ≡ 0
-    → given ++ reverse (map f rest) ≡ whole → given ≡ whole
-all_handed f given whole [] none e = sym (append-nil given) ∙ e
-all_handed f given whole (x ∷ rest) none e = absurd (some_left x rest none)
+-- What the threads of the seats returned, as a list of ends and one of doors.
+pub given_served : {D P : Type 0} (at : D → DoorSeen) (same : D → D → Type 0) (size : ℕ) (end : P → SeatState) (door : P → D)
+    (limit : P → ℕ) (posts : List P) (backs : List (SeatState × D)) → All (λ (p : P). limit p ≡ size) posts
+    → AllZip (λ (p : P) (b : SeatState × D). IsSameSeat (end p) b.0 × IsDoorServed (limit p) (at b.1) b.0.submitted b.0.taken
+    × same (door p) b.1) posts backs
+    → AreServed at size (map end posts) (map (λ (b : SeatState × D). b.0) backs) (map (λ (b : SeatState × D). b.1) backs)
+    × AreSame same (map door posts) (map (λ (b : SeatState × D). b.1) backs)
+given_served at same size end door limit [] [] limits h = (tt, tt)
+given_served {D} {P} at same size end door limit (p ∷ posts) (b ∷ backs) limits h =
+    let of = λ (q : P). limit q ≡ size in
+    let more = given_served at same size end door limit posts backs (All-tail of p posts limits) h.1 in
+    (((h.0.0, rw (All-head of p posts limits) at h.0.1), more.0), (h.0.2, more.1))
+given_served at same size end door limit [] (b ∷ backs) limits h = absurd h
+given_served at same size end door limit (p ∷ posts) [] limits h = absurd h
 
 -- as many ends were returned as threads were started
 pub lasts_many : {D : Type 0} (at : D → DoorSeen) (size : ℕ) (firsts lasts : List SeatState) (doors : List D)

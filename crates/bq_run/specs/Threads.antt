@@ -1,15 +1,14 @@
 -- The results of a run's threads.
-use Rattle.std.specs.Prelude.{ℕ, ◌≡◌, ◌||◌, Bool, true, IsTrue, List, [], ◌∷◌, Option, reverse}
+use Rattle.std.specs.Prelude.{ℕ, ◌≡◌, ◌||◌, Bool, true, IsTrue, List, [], ◌∷◌, Option}
 use Rattle.bq_job.specs.declared.settings.Settings.{Settings}
 use Rattle.bq_job.specs.promise.ControlDid.{IsControlDone}
 use Rattle.bq_job.specs.machine.Machine.{Machine}
 use Rattle.bq_line.specs.ControlRead.{IsReadToEnd}
-use Rattle.bq_line.specs.Tending.{AreSame, DoorSeen, IsDoorServed}
+use Rattle.bq_line.specs.Tending.{DoorSeen, IsDoorServed}
 use Rattle.bq_line.specs.declared.control_line.ControlLine.{ControlLine}
 use Rattle.bq_link.specs.EndStates.{CoreState, IsSameCore, IsSameSeat, SeatState}
 use Rattle.bq_host.specs.Clocks.{Gives}
 use Rattle.bq_thread_work.specs.CoreWork.{IsCoreDone}
-use Rattle.bq_run.specs.declared.run.posts.EndedEnds.{EndedEnds}
 
 -- The seats' threads have ended, in the order of their seats: each has the end that it began with,
 -- and served its door to its end.
@@ -37,12 +36,3 @@ pub record IsControlOver {I : Type 0} (left : I → Option (List ℕ)) (may_fail
   pub read : IsReadToEnd (left control) (left after.reader) after.read after.failed
   pub fault : after.failed ≡ true → may_fail control ≡ true
   pub done : IsControlDone after.read after.failed last.submitted
-
--- The threads of all ends have ended. Those of the seats began with these ends and doors, which are
--- listed from the last one on, and returned in the order of their seats.
-pub record AreOver {D I : Type 0} (at : D → DoorSeen) (is_same : D → D → Type 0) (left : I → Option (List ℕ)) (may_fail : I → Bool)
-    (max_job_size : ℕ) (ends : List SeatState) (doors : List D) (control_end : SeatState) (reader : I)
-    (over : EndedEnds D I) : Type 0 where
-  pub served : AreServed at max_job_size (reverse ends) over.ends.items over.doors.items
-  pub same : AreSame is_same (reverse doors) over.doors.items
-  pub control : IsControlOver left may_fail control_end reader over.control_end over.control

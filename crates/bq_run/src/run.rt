@@ -8,7 +8,7 @@ ghost use Rattle.bq_run.specs.Linked.{ArePaired, AreSettled, AreStill, IsCoreSti
 ghost use Rattle.bq_run.specs.ThreadRuns.{IsRunOf};
 
 use bq_core_api::{Config, QueueCore};
-use bq_host::{RunFault, Start};
+use bq_host::RunFault;
 use bq_job::{steps_keep_settings, the_headline};
 use bq_line::Door;
 use bq_line::clock::Clock;
@@ -17,13 +17,14 @@ use bq_line::line::Line;
 use bq_link::{CoreEnd, Intake, NoTicks, SeatEnd, links};
 use core_post::NewCore;
 use new_posts::new_posts;
-use posts::{Ended, EndedEnds};
+use posts::Ended;
 use settle::settle;
 use std::alloc::Global;
 use std::sync::Wait;
 use std::thread::Threads;
-use threads::serve_in_scope;
+use threads::serve_posts;
 
+mod control_post;
 mod core_post;
 mod new_posts;
 mod posts;
@@ -101,12 +102,13 @@ pub fn run_sessions<
         drop(new_core);
         return Err(RunFault::NoMemory);
     };
-    let Ok(posts) = new_posts(alloc, &intake, new_core, core_end, ends, doors, clock) else {
+    let Ok(posts) = new_posts(
+        alloc, &intake, new_core, core_end, ends, doors, clock, control,
+    ) else {
         drop(intake);
         return Err(RunFault::NoMemory);
     };
-    let start = Start::new();
-    let ended = match serve_in_scope(rt, alloc, posts, &start, control) {
+    let ended = match serve_posts(rt, alloc, posts) {
         Ok(ended) => ended,
         Err(fault) => {
             drop(intake);
@@ -126,26 +128,23 @@ fn settled_run<D: Drop, C: Drop, I: Drop, K: Drop>(
 ) -> Run<D, C, I, K>
     requires of_intake { ended.core_end.intake ≡ intake.id }
     requires pairs { ArePaired ended.core_end
-        (ended.ends.ends.items ++ ended.ends.control_end ∷ []) }
+        (ended.ends.items ++ ended.control_end ∷ []) }
     ensures core { IsCoreStill ended.core_end result.core_end }
-    ensures ends { AreStill (ended.ends.ends.items ++ ended.ends.control_end ∷ []) result.ends.items }
+    ensures ends { AreStill (ended.ends.items ++ ended.control_end ∷ []) result.ends.items }
     ensures settled { AreSettled result.core_end result.ends.items }
     ensures intake { result.intake ≡ intake }
-    ensures rest { (result.doors ≡ ended.ends.doors) × (result.clock ≡ ended.clock)
-        × (result.control ≡ ended.ends.control) × (result.core ≡ ended.core) }
+    ensures rest { (result.doors ≡ ended.doors) × (result.clock ≡ ended.clock)
+        × (result.control ≡ ended.control) × (result.core ≡ ended.core) }
 {
     let Ended {
-        ends,
-        mut core_end,
-        core,
-        clock,
-    } = ended;
-    let EndedEnds {
         mut ends,
         doors,
         control_end,
         control,
-    } = ends;
+        mut core_end,
+        core,
+        clock,
+    } = ended;
     ends.push_reserved(control_end);
     settle(&intake, &mut core_end, ends.as_mut_slice());
     Run {

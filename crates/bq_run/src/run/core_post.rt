@@ -1,5 +1,5 @@
 //! The core with its end of the links and the clock, for a thread of its own.
-ghost use Rattle.std.specs.Prelude.{◌≡◌, ◌<◌, ◌+◌, ◌↔◌, [], IfOk, IfSome, IsErrOf, IsTrue, not};
+ghost use Rattle.std.specs.Prelude.{◌≡◌, ◌<◌, ◌+◌, ◌↔◌, [], IfOk, IsErrOf, IsTrue, not};
 ghost use Rattle.bq_job.specs.machine.Machine.{new_machine};
 ghost use Rattle.bq_core_api.specs.Limits.{are_in_range};
 ghost use Rattle.bq_link.specs.NewEnds.{IsNewCore};
@@ -7,7 +7,7 @@ ghost use Rattle.bq_thread_work.specs.CoreWork.{IsNewRoom};
 ghost use Rattle.bq_run.specs.Threads.{IsCoreOver};
 
 use bq_core_api::{Config, Outs, QueueCore};
-use bq_host::{RunFault, Start, new_core};
+use bq_host::{Member, RunFault, new_core};
 use bq_line::clock::Clock;
 use bq_link::{CoreEnd, Intake, NoTicks};
 use bq_thread_work::core_work::{CoreRoom, core_work, most_looks};
@@ -62,14 +62,12 @@ pub struct CorePost<'a, C, K: QueueCore> {
     ghost new_end: { IsNewCore (new_core.config.seats + 1) end },
 }
 
-impl<'a, C: Clock + Drop, K: QueueCore + Drop> CorePost<'a, C, K> {
-    /// Serves all ends until no end submits more steps, and returns the end, the core and the
-    /// clock. Returns `None` if a thread was not started.
-    pub fn serve<R: Threads + Wait>(self, rt: &R, start: &Start) -> Option<(CoreEnd, K, C)>
-        ensures { IfSome result
-            (λ r. IsCoreOver C.given self.entry.new_core.config self.entry.end self.entry.clock r.0 (K.machine r.1)
-            (K.comparisons r.1) r.2) }
-    {
+impl<'a, C: Clock + Drop, K: QueueCore + Drop> Member<(CoreEnd, K, C)> for CorePost<'a, C, K> {
+    // All ends were served until none of them submits more steps.
+    ghost gives = { λ post back. IsCoreOver C.given post.new_core.config post.end post.clock back.0 (K.machine back.1)
+        (K.comparisons back.1) back.2 };
+
+    fn serve<R: Threads + Wait>(self, rt: &R) -> (CoreEnd, K, C) {
         let CorePost {
             alloc,
             intake,
@@ -83,11 +81,7 @@ impl<'a, C: Clock + Drop, K: QueueCore + Drop> CorePost<'a, C, K> {
             outs,
             room,
         } = new_core;
-        if start.wait(rt) {
-            let room = room.with_looks(most_looks(rt));
-            Some(core_work(rt, alloc, intake, end, core, outs, room, clock))
-        } else {
-            None
-        }
+        let room = room.with_looks(most_looks(rt));
+        core_work(rt, alloc, intake, end, core, outs, room, clock)
     }
 }

@@ -1,5 +1,5 @@
 //! A seat with its door and its end of the links, for a thread of its own.
-ghost use Rattle.std.specs.Prelude.{◌≡◌, IfOk, IfSome, IsTrue};
+ghost use Rattle.std.specs.Prelude.{◌≡◌, IfOk, IsTrue};
 ghost use Rattle.bq_core_api.specs.Limits.{is_body_size};
 ghost use Rattle.bq_seat.specs.Past.{Awaited};
 ghost use Rattle.bq_seat.specs.SeatStands.{awaited};
@@ -7,7 +7,7 @@ ghost use Rattle.bq_line.specs.Tending.{IsDoorServed, IsNewDoor, door_seen};
 ghost use Rattle.bq_link.specs.EndStates.{IsSameSeat};
 ghost use Rattle.bq_thread_work.specs.Ends.{IsNewEnd};
 
-use bq_host::Start;
+use bq_host::Member;
 use bq_job::NoMemory;
 use bq_line::Door;
 use bq_line::line::Line;
@@ -16,6 +16,7 @@ use bq_seat::SeatMachine;
 use bq_thread_work::seat_work::seat_work;
 use std::alloc::Global;
 use std::sync::Wait;
+use std::thread::Threads;
 
 /// A new seat, its door and its new end.
 #[derive(Drop)]
@@ -64,14 +65,13 @@ impl<'a, D: Door + Drop> SeatPost<'a, D> {
     }
 }
 
-impl<'a, L: Line + Drop, D: Door<Line = L> + Drop> SeatPost<'a, D> {
-    /// Serves the door to its end, and returns it with the end of the links. Returns `None` if a
-    /// thread was not started; then the door was not opened.
-    pub fn serve<R: Wait>(self, rt: &R, start: &Start) -> Option<(SeatEnd, D)>
-        ensures served { let at = door_seen D.Door in
-            IfSome result (λ r. IsSameSeat self.entry.end r.0 × IsDoorServed self.entry.max_job_size (at r.1) r.0.submitted r.0.taken) }
-        ensures same { IfSome result (λ r. D.same self.entry.door r.1) }
-    {
+impl<'a, L: Line + Drop, D: Door<Line = L> + Drop> Member<(SeatEnd, D)> for SeatPost<'a, D> {
+    // The door was served to its end by the end of the links.
+    ghost gives = { λ post back. IsSameSeat post.end back.0
+        × IsDoorServed post.max_job_size (door_seen D.Door back.1) back.0.submitted back.0.taken
+        × D.same post.door back.1 };
+
+    fn serve<R: Threads + Wait>(self, rt: &R) -> (SeatEnd, D) {
         let SeatPost {
             alloc,
             intake,
@@ -80,10 +80,6 @@ impl<'a, L: Line + Drop, D: Door<Line = L> + Drop> SeatPost<'a, D> {
             door,
             max_job_size: _,
         } = self;
-        if start.wait(rt) {
-            Some(seat_work(rt, alloc, intake, end, machine, door))
-        } else {
-            None
-        }
+        seat_work(rt, alloc, intake, end, machine, door)
     }
 }

@@ -1,6 +1,5 @@
 use Rattle.std.proofs.Common.{◌≡◌, ◌∙◌, List, ap, false, map, true, vec_len, subst, sym, arith, Err}
 use Rattle.std.specs.List.{All}
-use Rattle.std.specs.Prelude.{reverse}
 use Rattle.bq_job.specs.declared.settings.Settings.{Settings}
 use Rattle.bq_line.specs.Tending.{AreSame, door_seen}
 use Rattle.bq_host.specs.declared.fault.RunFault.TheVariants.{BadConfiguration}
@@ -16,7 +15,7 @@ returns-in-Err-clause-bad_configuration g c =
     well_configured _ c.args.config c.in_ok-new_core.new_core.config
     (vec_len c.args.doors) c.in_ok-new_core.ensures.config c.in_ok-new_core.new_core.range
     (let b = c.if-len-from.false in let d = c.len.ensures in let e = c.from.ensures in omega arith)
-    (λ e. let same : c.in-Err.fault ≡ BadConfiguration = cc in absurd (c.serve_in_scope.ensures.fault (c.in-Err.is ∙ ap (λ f. Err f) same)))
+    (λ e. let same : c.in-Err.fault ≡ BadConfiguration = cc in absurd (c.serve_posts.ensures.fault (c.in-Err.is ∙ ap (λ f. Err f) same)))
 
 pub returns-in_default-clause-bad_configuration : goal.returns-in_default-clause-bad_configuration
 returns-in_default-clause-bad_configuration g c =
@@ -38,18 +37,18 @@ returns-clause-bad_configuration g c =
 
 pub settled_run-requires-clause-of_intake : goal.settled_run-requires-clause-of_intake
 settled_run-requires-clause-of_intake g c =
-    c.in-Ok-serve_in_scope.ensures.core.same.0 ∙ ap (λ (end : CoreState). end.intake) c.in-Ok-new_posts.ensures.core
+    c.in-Ok-serve_posts.ensures.core.same.0 ∙ ap (λ (end : CoreState). end.intake) c.in-Ok-new_posts.ensures.core
     ∙ c.in-Ok.ensures.core.0
 
 pub settled_run-requires-clause-pairs : goal.settled_run-requires-clause-pairs
 settled_run-requires-clause-pairs g c =
     let p = c.in-Ok-new_posts.ensures in
-    let v = c.in-Ok-serve_in_scope.ensures in
-    let ended = c.in-Ok-serve_in_scope.ended in
+    let v = c.in-Ok-serve_posts.ensures in
+    let ended = c.in-Ok-serve_posts.ended in
     let posts = c.in-Ok-new_posts.posts in
-    back_paired (door_seen g.D.Door) posts.ends.max_job_size c.in-Ok.core_end ended.core_end
-    c.in-Ok.ends.items (reverse (map (λ q. q.end) posts.ends.seats.items)) ended.ends.ends.items ended.ends.doors.items
-    posts.ends.control.end ended.ends.control_end c.in-Ok.ensures.seats.1 p.ends v.over.served v.over.control.same
+    back_paired (door_seen g.D.Door) posts.core.new_core.config.max_job_size c.in-Ok.core_end ended.core_end
+    c.in-Ok.ends.items (map (λ q. q.end) posts.seats.items) ended.ends.items ended.doors.items
+    posts.control.end ended.control_end c.in-Ok.ensures.seats.1 p.ends v.served v.control.same
     (subst (λ (end : CoreState). IsSameCore end ended.core_end) p.core v.core.same)
 
 pub returns-clause-served : goal.returns-clause-served
@@ -57,29 +56,28 @@ returns-clause-served g c =
     let at = door_seen g.D.Door in
     let config = c.args.config in
     let p = c.in-Ok-new_posts.ensures in
-    let v = c.in-Ok-serve_in_scope.ensures in
-    let ended = c.in-Ok-serve_in_scope.ended in
-    let ends = ended.ends in
+    let v = c.in-Ok-serve_posts.ensures in
+    let ended = c.in-Ok-serve_posts.ended in
     let posts = c.in-Ok-new_posts.posts in
     let is = p.config ∙ c.in_ok-new_core.ensures.config in
     let all = c.in-Ok.ends.items in
-    let firsts : List SeatState = reverse (map (λ q. q.end) posts.ends.seats.items) in
-    let lasts = ends.ends.items in
+    let firsts : List SeatState = map (λ q. q.end) posts.seats.items in
+    let lasts = ended.ends.items in
     let o = core_over_of g.C.Clock.given config _ c.in-Ok.core_end _ c.args.clock _ ended.core_end (g.K.QueueCore.machine ended.core)
     (g.K.QueueCore.comparisons ended.core) ended.clock is p.core p.clock v.core in
-    let s = served_of at config.max_job_size _ firsts lasts ends.doors.items
-    (p.limit ∙ ap (λ (s : Settings). s.max_job_size) c.in_ok-new_core.ensures.config) v.over.served in
-    let k = v.over.control in
-    let doored = still_doored at config.max_job_size config.seats all firsts lasts ends.doors.items posts.ends.control.end p.ends
+    let s = served_of at config.max_job_size _ firsts lasts ended.doors.items
+    (ap (λ (s : Settings). s.max_job_size) is) v.served in
+    let k = rw p.control at v.control in
+    let doored = still_doored at config.max_job_size config.seats all firsts lasts ended.doors.items posts.control.end p.ends
     c.in-Ok.ensures.seats.0 s in
     let run = c.settled_run.result in
     let f = c.settled_run.ensures in
     let done =
-    all_done at g.C.Clock.given g.I.Read.remaining g.I.ControlReader.may_fail config ends.doors.items c.in-Ok.core_end ended.core_end
-    run.core_end firsts lasts run.ends.items posts.ends.control.end ends.control_end c.args.clock ended.clock c.args.control
-    ends.control (g.K.QueueCore.machine ended.core) (g.K.QueueCore.comparisons ended.core) doored s o k f.core f.ends f.settled in
-    let j = run_joined at config o.readings ends.control.read ends.control.failed run.core_end (g.K.QueueCore.machine ended.core)
-    (g.K.QueueCore.comparisons ended.core) run.ends.items ends.doors.items done in
+    all_done at g.C.Clock.given g.I.Read.remaining g.I.ControlReader.may_fail config ended.doors.items c.in-Ok.core_end ended.core_end
+    run.core_end firsts lasts run.ends.items posts.control.end ended.control_end c.args.clock ended.clock c.args.control
+    ended.control (g.K.QueueCore.machine ended.core) (g.K.QueueCore.comparisons ended.core) doored s o k f.core f.ends f.settled in
+    let j = run_joined at config o.readings ended.control.read ended.control.failed run.core_end (g.K.QueueCore.machine ended.core)
+    (g.K.QueueCore.comparisons ended.core) run.ends.items ended.doors.items done in
     same_run (IsRunOf g.C.Clock.given g.D.Door.lines_over g.I.Read.remaining g.I.ControlReader.may_fail g.K.QueueCore.machine
     g.K.QueueCore.comparisons config c.args.clock c.args.control) run ended f.rest.0 f.rest.1 f.rest.2 f.rest.3 (record {
       readings = o.readings;
@@ -97,12 +95,12 @@ pub returns-clause-at_end : goal.returns-clause-at_end
 returns-clause-at_end g c =
     subst (λ doors. All (λ door. (g.D.Door.is_out door ≡ false) × (g.D.Door.is_at_end door ≡ true)) doors.items)
     (sym c.settled_run.ensures.rest.0)
-    (all_at_end (door_seen g.D.Door) _ _ _ _ c.in-Ok-serve_in_scope.ensures.over.served)
+    (all_at_end (door_seen g.D.Door) _ _ _ _ c.in-Ok-serve_posts.ensures.served)
 
 pub returns-clause-same : goal.returns-clause-same
 returns-clause-same g c =
     subst (λ doors. AreSame g.D.Door.same c.args.doors.items doors.items) (sym c.settled_run.ensures.rest.0)
-    (rw c.in-Ok-new_posts.ensures.doors at c.in-Ok-serve_in_scope.ensures.over.same)
+    (rw c.in-Ok-new_posts.ensures.doors at c.in-Ok-serve_posts.ensures.same)
 
 pub returns-clause-settings : goal.returns-clause-settings
 returns-clause-settings g c = run_keeps_settings c.steps_keep_settings.ensures _ _ _ _ _ (returns-clause-served g c).history.run

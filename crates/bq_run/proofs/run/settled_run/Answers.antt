@@ -8,7 +8,7 @@ settle-requires-clause-pairs g c =
 
 pub returns-clause-ends : goal.returns-clause-ends
 returns-clause-ends g c =
-    let ends = c.args.ended.ends in
+    let ends = c.args.ended in
     let last = ends.control_end in
     let settled = c.settle.new.ends in
     let kept = rw (c.as_mut_slice.ensures.value ∙ c.push_reserved.ensures.items) at c.settle.ensures.ends in
@@ -18,7 +18,7 @@ returns-clause-ends g c =
 
 pub returns-clause-settled : goal.returns-clause-settled
 returns-clause-settled g c =
-    let ends = c.args.ended.ends in
+    let ends = c.args.ended in
     let settled = c.settle.new.ends in
     let kept = rw (c.as_mut_slice.ensures.value ∙ c.push_reserved.ensures.items) at c.settle.ensures.ends in
     let many : length settled ≡ c.push_reserved.new.self.len = let a = kept.many in let b = c.push_reserved.ensures.len in

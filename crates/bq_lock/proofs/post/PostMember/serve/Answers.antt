@@ -2,7 +2,7 @@ use Rattle.std.proofs.Common.{◌++◌, refl, arith}
 use Rattle.bq_line.specs.Tending.{attendant, door_seen}
 use Rattle.bq_line.specs.declared.attendant.LinePlace.TheVariants as places
 use Rattle.bq_lock.proofs.PostLemmas.{tended_first}
-use Rattle.bq_lock.proofs.post.Post.serve.Goals as goal
+use Rattle.bq_lock.proofs.post.PostMember.serve.Goals as goal
 
 pub loop-init : goal.loop-init
 loop-init g c =

@@ -2,7 +2,7 @@ use Rattle.std.proofs.Common.{List}
 use Rattle.bq_job.specs.declared.answer.Answer.{Answer}
 use Rattle.bq_job.specs.declared.step.Step.{Step}
 use Rattle.bq_line.specs.Tending.{IsTended, door_seen}
-use Rattle.bq_lock.proofs.post.Post.serve.Given as goal
+use Rattle.bq_lock.proofs.post.PostMember.serve.Given as goal
 
 abbrev pub invariant-loop : goal.invariant-loop
 invariant-loop g l = record {
