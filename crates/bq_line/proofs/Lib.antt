@@ -1,4 +1,3 @@
-pub mod BackLemmas
 pub mod BufferLemmas
 pub mod CarriedLemmas
 pub mod ControlLemmas
