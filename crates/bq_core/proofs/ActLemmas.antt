@@ -13,7 +13,7 @@ use Rattle.bq_job.specs.machine.{job_with, last_id, new_job, put_effect, raised,
 use Rattle.bq_job.specs.machine.{step_takes_memory, takes_memory, telling, watch_effect, watches, watching, with_end}
 use Rattle.bq_job.specs.machine.{with_job, with_put}
 use Rattle.bq_job.specs.{machine.{with_seat, with_tube}, reading.TubeName.is_same_name}
-use Rattle.bq_jobs.{proofs.Changes.found_id, specs.{Kept.{ComparesAtMost, Kept, with_added}, Searching.Asks, Seen.IsBodyOf}}
+use Rattle.bq_jobs.{proofs.Changes.found_id, specs.{JobsSeen.{ComparesAtMost, JobsSeen, with_added}, Searching.Asks, Seen.IsBodyOf}}
 use Rattle.bq_state.{proofs.TubeLemmas.some_left, specs.{Asking.AsksAsChanged, JobChanges.is_passed_by, SeatChanges.AreNumbered}}
 use Rattle.bq_state.specs.{SeatStates.{is_asking, is_connected, is_free}, TubeEntries.{has_entry}}
 use Rattle.bq_state.specs.declared.core_parts.CoreParts.{CoreParts}
@@ -60,7 +60,7 @@ pub put_done : (m given last : Machine) (s : SeatRecord) (pri delay ttr id : ℕ
 put_done m given last s pri delay ttr id body shared j accepts free given_is id_is body_is is ids adds after = grind (arith, common_steps)
 
 -- what is asked by an addition or a removal that is the only search
-pub asked_in_all : (old between new : Kept) → Asks 0 old between → ComparesAtMost 4 between new → AsksAsChanged old new
+pub asked_in_all : (old between new : JobsSeen) → Asks 0 old between → ComparesAtMost 4 between new → AsksAsChanged old new
 asked_in_all old between new none few = asked_before 0 4 (omega arith) none few
 
 -- a tube that is already watched

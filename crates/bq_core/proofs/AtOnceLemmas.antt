@@ -12,7 +12,7 @@ use Rattle.bq_core_api.specs.{Cost.changed_jobs, Outbox.Outbox}
 use Rattle.bq_job.{proofs.{KeptLemmas.only_seat, QuietLemmas.forgets_nothing}, specs.{declared.step.Step.Step, machine.DispatchTurn}}
 use Rattle.bq_job.specs.machine.{Machine.Machine, SeatRecord, effect, forgetting, has_refused_share, is_waiting, later, next_job}
 use Rattle.bq_job.specs.machine.{raised, reserved_by, seat_with, silent, waiting_from, with_job, without_wait}
-use Rattle.bq_jobs.specs.{Kept.Kept, Searching.Asks}
+use Rattle.bq_jobs.specs.{JobsSeen.JobsSeen, Searching.Asks}
 use Rattle.bq_state.proofs.{PartsLemmas.numbered_after, WantedLemmas.{known_nothing, known_of_seat, none_known}}
 use Rattle.bq_state.specs.{Asking.{AsksAsChanged, AsksWithin}, CoreParts.{machine_of}, Offers.with_offer}
 use Rattle.bq_state.specs.{WantedJobs.{AreKnown, is_nothing}, declared.core_parts.CoreParts.CoreParts}
@@ -109,13 +109,13 @@ module _ (st : CoreParts) (seat : ℕ) (what : Step) (r : Reserves st seat what)
         asks_then = rw one (asks_more _ (omega (arith, client_entries then_waits.seats seat _ found)) (t.asks r.client r.at));
       }
 
--- What is asked by a look that finds no job, and then by the command itself.
-looked_then : (before between after last : Kept) → Asks 9 before between → between.jobs ≡ before.jobs → AsksAsChanged between after
+-- What is asked by a search that finds no job, and then by the command itself.
+looked_then : (before between after last : JobsSeen) → Asks 9 before between → between.jobs ≡ before.jobs → AsksAsChanged between after
     → last ≡ record after { tubes = last.tubes }
     → AsksWithin (9 * changed_jobs before.jobs last.jobs + 20) before (record before { jobs = last.jobs; comparisons = last.comparisons })
 looked_then before between after last a same b kept = grind (arith, common_steps, mul-le, search_grows, add-mul)
 
--- The command's own effect was carried out after a look that found no job, and then tubes were forgotten.
+-- The command's own effect was carried out after a search that found no job, and then tubes were forgotten.
 pub acted_alone : (start looked acted st : CoreParts) (seat : ℕ) (what : Step) (old told new : Outbox)
     → (machine_of looked ≡ machine_of start) × (told ≡ old) × Asks 9 start.jobs looked.jobs
     → Acts (machine_of looked) seat what told new (machine_of acted) → AsksAsChanged looked.jobs acted.jobs

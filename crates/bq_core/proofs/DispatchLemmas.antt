@@ -8,7 +8,7 @@ use Rattle.bq_job.{proofs.{ListLemmas.{all_always, all_at}, WatchedLemmas.same_o
 use Rattle.bq_job.specs.{declared.{fault.NoMemory.NoMemory, job.Job.Job}, machine.{Machine.Machine, SeatRecord, better_of, first_of}}
 use Rattle.bq_job.specs.machine.{is_job_before, is_paused, is_ready, is_ready_in, is_wait_before, is_waiting, is_waiting_for, job_with}
 use Rattle.bq_job.specs.{machine.{may_have, next_job, next_seat}, reading.TubeName.is_same_name}
-use Rattle.bq_jobs.specs.{Kept.ranked, Seen.{IsBodyOf, IsTubeOf}}
+use Rattle.bq_jobs.specs.{JobsSeen.ranked, Seen.{IsBodyOf, IsTubeOf}}
 use Rattle.bq_state.{proofs.TubeLemmas.{paused_is, same_itself, same_name}, specs.{CoreParts.machine_of, Offers.{better_rank, offered}}}
 use Rattle.bq_state.specs.{Offers.{waits_at, with_offer, with_offers}, WantedJobs.AreKnown, declared.core_parts.CoreParts.CoreParts}
 use Rattle.bq_state.specs.declared.known.wanted.Wanted.TheVariants.{Client, Tube}

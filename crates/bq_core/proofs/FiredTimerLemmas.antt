@@ -4,17 +4,17 @@ use Rattle.std.proofs.{Common.{sym, true, ℕ, ◌&&◌, ◌+◌, ◌<◌, ◌==
 use Rattle.std.proofs.lemmas.Bool.{cases_Bool, eqb-true}
 use Rattle.std.{proofs.lemmas.Grind.common_steps, specs.{List.{AllByRecursion as All, list_any}, Prelude.{count_by, nat_le, option_map}}}
 use Rattle.bq_core.proofs.{KickLemmas.{no_id, one_of_id}, TurnLemmas.none_stronger}
-use Rattle.bq_core.specs.FiredTimers.{HaveFired, IsDue, IsOne, after_giving_back, after_job_timers, fired, id_if_past, is_ripe}
-use Rattle.bq_core.specs.declared.timers.Due.{Due, TheVariants.{Expired, Ripe}}
+use Rattle.bq_core.specs.FiredTimers.{HaveFired, IsDue, IsOne, after_giving_back, after_job_timers, fired, has_due_timer, id_if_past}
+use Rattle.bq_core.specs.declared.timers.Due.{Due, TheVariants.{DelayEnded, Expired}}
 use Rattle.bq_job.proofs.ChoiceLemmas.{first_of_contains, first_of_is_least, first_of_none, first_of_none_passes, first_of_passes}
 use Rattle.bq_job.proofs.{ChoiceLemmas.pair_order, ListLemmas.{all_always, all_both, all_from_members, all_weaker, count_all_not}}
 use Rattle.bq_job.{proofs.ListLemmas.{list_any_not, list_any_with, map_all_same, none_pass}, specs.beside.AreIdsWithin}
 use Rattle.bq_job.specs.{declared.job.{Job.Job, JobState.JobState}, machine.{Machine.Machine, due_of, ends_waiting, first_of, given_back}}
 use Rattle.bq_job.specs.machine.{greatest, in_state, is_delayed, is_due, is_due_before, is_ending_lease, is_expired, is_held_by, is_holder}
 use Rattle.bq_job.specs.machine.{is_pair_before, is_reserved, is_wait_before, is_waiting, job_after_timers, job_with, next_end, with_job}
-use Rattle.bq_jobs.{proofs.Changes.{found_by_id, none_changed, others_above}, specs.{Kept.{Kept, ranked}, Leases.deadline_of}}
+use Rattle.bq_jobs.{proofs.Changes.{found_by_id, none_changed, others_above}, specs.{JobsSeen.{JobsSeen, ranked}, Leases.deadline_of}}
 use Rattle.bq_jobs.specs.Leases.{is_lease_before}
-use Rattle.bq_state.specs.{CoreParts.{Held, OnlyCompares, count_jobs, machine_held, machine_of}, EndingWaits.has_waited}
+use Rattle.bq_state.specs.{CoreParts.{Fields, OnlyCompares, count_jobs, machine_of, machine_of_fields}, EndingWaits.has_waited}
 use Rattle.bq_state.specs.{EndingWaits.{is_lease_short, is_soon}, declared.core_parts.CoreParts.CoreParts}
 
 -- changing one job and then all is changing all, if the second change subsumes the first
@@ -42,26 +42,27 @@ fired_once moment j = grind (arith, common_steps)
 -- If one timer that is due fires, the others are left to fire.
 module _ (m : Machine) (ids : AreIdsWithin 1 m.jobs m.next_id) where
   others_left : (due : Due) → IsDue m due → after_job_timers (fired due m) ≡ after_job_timers m
-  others_left (Ripe id) one =
+  others_left (DelayEnded id) one =
       let f = job_after_timers m.moment in
       let p = λ (j : Job). is_expired m.moment j.state in
       let jobs = absorbed f f id m.jobs (all_always _ m.jobs (λ k e. fired_once m.moment k)) in
       grind (arith, as_many, all_weaker, one_of_id id 1 m.next_id m.jobs one.job ids one.found)
   others_left (Expired id) one = grind (arith, common_steps, absorbed, all_always, fired_once, one_fewer)
 
-  one_ripe_fewer : (due : Due) → IsDue m due → count_by (is_ripe m.moment) (fired due m).jobs < count_by (is_ripe m.moment) m.jobs
-  one_ripe_fewer due one = grind (arith, one_fewer)
+  one_due_fewer : (due : Due) → IsDue m due
+      → count_by (has_due_timer m.moment) (fired due m).jobs < count_by (has_due_timer m.moment) m.jobs
+  one_due_fewer due one = grind (arith, one_fewer)
 
 module _ (old mid new : CoreParts) (due : Due) (is : IsDue (machine_of old) due) (same : OnlyCompares old mid)
     (after : machine_of new ≡ fired due (machine_of mid)) where
   fires : machine_of new ≡ fired due (machine_of old)
-  fires = after ∙ ap (λ (h : Held). fired due (machine_held h)) same
+  fires = after ∙ ap (λ (h : Fields). fired due (machine_of_fields h)) same
 
   pub fired_one : after_job_timers (machine_of new) ≡ after_job_timers (machine_of old)
   fired_one = ap after_job_timers fires ∙ others_left (machine_of old) old.sound.ids due is
 
-  pub fewer_ripe : count_jobs (is_ripe old.moment) new < count_jobs (is_ripe old.moment) old
-  fewer_ripe = rw (ap (λ (x : Machine). x.jobs) fires) (one_ripe_fewer (machine_of old) old.sound.ids due is)
+  pub fewer_due : count_jobs (has_due_timer old.moment) new < count_jobs (has_due_timer old.moment) old
+  fewer_due = rw (ap (λ (x : Machine). x.jobs) fires) (one_due_fewer (machine_of old) old.sound.ids due is)
 
 -- the first job by a number, and what is known of it
 pub record Chosen (p : Job → Bool) (before : Job → Job → Bool) (jobs : List Job) (id : ℕ) : Type 0 where
@@ -149,7 +150,8 @@ module _ (st mid : CoreParts) (same : OnlyCompares st mid) (delayed lease : Opti
 
   pub none_due : (new : CoreParts) → OnlyCompares mid new → st.timeouts ≤ greatest → None ≡ id_if_past st.moment delayed
       → None ≡ id_if_past st.moment lease → HaveFired st new
-  none_due new then_same fits no_delay no_lease = ap machine_held then_same ∙ ap machine_held same ∙ none_fires (machine_of st) fits
+  none_due new then_same fits no_delay no_lease = ap machine_of_fields then_same ∙ ap machine_of_fields same
+      ∙ none_fires (machine_of st) fits
       (none_past _ _ _ dues_are st.jobs.jobs st.moment delayed delayed_is no_delay)
       (none_past _ _ _ expiries_are st.jobs.jobs st.moment lease first_of_leases no_lease)
 
@@ -187,12 +189,12 @@ pub given_none : (state : JobState) (seat : ℕ) (jobs : List Job)
 given_none state seat jobs e = map_all_same _ _ (all_weaker _ _ _ (λ k h. rw h refl)
     (none_pass _ _ (first_of_none (is_held_by seat) is_lease_before jobs (no_id _ e))))
 
-module _ (state : JobState) (seat : ℕ) (old new : CoreParts) (kept : Kept) (id : ℕ) (free : is_reserved state ≡ false)
+module _ (state : JobState) (seat : ℕ) (old new : CoreParts) (kept : JobsSeen) (id : ℕ) (free : is_reserved state ≡ false)
     (first : Some id ≡ option_map (λ j. j.id) (first_of (is_held_by seat) is_lease_before old.jobs.jobs))
     (same : kept ≡ record old.jobs { comparisons = kept.comparisons })
     (after : machine_of new ≡ with_job id (in_state state) (record (machine_of old) { jobs = kept.jobs })) where
   gives : machine_of new ≡ with_job id (in_state state) (machine_of old)
-  gives = after ∙ ap (λ (k : Kept). with_job id (in_state state) (record (machine_of old) { jobs = k.jobs })) same
+  gives = after ∙ ap (λ (k : JobsSeen). with_job id (in_state state) (record (machine_of old) { jobs = k.jobs })) same
 
   one : Chosen (is_held_by seat) is_lease_before old.jobs.jobs id
   one = chosen _ _ _ _ _ _ old.sound.ids first

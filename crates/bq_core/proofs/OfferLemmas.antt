@@ -3,9 +3,9 @@ use Rattle.std.{proofs.{Common.{List, None, [], ap, arith, refl, sym, ◌∙◌,
 use Rattle.std.specs.Prelude.{fold}
 use Rattle.bq_core.proofs.DispatchLemmas.{ranks_swap}
 use Rattle.bq_job.specs.{declared.job.Job.Job, machine.{SeatRecord, TubeRecord}}
-use Rattle.bq_jobs.specs.{Kept.Kept, Searching.Asks}
+use Rattle.bq_jobs.specs.{JobsSeen.JobsSeen, Searching.Asks}
 use Rattle.bq_state.{proofs.{SeatPlaces.place_is_seat, WalkLemmas.walked}, specs.{Cost.waited_tubes, Offers.with_offers}}
-use Rattle.bq_state.specs.{SeatChanges.AreNumbered, WaitingTurns.{by_seat, turns_of, waited_at}}
+use Rattle.bq_state.specs.{SeatChanges.AreNumbered, WaitingList.{by_seat, waited_at, waiters_of}}
 
 -- a fold in which the order of elements does not matter
 module _ {A B : Type 0} (g : B → A → B) (swap : (b : B) (x y : A) → g (g b x) y ≡ g (g b y) x) where
@@ -21,9 +21,10 @@ fold_same : {A B : Type 0} (g h : B → A → B) → ((b : B) (x : A) → g b x 
 fold_same g h same b xs = λ i. fold (λ c x. same c x i) b xs
 
 pub offers_walked : (jobs : List Job) (entries : List TubeRecord) (seats : List SeatRecord) → AreNumbered seats
-    → fold (by_seat (with_offers jobs entries) seats) None (turns_of seats) ≡ fold (with_offers jobs entries) None seats
+    → fold (by_seat (with_offers jobs entries) seats) None (waiters_of seats) ≡ fold (with_offers jobs entries) None seats
 offers_walked jobs entries seats h = grind (arith, common_steps, fold_same, place_is_seat, walked, folds_swap, ranks_swap)
 
-pub asks_walked : (seats : List SeatRecord) {old new : Kept} → AreNumbered seats → Asks (sum_by (waited_at seats) (turns_of seats)) old new
+pub asks_walked : (seats : List SeatRecord) {old new : JobsSeen} → AreNumbered seats
+    → Asks (sum_by (waited_at seats) (waiters_of seats)) old new
     → Asks (sum_by waited_tubes seats) old new
 asks_walked seats {old = old} {new = new} numbered asked = grind (arith, common_steps, fold_same, place_is_seat, walked)

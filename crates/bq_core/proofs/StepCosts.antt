@@ -6,17 +6,17 @@ use Rattle.bq_core.proofs.{AskLemmas.{asks_more, asks_then, search_grows}, CostL
 use Rattle.bq_core.proofs.{StepLemmas.timers_alike, TurnLemmas.{chain_joined, room_kept}, WatchLemmas.acted_few}
 use Rattle.bq_core.{proofs.WatchLemmas.{waited_few, waiting_few}, specs.{AtOnce.ActsOrGives, Serving.{ServesAsking, TakesStepWithin}}}
 use Rattle.bq_core.specs.Turns.{Gives, HasRoom}
-use Rattle.bq_core_api.specs.{Cost.{ripening, tubes_watched, watched_tubes}, Outbox.Outbox}
+use Rattle.bq_core_api.specs.{Cost.{due_timers, tubes_watched, watched_tubes}, Outbox.Outbox}
 use Rattle.bq_job.proofs.{KeptLemmas.{Keeps, kept_of_lawful}, LawfulLemmas.{HasServed, kept_of_timers, leaves_acted, length_addressed}}
 use Rattle.bq_job.{proofs.{LawfulLemmas.{seats_many, served}, QuietLemmas.forgets_nothing}, specs.beside.{IsLawful, waiting_count}}
 use Rattle.bq_job.specs.{declared.step.Step.Step, machine.{DispatchTurn, Machine.Machine, acted, after_timers, at_moment}}
 use Rattle.bq_job.specs.machine.{forgetting, has_refused_share, is_growth_refused, is_waiting}
-use Rattle.bq_jobs.specs.{Kept.Kept, Searching.Asks}
+use Rattle.bq_jobs.specs.{JobsSeen.JobsSeen, Searching.Asks}
 use Rattle.bq_state.specs.{Asking.{AsksWithin, search_among}, CoreParts.machine_of, Cost.{waited, waited_tubes}}
 use Rattle.bq_state.specs.declared.core_parts.CoreParts.{CoreParts}
 
 -- some turns of dispatch, and then dispatch and the ends of waits
-pub serving_after : (first middle last : Machine) (before between after : Kept) (old told new : Outbox)
+pub serving_after : (first middle last : Machine) (before between after : JobsSeen) (old told new : Outbox)
     (g : Gives DispatchTurn has_refused_share first middle old told) → ServesAsking middle told new last between after
     → Asks (length g.given * (waited first + 9)) before between → ServesAsking first old new last before after
 serving_after first middle last before between after old told new g rest asks =
@@ -61,7 +61,7 @@ bounded : (t h c g q w v x y : ℕ) → w ≤ q → v ≤ q → x ≤ q → y �
 bounded t h c g q w v x y a b d e = grind (arith, common_steps, mul-le, add-mul)
 
 -- three parts, each of which searches among at most the largest number of jobs
-summed : (n l g most : ℕ) {first before left last : Kept} → Asks n first before → AsksWithin l before left → Asks g left last
+summed : (n l g most : ℕ) {first before left last : JobsSeen} → Asks n first before → AsksWithin l before left → Asks g left last
     → n + l + g ≤ most → last.comparisons ≤ first.comparisons + most * search_among (max (length first.jobs) (length last.jobs))
 summed n l g most {first} {before} {left} {last} a b d few =
     let j = max (length first.jobs) (length last.jobs) in
@@ -96,7 +96,7 @@ module _ (first fired before after : CoreParts) (at seat most : ℕ) (what : Ste
       grind (arith, length-append, length_addressed)
 
   -- The step is within its bound.
-  pub step_within : (last : CoreParts) (new : Outbox) → Asks (10 * ripening at (machine_of first) + 2) first.jobs fired.jobs
+  pub step_within : (last : CoreParts) (new : Outbox) → Asks (10 * due_timers at (machine_of first) + 2) first.jobs fired.jobs
       → ServesAsking (machine_of after) asked new (machine_of last) after.jobs last.jobs → TakesStepWithin at seat what first last new
   step_within last new timers rest =
       let m = machine_of first in

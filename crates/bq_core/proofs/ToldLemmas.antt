@@ -8,7 +8,7 @@ use Rattle.bq_job.{proofs.BecomeLemmas.free_by_delay, specs.{declared.{fault.NoM
 use Rattle.bq_job.specs.machine.{effect, is_held_by, job_with, raised, seat_with, showing, state_once_left, telling, use_effect, using}
 use Rattle.bq_job.specs.machine.{Machine.Machine, with_seat}
 use Rattle.bq_jobs.{proofs.Changes.found_id, specs.{Searching.Asks, Seen.IsBodyOf}}
-use Rattle.bq_state.specs.{Asking.AsksAsChanged, CoreParts.{OnlyCompares, held, machine_held, machine_of}, SeatChanges.seat_changed}
+use Rattle.bq_state.specs.{Asking.AsksAsChanged, CoreParts.{OnlyCompares, fields, machine_of, machine_of_fields}, SeatChanges.seat_changed}
 use Rattle.bq_state.specs.{SeatStates.{is_connected, is_free}, declared.core_parts.CoreParts.CoreParts}
 use Rattle.bq_state.specs.declared.seats.SeatChange.TheVariants.{Clear, Connect, End}
 use Rattle.bq_job.specs.declared.answer.Answer.TheVariants as answers
@@ -23,9 +23,9 @@ shown_so st last id r body is there told same = grind (arith, common_steps, some
 -- a client that connects, ends or disconnects
 pub connects : (st between last : CoreParts) (seat : ℕ) → true ≡ is_free (seat_with seat st.seats.items)
     → machine_of between ≡ with_seat seat (seat_changed Connect) (machine_of st)
-    → held last ≡ record (held between) { connections = raised between.connections }
+    → fields last ≡ record (fields between) { connections = raised between.connections }
     → machine_of last ≡ (effect (machine_of st) seat steps.Connect).machine
-connects st between last seat free after counted = ap machine_held counted
+connects st between last seat free after counted = ap machine_of_fields counted
     ∙ ap (λ (x : Machine). record x { connections = raised x.connections }) after ∙ sym (connected_free _ _ (sym free))
 
 pub ends : (st last : CoreParts) (seat : ℕ) → true ≡ is_connected (seat_with seat st.seats.items)

@@ -1,11 +1,11 @@
--- The ends of waits, one waiting client after another in the order of their turns.
+-- The ends of waits, one waiting client after another in the order of their tickets.
 use Rattle.std.proofs.Common.{Bool, List, None, Option, Some, [], ap, arith, cond, false, get_or, if◌then◌else◌, length, map}
 use Rattle.std.proofs.Common.{map-id, not, refl, slice_get, sym, true, ℕ, ◌&&◌, ◌+◌, ◌<◌, ◌==◌, ◌∙◌, ◌∷◌, ◌≡◌, ◌≤◌}
 use Rattle.std.proofs.lemmas.{Bool.{Decides.nat_tests, and_from, and_parts, cases_Bool, eqb-true}, Grind.common_steps}
 use Rattle.std.proofs.lemmas.Option.{slice_get_read}
 use Rattle.std.specs.{List.{AllByRecursion as All, Contains, list_any}, Prelude.count_by}
 use Rattle.bq_core.proofs.{ActLemmas.number_found, AskLemmas.{asks_more, asks_none, asks_then}, TurnLemmas.{gives_joined, gives_nothing}}
-use Rattle.bq_core.{proofs.TurnLemmas.{one_end, room_kept, same_read}, specs.{Turns.{Gives, HasRoom, none_refused}, WaitEnds.LooksAt}}
+use Rattle.bq_core.{proofs.TurnLemmas.{one_end, room_kept, same_read}, specs.{Turns.{Gives, HasRoom, none_refused}, WaitEnds.Checks}}
 use Rattle.bq_core_api.specs.Outbox.{Outbox}
 use Rattle.bq_job.proofs.ChoiceLemmas.{first_of_contains, first_of_is, first_of_is_least, first_of_none, first_of_none_passes}
 use Rattle.bq_job.proofs.{ChoiceLemmas.{first_of_passes, pair_order, pair_other}, ComputedLemmas.waiting_falls, KeptLemmas.only_seat}
@@ -13,8 +13,8 @@ use Rattle.bq_job.proofs.ListLemmas.{all_always, all_at, all_both, all_from_memb
 use Rattle.bq_job.{proofs.ListLemmas.{list_any_with, none_pass, one_or_none}, specs.{declared.answer.Answer.Answer, machine.SeatRecord}}
 use Rattle.bq_job.specs.machine.{WaitEndTurn, end_of_wait, ends_waiting, first_of, is_ending_lease, is_timed_out_at, is_wait_before}
 use Rattle.bq_job.specs.machine.{Machine.Machine, is_waiting, next_end, ticket_of, without_wait}
-use Rattle.bq_state.{proofs.PartsLemmas.seat_read, specs.{CoreParts.machine_of, EndingWaits.{AreLookedAt, is_after, left_after}}}
-use Rattle.bq_state.specs.{EndingWaits.{told_at_end, turn_of, waits_after}, declared.core_parts.CoreParts.CoreParts}
+use Rattle.bq_state.{proofs.PartsLemmas.seat_read, specs.{CoreParts.machine_of, EndingWaits.{AreChecked, is_after, left_after}}}
+use Rattle.bq_state.specs.{EndingWaits.{told_at_end, waiter_of, waits_after}, declared.core_parts.CoreParts.CoreParts}
 use Rattle.bq_job.specs.declared.answer.Answer.TheVariants as answers
 
 -- the answer to a waiting client, by its first lease and its timeout
@@ -31,7 +31,7 @@ pub told_is : (m : Machine) (s : SeatRecord) (answer : Answer) → is_waiting s 
 told_is m s answer waits told = grind (arith, common_steps)
 
 -- no client is left: no wait ends
-pub none_left : (st : CoreParts) (last : Option (ℕ × ℕ)) → AreLookedAt (machine_of st) last
+pub none_left : (st : CoreParts) (last : Option (ℕ × ℕ)) → AreChecked (machine_of st) last
     → None ≡ first_of (waits_after last) is_wait_before st.seats.items → next_end (machine_of st) ≡ None
 none_left st last looked none =
     let ends = ends_waiting (machine_of st) in
@@ -47,7 +47,7 @@ fewer p q f [] w = omega arith
 fewer p q f (x ∷ xs) w = grind (arith, common_steps, count_cons, one_or_none, cases_Bool, fewer p q f xs w.1)
 
 -- the next client that is checked
-module _ (st : CoreParts) (last : Option (ℕ × ℕ)) (looked : AreLookedAt (machine_of st) last) (k : ℕ) (s : SeatRecord)
+module _ (st : CoreParts) (last : Option (ℕ × ℕ)) (looked : AreChecked (machine_of st) last) (k : ℕ) (s : SeatRecord)
     (there : k < length st.seats.items) (read : s ≡ get_or st.seats.items k s)
     (found : slice_get st.seats.items k ≡ first_of (waits_after last) is_wait_before st.seats.items) where
   here : slice_get st.seats.items k ≡ Some s
@@ -78,7 +78,7 @@ module _ (st : CoreParts) (last : Option (ℕ × ℕ)) (looked : AreLookedAt (ma
   not_sooner t c w = first_of_is_least (waits_after last) (pair_order (λ u. ticket_of u.wait) (λ u. u.number)) st.seats.items s t chosen c w
 
   comes_after : (t : SeatRecord) → Contains st.seats.items t → waits_after last t ≡ true → (t.number == s.number) ≡ false
-      → is_after (Some (turn_of s)) t ≡ true
+      → is_after (Some (waiter_of s)) t ≡ true
   comes_after t c w other = pair_other (ticket_of s.wait) s.number (ticket_of t.wait) t.number (not_sooner t c w) other
 
   next_is : ends_waiting (machine_of st) s ≡ true → next_end (machine_of st) ≡ Some s
@@ -86,9 +86,9 @@ module _ (st : CoreParts) (last : Option (ℕ × ℕ)) (looked : AreLookedAt (ma
       (λ y c a b. same y c (grind (arith, nat_tests)))
 
   -- what becomes of it
-  module _ (old new : Outbox) (next : Machine) (looks : LooksAt (machine_of st) k old new next) where
-    look_given : Gives WaitEndTurn none_refused (machine_of st) next old new
-    look_given =
+  module _ (old new : Outbox) (next : Machine) (looks : Checks (machine_of st) k old new next) where
+    check_given : Gives WaitEndTurn none_refused (machine_of st) next old new
+    check_given =
         let is = looks s here passes.0 in
         grind (arith, one_end, next_is, member, same, gives_nothing)
 
@@ -98,42 +98,42 @@ module _ (st : CoreParts) (last : Option (ℕ × ℕ)) (looked : AreLookedAt (ma
     changed false e = ((looks s here passes.0).stays e).machine
         ∙ ap (λ seats. record (machine_of st) { seats = seats }) (sym (map-id st.seats.items))
 
-    module _ (turn : ℕ × ℕ) (turn_is : turn ≡ turn_of s) where
-      look_passed : AreLookedAt next (Some turn)
-      look_passed =
+    module _ (waiter : ℕ × ℕ) (waiter_is : waiter ≡ waiter_of s) where
+      check_passed : AreChecked next (Some waiter)
+      check_passed =
           let b = ends_waiting (machine_of st) s in
-          rw (changed b refl, turn_is) (all_of_map _ _ _ (all_from_members _ _ (λ t c. passed t c b (t.number == s.number) refl refl)))
+          rw (changed b refl, waiter_is) (all_of_map _ _ _ (all_from_members _ _ (λ t c. passed t c b (t.number == s.number) refl refl)))
         where
           passed : (t : SeatRecord) → Contains st.seats.items t → (b d : Bool) → ends_waiting (machine_of st) s ≡ b
               → (t.number == s.number) ≡ d → ends_waiting (machine_of st) (if b && d then without_wait t else t) ≡ true
-              → is_after (Some (turn_of s)) (if b && d then without_wait t else t) ≡ true
+              → is_after (Some (waiter_of s)) (if b && d then without_wait t else t) ≡ true
           passed t c true true e o h = absurd cc
           passed t c false true e o h = absurd (let is = same t c o in cc)
           passed t c true false e o h = comes_after t c (is_left t c h) o
           passed t c false false e o h = comes_after t c (is_left t c h) o
 
-      look_falls : left_after (Some turn) next < left_after last (machine_of st)
-      look_falls =
+      check_falls : left_after (Some waiter) next < left_after last (machine_of st)
+      check_falls =
           let b = ends_waiting (machine_of st) s in
-          let q = waits_after (Some (turn_of s)) in
+          let q = waits_after (Some (waiter_of s)) in
           let f = λ (t : SeatRecord). if b && (t.number == s.number) then without_wait t else t in
           let one = list_any_with (λ t. waits_after last t && not (q (f t))) st.seats.items s member
           (and_from (waits_after last s) (not (q (f s))) (rw (passes.0, passes.1)) (out (b && (s.number == s.number)))) in
           let few = rw one at (fewer (waits_after last) q f st.seats.items (all_always _ _ (λ t. less t (b && (t.number == s.number))))) in
-          rw (changed b refl, turn_is) (omega arith)
+          rw (changed b refl, waiter_is) (omega arith)
         where
-          less : (t : SeatRecord) (b : Bool) → waits_after (Some (turn_of s)) (if b then without_wait t else t) ≡ true
+          less : (t : SeatRecord) (b : Bool) → waits_after (Some (waiter_of s)) (if b then without_wait t else t) ≡ true
               → waits_after last t ≡ true
           less t true h = absurd cc
           less t false h = grind (arith, common_steps, and_parts, passes)
 
-          out : (b : Bool) → not (waits_after (Some (turn_of s)) (if b then without_wait s else s)) ≡ true
+          out : (b : Bool) → not (waits_after (Some (waiter_of s)) (if b then without_wait s else s)) ≡ true
           out true = refl
           out false = grind (arith, common_steps, nat_tests)
 
-      pub looked_on : Gives WaitEndTurn none_refused (machine_of st) next old new × AreLookedAt next (Some turn)
-          × (left_after (Some turn) next < left_after last (machine_of st))
-      looked_on = (look_given, look_passed, look_falls)
+      pub checked_on : Gives WaitEndTurn none_refused (machine_of st) next old new × AreChecked next (Some waiter)
+          × (left_after (Some waiter) next < left_after last (machine_of st))
+      checked_on = (check_given, check_passed, check_falls)
 
 -- a turn of the loop over the waiting clients, under a name that an attribute can cite
 pub ruleset ends_of_waits = (common_steps, asks_more, asks_none, asks_then, gives_joined, gives_nothing, room_kept, all_always, count_cons)

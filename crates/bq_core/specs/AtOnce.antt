@@ -4,7 +4,7 @@ use Rattle.bq_core.specs.{Acting.Acts, Turns.Gives}
 use Rattle.bq_core_api.specs.{Cost.changed_jobs, Outbox.Outbox}
 use Rattle.bq_job.specs.{declared.{request.Request.Request, step.Step.Step}, machine.{DispatchTurn, forgetting, has_refused_share, raised}}
 use Rattle.bq_job.specs.machine.{Machine.Machine, job_with, reserved_by, seat_with, waiting_from, with_job, with_seat}
-use Rattle.bq_jobs.specs.{Kept.Kept, Searching.Asks, Seen.IsBodyOf}
+use Rattle.bq_jobs.specs.{JobsSeen.JobsSeen, Searching.Asks, Seen.IsBodyOf}
 use Rattle.bq_state.specs.{Asking.AsksWithin, CoreParts.{AtSeat, machine_of}, Cost.waited, Offers.with_offer, SeatStates.is_asking}
 use Rattle.bq_state.specs.WantedJobs.{is_nothing}
 use Rattle.bq_state.specs.declared.core_parts.CoreParts.{CoreParts}
@@ -43,12 +43,12 @@ abbrev pub waiting_at : ℕ → Option ℕ → Machine → Machine
 waiting_at seat until m = record (with_seat seat (waiting_from (raised m.tickets) until) m) { tickets = raised m.tickets }
 
 -- what is kept of the jobs of this model, with this count of comparisons
-abbrev pub kept_at : Machine → ℕ → Kept → Kept
+abbrev pub kept_at : Machine → ℕ → JobsSeen → JobsSeen
 kept_at m comparisons k = record k { jobs = m.jobs; comparisons = comparisons }
 
 -- The command's own effect was carried out and tubes were forgotten. Then dispatch took some turns: one if a client
 -- reserved and was given a job at once, and otherwise none.
-pub record ActsOrGives (m : Machine) (seat : ℕ) (what : Step) (old new : Outbox) (last : Machine) (before after : Kept) : Type 0 where
+pub record ActsOrGives (m : Machine) (seat : ℕ) (what : Step) (old new : Outbox) (last : Machine) (before after : JobsSeen) : Type 0 where
   pub acted_machine : Machine
   pub left : Machine
   pub told : Outbox

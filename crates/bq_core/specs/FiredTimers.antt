@@ -1,6 +1,6 @@
 -- Timers of jobs fire, one job after another.
 use Rattle.std.specs.Prelude.{◌||◌, ◌≡◌, Bool, IsTrue, List, None, Option, Some, if◌then◌else◌, ℕ, count_by, map, nat_le}
-use Rattle.bq_core.specs.declared.timers.Due.{Due, TheVariants.{Expired, Ripe}}
+use Rattle.bq_core.specs.declared.timers.Due.{Due, TheVariants.{DelayEnded, Expired}}
 use Rattle.bq_job.specs.{declared.job.{Job.Job, JobState.JobState}, machine.{given_back, grown, is_due, is_expired, job_after_timers}}
 use Rattle.bq_job.specs.machine.{job_with, raised, with_job, Machine.Machine}
 use Rattle.bq_state.specs.{CoreParts.machine_of, declared.core_parts.CoreParts.CoreParts}
@@ -17,8 +17,8 @@ abbrev pub HaveFired : CoreParts → CoreParts → Type 0
 HaveFired old new = machine_of new ≡ after_job_timers (machine_of old)
 
 -- a timer of the job is due
-abbrev pub is_ripe : ℕ → Job → Bool
-is_ripe moment j = is_due moment j.state || is_expired moment j.state
+abbrev pub has_due_timer : ℕ → Job → Bool
+has_due_timer moment j = is_due moment j.state || is_expired moment j.state
 
 -- the id that was found, if its moment has come
 abbrev pub id_if_past : ℕ → Option (ℕ × ℕ) → Option ℕ
@@ -33,12 +33,12 @@ pub record IsOne (passes : Job → Bool) (jobs : List Job) (id : ℕ) : Type 0 w
 
 -- this timer of a job is due
 abbrev pub IsDue : Machine → Due → Type 0
-IsDue m (Ripe id) = IsOne (λ j. is_due m.moment j.state) m.jobs id
+IsDue m (DelayEnded id) = IsOne (λ j. is_due m.moment j.state) m.jobs id
 IsDue m (Expired id) = IsOne (λ j. is_expired m.moment j.state) m.jobs id
 
 -- the model after this timer has fired
 abbrev pub fired : Due → Machine → Machine
-fired (Ripe id) m = with_job id (job_after_timers m.moment) m
+fired (DelayEnded id) m = with_job id (job_after_timers m.moment) m
 fired (Expired id) m = record (with_job id (job_after_timers m.moment) m) { timeouts = raised m.timeouts }
 
 -- the model after all jobs that the client at the seat holds were brought into this state

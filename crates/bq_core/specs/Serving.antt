@@ -4,7 +4,7 @@ use Rattle.bq_core.specs.Turns.{HasRoom}
 use Rattle.bq_core_api.specs.{Cost.IsStepWithin, Outbox.{Outbox, outcome_of}}
 use Rattle.bq_job.specs.{beside.waiting_count, declared.step.Step.Step, machine.{GivenAnswer, Serves, has_refused_share, is_tube}}
 use Rattle.bq_job.specs.machine.Machine.{Machine}
-use Rattle.bq_jobs.specs.{Kept.Kept, Searching.Asks}
+use Rattle.bq_jobs.specs.{JobsSeen.JobsSeen, Searching.Asks}
 use Rattle.bq_state.specs.{CoreParts.machine_of, Cost.waited, declared.core_parts.CoreParts.CoreParts}
 
 -- The model keeps no records of tubes that do not exist.
@@ -25,7 +25,7 @@ pub record ServesInto (first : Machine) (old new : Outbox) (last : Machine) : Ty
 -- The same, and how many searches it took: for each job that was handed out, one for each tube that
 -- waiting clients watch, and nine more; besides, one for each tube that they watch, and one for
 -- each of them.
-pub record ServesAsking (first : Machine) (old new : Outbox) (last : Machine) (before after : Kept) : Type 0 where
+pub record ServesAsking (first : Machine) (old new : Outbox) (last : Machine) (before after : JobsSeen) : Type 0 where
   pub serves : ServesInto first old new last
   pub asks : Asks (length serves.handed * (waited first + 9) + waited first + waiting_count first + 1) before after
 

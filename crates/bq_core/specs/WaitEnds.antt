@@ -20,11 +20,11 @@ pub record IsAsBefore (m : Machine) (old new : Outbox) (last : Machine) : Type 0
   pub outs : new ≡ old
 
 -- what happens to a waiting client that is checked
-pub record IsLookedAt (m : Machine) (s : SeatRecord) (old new : Outbox) (last : Machine) : Type 0 where
+pub record IsChecked (m : Machine) (s : SeatRecord) (old new : Outbox) (last : Machine) : Type 0 where
   pub ends : ends_waiting m s ≡ true → AddsWaitEnd m s old new last
   pub stays : ends_waiting m s ≡ false → IsAsBefore m old new last
 
 -- the client at place k was checked, if it waits
-abbrev pub LooksAt : Machine → ℕ → Outbox → Outbox → Machine → Type 0
-LooksAt m k old new last =
-    (s : SeatRecord) → slice_get m.seats k ≡ Some s → is_waiting s ≡ true → IsLookedAt m s old new last
+abbrev pub Checks : Machine → ℕ → Outbox → Outbox → Machine → Type 0
+Checks m k old new last =
+    (s : SeatRecord) → slice_get m.seats k ≡ Some s → is_waiting s ≡ true → IsChecked m s old new last

@@ -7,7 +7,7 @@ ghost use Rattle.bq_state.specs.{Asking.AsksAsChanged, CoreParts.machine_of, Sea
 ghost use Rattle.bq_job.specs.declared.answer.Answer.TheVariants as answers;
 ghost use Rattle.bq_job.specs.declared.step.Step.TheVariants as steps;
 
-use crate::job_acts::{NewJob, NewTurn};
+use crate::job_acts::{NewJob, PriAndDelay};
 use crate::{answering, job_acts, kicks, statistics_acts, timers, tube_acts};
 use bq_core_api::Outs;
 use bq_job::{Answer, Refusal, Request, Seat, Step};
@@ -102,7 +102,7 @@ fn carry_out(
         Request::ReserveWithTimeout { seconds } => job_acts::reserve_until(state, seat, seconds),
         Request::ReserveJob { id } => job_acts::reserve_job(state, seat, id, answer),
         Request::Release { id, pri, delay } => {
-            job_acts::release(state, seat, id, NewTurn { pri, delay }, answer)
+            job_acts::release(state, seat, id, PriAndDelay { pri, delay }, answer)
         }
         Request::Bury { id, pri } => job_acts::bury(state, seat, id, pri, answer),
         Request::Touch { id } => job_acts::touch(state, seat, id, answer),

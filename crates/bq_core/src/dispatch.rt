@@ -8,9 +8,9 @@ ghost use Rattle.bq_job.specs.{beside.Computed.waiting_count, machine.Changes.{j
 ghost use Rattle.bq_job.specs.machine.{Changes.without_wait, Dispatch.{DispatchTurn, next_job, reserved_by}, Limits.raised};
 ghost use Rattle.bq_job.specs.machine.Steps.{has_refused_share};
 ghost use Rattle.bq_jobs.specs.{Searching.{Asks, Searches}, Seen.IsBodyOf};
-ghost use Rattle.bq_state.specs.{Asking.AsksByTurn, CoreParts.{AtSeat, machine_of}, Cost.{waited, waited_tubes}, Keeping.Looks};
+ghost use Rattle.bq_state.specs.{Asking.AsksByTurn, CoreParts.{AtSeat, machine_of}, Cost.{waited, waited_tubes}, Keeping.OnlySearches};
 ghost use Rattle.bq_state.specs.Offers.{better_rank, is_waited_at, next_rank, offered, these, with_offer, with_offers};
-ghost use Rattle.bq_state.specs.{SeatChanges.AreNumbered, WaitingTurns.{by_seat, turns_of, waited_at}};
+ghost use Rattle.bq_state.specs.{SeatChanges.AreNumbered, WaitingList.{by_seat, waited_at, waiters_of}};
 ghost use Rattle.bq_state.specs.WantedJobs.{is_nothing};
 ghost use Rattle.bq_job.specs.declared.answer.Answer.TheVariants as answers;
 
@@ -21,12 +21,12 @@ use bq_jobs::{JobList, NumberedJobs, Tube};
 use bq_state::core_parts::CoreParts;
 use bq_state::job_store::JobChange;
 use bq_state::known::Wanted;
-use bq_state::seats::{SeatRecord, Turn};
+use bq_state::seats::{SeatRecord, Waiter};
 use bq_state::tubes::Tubes;
 use bq_state::{changes, seats};
 use std::alloc::Global;
 
-// A client that watches more tubes than this waits first, so that a look that finds no job costs
+// A client that watches more tubes than this waits first, so that a search that finds no job costs
 // little.
 const MOST_TUBES: usize = 8;
 
@@ -139,23 +139,23 @@ fn best_of_client(
     }
 }
 
-// Returns the best of the jobs that the clients of these turns wait for.
+// Returns the best of the jobs that these waiters wait for.
 #[tactic(auto, using(crate::proofs::AskLemmas::asks_summed, bq_state::proofs::LoopLemmas::folded_beside))]
-fn best_of_turns(
+fn best_of_waiters(
     jobs: &mut NumberedJobs,
     tubes: &Tubes,
     seats: &[SeatRecord],
-    turns: &[Turn],
+    waiters: &[Waiter],
 ) -> Option<Offer>
     requires numbered { AreNumbered seats.now }
     requires same { tubes.now.numbers ≡ jobs.old.tubes }
     ensures best { result
-        ≡ fold (by_seat (with_offers jobs.old.jobs tubes.now.entries) seats.now) None turns.now }
-    ensures kept { Searches (sum_by (waited_at seats.now) turns.now) jobs.old jobs.new }
+        ≡ fold (by_seat (with_offers jobs.old.jobs tubes.now.entries) seats.now) None waiters.now }
+    ensures kept { Searches (sum_by (waited_at seats.now) waiters.now) jobs.old jobs.new }
 {
     let mut best = None;
-    for i in 0..turns.len() {
-        best = best_of_client(jobs, tubes, seats, turns[i].1, best);
+    for i in 0..waiters.len() {
+        best = best_of_client(jobs, tubes, seats, waiters[i].1, best);
     }
     best
 }
@@ -166,22 +166,22 @@ fn best_offer(
     jobs: &mut NumberedJobs,
     tubes: &Tubes,
     seats: &[SeatRecord],
-    turns: &[Turn],
+    waiters: &[Waiter],
 ) -> Option<Offer>
     requires numbered { AreNumbered seats.now }
     requires same { tubes.now.numbers ≡ jobs.old.tubes }
-    requires turns { turns.now ≡ turns_of seats.now }
+    requires waiters { waiters.now ≡ waiters_of seats.now }
     ensures best { result ≡ fold (with_offers jobs.old.jobs tubes.now.entries) None seats.now }
     ensures kept { Searches (sum_by waited_tubes seats.now) jobs.old jobs.new }
 {
-    best_of_turns(jobs, tubes, seats, turns)
+    best_of_waiters(jobs, tubes, seats, waiters)
 }
 
 // Returns the job that is handed out next. Only jobs that may have become available are checked.
 #[tactic(auto, using(crate::proofs::SearchLemmas::offers_found))]
 fn next_offer(state: &mut CoreParts) -> Option<Offer>
     ensures next { result ≡ next_rank (machine_of state.old) }
-    ensures kept { Looks (waited (machine_of state.old)) state.old state.new }
+    ensures kept { OnlySearches (waited (machine_of state.old)) state.old state.new }
 {
     match &state.known.wanted {
         Wanted::Nothing => None,
@@ -207,7 +207,7 @@ fn next_offer(state: &mut CoreParts) -> Option<Offer>
 #[tactic(auto, using(crate::proofs::AskLemmas::asks_more, crate::proofs::AskLemmas::asks_none, crate::proofs::DispatchLemmas::id_of_best))]
 fn next_job(state: &mut CoreParts) -> Option<JobId>
     ensures id { result ≡ option_map (λ j. j.id) (next_job (machine_of state.old)) }
-    ensures kept { Looks (waited (machine_of state.old)) state.old state.new }
+    ensures kept { OnlySearches (waited (machine_of state.old)) state.old state.new }
 {
     if !state.has_ready() {
         return None;
@@ -230,7 +230,7 @@ fn pick_at_tube(state: &mut CoreParts, id: JobId) -> Option<(Seat, Result<Body, 
     ensures some { is_some result ≡ true }
     ensures picked { IfSome result (λ p. IsPicked (machine_of state.old) p.0) }
     ensures share { IfSome result (λ p. IfOk p.1 (IsBodyOf (next_job (machine_of state.old)))) }
-    ensures kept { Looks 1 state.old state.new }
+    ensures kept { OnlySearches 1 state.old state.new }
 {
     let (tube, shared) = state.jobs.share(state.tubes.names(), id)?;
     let seat = seats::first_waiting(
@@ -249,7 +249,7 @@ fn pick(state: &mut CoreParts, id: JobId) -> Option<(Seat, Result<Body, NoMemory
     ensures some { is_some result ≡ true }
     ensures picked { IfSome result (λ p. IsPicked (machine_of state.old) p.0) }
     ensures share { IfSome result (λ p. IfOk p.1 (IsBodyOf (next_job (machine_of state.old)))) }
-    ensures kept { Looks 1 state.old state.new }
+    ensures kept { OnlySearches 1 state.old state.new }
 {
     match &state.known.wanted {
         Wanted::Client(seat) => {
@@ -396,7 +396,7 @@ fn job_at_once(state: &mut CoreParts, seat: Seat, what: &Step) -> Option<JobId>
     ensures job { IfSome result (λ id. AtSeat seat state.old (λ s. Some id
         ≡ option_map (λ r. r.1) (fold (with_offer state.old.jobs.jobs state.old.tubes.entries) None s.watched))) }
     ensures few { IfSome result (λ _. AtSeat seat state.old (λ s. Asks (length s.watched) state.old.jobs state.new.jobs)) }
-    ensures kept { Looks 8 state.old state.new }
+    ensures kept { OnlySearches 8 state.old state.new }
 {
     if !may_take(state, seat, what) {
         return None;
@@ -416,7 +416,7 @@ fn job_at_once(state: &mut CoreParts, seat: Seat, what: &Step) -> Option<JobId>
 // of the client's wait is used up. Returns None, and changes nothing, if the reference is refused.
 fn hand_over(state: &mut CoreParts, seat: Seat, id: JobId) -> Option<Body>
     ensures given { IfSome result (λ body. IsHandedOver seat id body state.old state.new) }
-    ensures kept { result ≡ None → Looks 1 state.old state.new }
+    ensures kept { result ≡ None → OnlySearches 1 state.old state.new }
 {
     match changes::hand_out(state, seat, id)? {
         Ok(body) => {
@@ -431,7 +431,7 @@ fn hand_over(state: &mut CoreParts, seat: Seat, id: JobId) -> Option<Body>
 // job's id and another reference to its body. If not, nothing is changed.
 fn take_at_once(state: &mut CoreParts, seat: Seat, what: &Step) -> Option<(JobId, Body)>
     ensures taken { IfSome result (λ p. TakesAtOnce seat what.now p.0 p.1 state.old state.new) }
-    ensures kept { result ≡ None → Looks 9 state.old state.new }
+    ensures kept { result ≡ None → OnlySearches 9 state.old state.new }
 {
     let id = job_at_once(state, seat, what)?;
     let body = hand_over(state, seat, id)?;

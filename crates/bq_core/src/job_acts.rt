@@ -30,7 +30,7 @@ pub(crate) struct NewJob {
 
 /// The new values of a released job.
 #[derive(Clone, Copy)]
-pub(crate) struct NewTurn {
+pub(crate) struct PriAndDelay {
     pub(crate) pri: Pri,
     pub(crate) delay: u32,
 }
@@ -225,7 +225,7 @@ pub(crate) fn release(
     state: &mut CoreParts,
     seat: Seat,
     id: JobId,
-    with: NewTurn,
+    with: PriAndDelay,
     answer: &mut Answer,
 ) -> Reply
     ensures reply { RepliesTo seat false

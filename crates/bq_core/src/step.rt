@@ -11,7 +11,7 @@ use bq_core_api::{Config, CoreFault, Outs, QueueCore};
 use bq_job::{LARGEST_BODY, MOST_SEATS, Moment, NoMemory, Seat, Step};
 use bq_state::core_parts::CoreParts;
 use bq_state::tubes::Tubes;
-use bq_state::waiting::Waiting;
+use bq_state::waiting::WaitingList;
 use bq_state::{changes, seats};
 use std::alloc::Global;
 use std::marker::Model;
@@ -121,7 +121,7 @@ fn empty_core(alloc: Global, config: Config) -> Result<Core, NoMemory>
     let Ok(seats) = seats::free_seats(alloc, config.seats) else {
         return Err(NoMemory);
     };
-    let Ok(waiting) = Waiting::new(alloc, config.seats) else {
+    let Ok(waiting) = WaitingList::new(alloc, config.seats) else {
         drop(seats);
         return Err(NoMemory);
     };

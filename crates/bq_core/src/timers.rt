@@ -2,25 +2,25 @@
 //! by itself next.
 ghost use Rattle.std.specs.{Option.{option_copied, option_map}, Prelude.{IfSome, None, count_by, false, fold}};
 ghost use Rattle.std.specs.Prelude.{if◌then◌else◌, length, ◌*◌, ◌+◌, ◌≡◌};
-ghost use Rattle.bq_core.specs.FiredTimers.{HaveFired, IsDue, after_giving_back, fired, id_if_past, is_ripe};
+ghost use Rattle.bq_core.specs.FiredTimers.{HaveFired, IsDue, after_giving_back, fired, has_due_timer, id_if_past};
 ghost use Rattle.bq_job.specs.{beside.NextDue.next_due as next_due_of, machine.{Asked.state_once_left, Changes.{first_of, is_held_by}}};
 ghost use Rattle.bq_job.specs.machine.{Changes.is_waiting, JobStates.{due_of, is_delayed, is_due_before, is_reserved}, Timers.after_timers};
-ghost use Rattle.bq_jobs.specs.{Kept.ranked, Leases.{deadline_of, is_lease_before}, Searching.{Asks, Searches}};
+ghost use Rattle.bq_jobs.specs.{JobsSeen.ranked, Leases.{deadline_of, is_lease_before}, Searching.{Asks, Searches}};
 ghost use Rattle.bq_state.specs.{CoreParts.{count_jobs, machine_of}, Dues.{timers_due, warning_due, warning_due_at}};
-ghost use Rattle.bq_state.specs.{Dues.{with_seat_due, with_warning_due}, FirstTimeouts.AreTimeouts, Keeping.Looks, SeatTurns.AreTurnsOf};
-ghost use Rattle.bq_state.specs.{WaitingTurns.at_turn, Warnings.{AreWarned, is_waiting_there}};
+ghost use Rattle.bq_state.specs.{Dues.{with_seat_due, with_warning_due}, FirstTimeouts.AreTimeouts, Keeping.OnlySearches, SeatWaiters.AreWaitersOf};
+ghost use Rattle.bq_state.specs.{WaitingList.at_waiter, Warnings.{AreWarned, is_waiting_there}};
 
 use bq_job::{JobId, JobState, Moment, Seat};
 use bq_jobs::{NumberedJobs, Timer};
 use bq_state::core_parts::CoreParts;
 use bq_state::job_store::JobChange;
 use bq_state::known::{FirstTimeout, Warns, earlier_of, first_to_give_up};
-use bq_state::seats::{SeatRecord, Turn};
+use bq_state::seats::{SeatRecord, Waiter};
 use bq_state::{changes, job_store, seats};
 
 // A timer of a job that is due: its delay has ended, or its time to run has expired.
 enum Due {
-    Ripe(JobId),
+    DelayEnded(JobId),
     Expired(JobId),
 }
 
@@ -30,12 +30,12 @@ enum Due {
 fn first_delayed(state: &mut CoreParts) -> Option<(Moment, JobId)>
     ensures rank { result ≡ option_map (ranked (λ j. due_of j.state))
         (first_of (λ j. is_delayed j.state) is_due_before state.old.jobs.jobs) }
-    ensures kept { Looks 1 state.old state.new }
+    ensures kept { OnlySearches 1 state.old state.new }
 {
     if !state.has_delayed() {
         return None;
     }
-    state.jobs.first_timed(Timer::Due)
+    state.jobs.first_timed(Timer::Delay)
 }
 
 // Returns the reserved job whose time to run ends first, and when it does. If no client holds a
@@ -44,7 +44,7 @@ fn first_delayed(state: &mut CoreParts) -> Option<(Moment, JobId)>
 fn first_lease(state: &mut CoreParts) -> Option<(Moment, JobId)>
     ensures rank { result ≡ option_map (ranked (λ j. deadline_of j.state))
         (first_of (λ j. is_reserved j.state) is_lease_before state.old.jobs.jobs) }
-    ensures kept { Looks 1 state.old state.new }
+    ensures kept { OnlySearches 1 state.old state.new }
 {
     if !state.has_lease() {
         return None;
@@ -64,13 +64,13 @@ fn id_if_past(found: Option<(Moment, JobId)>, moment: Moment) -> Option<JobId>
 fn first_due(state: &mut CoreParts) -> Option<Due>
     ensures due { IfSome result (IsDue (machine_of state.old)) }
     ensures none { result ≡ None → HaveFired state.old state.new }
-    ensures kept { Looks 2 state.old state.new }
+    ensures kept { OnlySearches 2 state.old state.new }
 {
     let moment = state.moment;
     let _timeouts = state.timeouts; // For the proof, which needs its range.
     let delayed = first_delayed(state);
     if let Some(id) = id_if_past(delayed, moment) {
-        return Some(Due::Ripe(id));
+        return Some(Due::DelayEnded(id));
     }
     let lease = first_lease(state);
     match id_if_past(lease, moment) {
@@ -86,7 +86,7 @@ fn fire_one(state: &mut CoreParts, due: Due)
 {
     let change = JobChange::FireTimers(state.moment);
     match due {
-        Due::Ripe(id) => changes::change_job(state, id, &change),
+        Due::DelayEnded(id) => changes::change_job(state, id, &change),
         Due::Expired(id) => {
             changes::change_job(state, id, &change);
             changes::count_timeout(state);
@@ -99,7 +99,7 @@ fn fire_one(state: &mut CoreParts, due: Due)
 fn fire_jobs(state: &mut CoreParts)
     ensures after { HaveFired state.old state.new }
     ensures asks { Asks
-        (10 * count_jobs (is_ripe state.old.moment) state.old + 2) state.old.jobs state.new.jobs }
+        (10 * count_jobs (has_due_timer state.old.moment) state.old + 2) state.old.jobs state.new.jobs }
 {
     while let Some(due) = first_due(state) {
         fire_one(state, due);
@@ -110,7 +110,7 @@ fn fire_jobs(state: &mut CoreParts)
 pub(crate) fn fire(state: &mut CoreParts)
     ensures after { machine_of state.new ≡ after_timers (machine_of state.old) }
     ensures asks { Asks
-        (10 * count_jobs (is_ripe state.old.moment) state.old + 2) state.old.jobs state.new.jobs }
+        (10 * count_jobs (has_due_timer state.old.moment) state.old + 2) state.old.jobs state.new.jobs }
 {
     fire_jobs(state);
     changes::end_pauses(state);
@@ -171,33 +171,37 @@ fn warning_due_at(jobs: &mut NumberedJobs, client: Option<&SeatRecord>) -> Optio
     }
 }
 
-// Returns the earlier of this moment and the one at which the client of this turn gets
+// Returns the earlier of this moment and the one at which this waiter gets
 // DEADLINE_SOON.
 fn with_warning_of(
     best: Option<Moment>,
     jobs: &mut NumberedJobs,
     seats: &[SeatRecord],
-    turn: Turn,
+    waiter: Waiter,
 ) -> Option<Moment>
-    ensures due { result ≡ at_turn (with_warning_due jobs.old.jobs) seats.now best turn }
+    ensures due { result ≡ at_waiter (with_warning_due jobs.old.jobs) seats.now best waiter }
     ensures kept { Searches 1 jobs.old jobs.new }
 {
-    match seats.get(usize::from(turn.1)) {
+    match seats.get(usize::from(waiter.1)) {
         None => best,
         Some(client) => earlier_of(best, warning_due(jobs, client)),
     }
 }
 
-// Returns when the first of the clients with these turns gets DEADLINE_SOON.
+// Returns when the first of these waiters gets DEADLINE_SOON.
 #[tactic(auto, using(crate::proofs::AskLemmas::asks_then, bq_state::proofs::LoopLemmas::folded_beside))]
-fn first_warning(jobs: &mut NumberedJobs, seats: &[SeatRecord], turns: &[Turn]) -> Option<Moment>
+fn first_warning(
+    jobs: &mut NumberedJobs,
+    seats: &[SeatRecord],
+    waiters: &[Waiter],
+) -> Option<Moment>
     ensures due { result
-        ≡ fold (at_turn (with_warning_due jobs.old.jobs) seats.now) None turns.now }
-    ensures kept { Searches (length turns.now) jobs.old jobs.new }
+        ≡ fold (at_waiter (with_warning_due jobs.old.jobs) seats.now) None waiters.now }
+    ensures kept { Searches (length waiters.now) jobs.old jobs.new }
 {
     let mut best = None;
-    for i in 0..turns.len() {
-        best = with_warning_of(best, jobs, seats, turns[i]);
+    for i in 0..waiters.len() {
+        best = with_warning_of(best, jobs, seats, waiters[i]);
     }
     best
 }
@@ -208,18 +212,18 @@ fn first_warning(jobs: &mut NumberedJobs, seats: &[SeatRecord], turns: &[Turn]) 
 fn warnings_due(
     jobs: &mut NumberedJobs,
     seats: &[SeatRecord],
-    turns: &[Turn],
+    waiters: &[Waiter],
     warns: &Warns,
 ) -> Option<Moment>
     requires warned { AreWarned warns.now jobs.old.jobs seats.now }
-    requires turns { AreTurnsOf turns.now seats.now }
+    requires waiters { AreWaitersOf waiters.now seats.now }
     ensures due { result ≡ fold (with_warning_due jobs.old.jobs) None seats.now }
     ensures kept { Searches (count_by is_waiting seats.now) jobs.old jobs.new }
 {
     match warns {
         Warns::Nothing => None,
         Warns::Client(seat) => warning_due_at(jobs, seats::find(seats, *seat)),
-        Warns::Any => first_warning(jobs, seats, turns),
+        Warns::Any => first_warning(jobs, seats, waiters),
     }
 }
 
@@ -227,7 +231,7 @@ fn warnings_due(
 #[tactic(auto, using(std::proofs::lemmas::Grind::common_steps))]
 fn jobs_due(state: &mut CoreParts) -> Option<Moment>
     ensures due { result ≡ timers_due state.old.jobs.jobs }
-    ensures kept { Looks 2 state.old state.new }
+    ensures kept { OnlySearches 2 state.old state.new }
 {
     let due = first_delayed(state);
     let deadline = first_lease(state);
@@ -235,14 +239,14 @@ fn jobs_due(state: &mut CoreParts) -> Option<Moment>
 }
 
 // Returns when the first wait times out. If that is known, no seat is checked.
-fn seats_due(first: &FirstTimeout, seats: &[SeatRecord], turns: &[Turn]) -> Option<Moment>
+fn seats_due(first: &FirstTimeout, seats: &[SeatRecord], waiters: &[Waiter]) -> Option<Moment>
     requires known { AreTimeouts first.now seats.now }
-    requires turns { AreTurnsOf turns.now seats.now }
+    requires waiters { AreWaitersOf waiters.now seats.now }
     ensures { result ≡ fold with_seat_due None seats.now }
 {
     match first {
         FirstTimeout::Known(first) => *first,
-        FirstTimeout::Unknown => first_to_give_up(seats, turns),
+        FirstTimeout::Unknown => first_to_give_up(seats, waiters),
     }
 }
 

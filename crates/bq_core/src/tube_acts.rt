@@ -2,7 +2,7 @@ ghost use Rattle.std.specs.{Option.option_map, Prelude.{false, true, ◌≡◌}}
 ghost use Rattle.bq_core.specs.Replying.{RepliesAt, RepliesBy, RepliesTo, peek_first_effect};
 ghost use Rattle.bq_job.specs.machine.{Acts.telling, TubeCommands.{ignore_effect, pause_effect, peek_effect, use_effect, watch_effect}};
 ghost use Rattle.bq_jobs.specs.{Ranks.first_in, Searching.Asks};
-ghost use Rattle.bq_state.specs.{Asking.AsksAsChanged, CoreParts.{AtSeat, machine_of}, Keeping.Looks};
+ghost use Rattle.bq_state.specs.{Asking.AsksAsChanged, CoreParts.{AtSeat, machine_of}, Keeping.OnlySearches};
 ghost use Rattle.bq_job.specs.declared.answer.Answer.TheVariants as answers;
 
 use crate::acts::{Reply, set_answer};
@@ -154,7 +154,7 @@ pub(crate) fn peek(state: &mut CoreParts, id: JobId, answer: &mut Answer) -> Rep
 fn first_used(state: &mut CoreParts, seat: Seat, list: JobList) -> Option<JobId>
     ensures id { AtSeat seat state.old
         (λ s. result ≡ option_map (λ j. j.id) (first_in list s.used state.old.jobs.jobs)) }
-    ensures kept { Looks 1 state.old state.new }
+    ensures kept { OnlySearches 1 state.old state.new }
 {
     let client = seats::find(state.seats.as_slice(), seat)?;
     job_store::first(&mut state.jobs, state.tubes.names(), list, client.used())

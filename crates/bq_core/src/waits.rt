@@ -1,18 +1,18 @@
 //! Ends waits: because of a timeout, or because a time to run ends soon.
 ghost use Rattle.std.specs.{List.list_any, Prelude.{IfSome, None, Some, false, length, slice_get, true, ◌+◌, ◌<◌, ◌≡◌}};
-ghost use Rattle.bq_core.specs.{Turns.{Gives, HasRoom, none_refused}, WaitEnds.{EndsWait, LooksAt}};
+ghost use Rattle.bq_core.specs.{Turns.{Gives, HasRoom, none_refused}, WaitEnds.{Checks, EndsWait}};
 ghost use Rattle.bq_job.specs.{beside.Computed.waiting_count, machine.{Changes.first_of, Dispatch.is_wait_before, Machine.SeatRecord}};
 ghost use Rattle.bq_job.specs.machine.Waits.{WaitEndTurn, is_ending_lease, next_end};
 ghost use Rattle.bq_jobs.specs.Searching.{Asks, Searches};
-ghost use Rattle.bq_state.specs.{CoreParts.{held, machine_of}, EndingWaits.{has_waited, is_lease_short, is_soon}};
-ghost use Rattle.bq_state.specs.{EndingWaits.{may_end, told_at_end, waits_after}, Keeping.Looks, Places.item_at};
+ghost use Rattle.bq_state.specs.{CoreParts.{fields, machine_of}, EndingWaits.{has_waited, is_lease_short, is_soon}};
+ghost use Rattle.bq_state.specs.{EndingWaits.{may_end, told_at_end, waits_after}, Keeping.OnlySearches, Places.item_at};
 
 use bq_core_api::Outs;
 use bq_job::{Answer, JobId, Moment, Seat};
 use bq_jobs::{NumberedJobs, Timer};
 use bq_state::core_parts::CoreParts;
 use bq_state::known::{self, FirstTimeout};
-use bq_state::seats::Turn;
+use bq_state::seats::Waiter;
 use bq_state::{changes, seats};
 
 // Returns true if a moment was found and comes within a second.
@@ -50,7 +50,7 @@ fn told_at_end(state: &mut CoreParts, k: usize) -> Option<Answer>
     requires seat { k < length state.old.seats.items }
     ensures told { (s : SeatRecord) → slice_get (machine_of state.old).seats k ≡ Some s
         → result ≡ told_at_end (machine_of state.old) s }
-    ensures kept { Looks 1 state.old state.new }
+    ensures kept { OnlySearches 1 state.old state.new }
 {
     let number = state.seats[k].number();
     let is_over = state.seats[k].is_timed_out(state.moment);
@@ -81,7 +81,7 @@ fn end_wait(state: &mut CoreParts, outs: &mut Outs, k: usize, answer: Answer)
 fn end_one(state: &mut CoreParts, outs: &mut Outs, k: usize)
     requires seat { k < length state.old.seats.items }
     requires room { length outs.old.given < outs.old.most }
-    ensures looked { LooksAt (machine_of state.old) k outs.old outs.new (machine_of state.new) }
+    ensures looked { Checks (machine_of state.old) k outs.old outs.new (machine_of state.new) }
     ensures asks { Asks 1 state.old.jobs state.new.jobs }
 {
     match told_at_end(state, k) {
@@ -90,17 +90,17 @@ fn end_one(state: &mut CoreParts, outs: &mut Outs, k: usize)
     }
 }
 
-// Returns the place of the client that has waited longest among those whose turn comes after
+// Returns the place of the client that has waited longest among those that come after
 // `last`.
-#[tactic(auto, using(bq_state::proofs::WalkLemmas::none_first, bq_state::proofs::WalkLemmas::next_turn))]
-fn next_waiting(state: &CoreParts, last: Option<Turn>) -> Option<usize>
+#[tactic(auto, using(bq_state::proofs::WalkLemmas::none_first, bq_state::proofs::WalkLemmas::next_waiter))]
+fn next_waiting(state: &CoreParts, last: Option<Waiter>) -> Option<usize>
     ensures bound { IfSome result (λ k. k < length state.now.seats.items) }
     ensures least { item_at state.now.seats.items result
         ≡ first_of (waits_after last) is_wait_before state.now.seats.items }
 {
     match state.waiting.next_after(last) {
         None => None,
-        Some(turn) => Some(usize::from(turn.1)),
+        Some(waiter) => Some(usize::from(waiter.1)),
     }
 }
 
@@ -117,7 +117,7 @@ fn end_all(state: &mut CoreParts, outs: &mut Outs)
 {
     let mut last = None;
     while let Some(k) = next_waiting(state, last) {
-        last = Some(state.seats[k].turn());
+        last = Some(state.seats[k].waiter());
         end_one(state, outs, k);
     }
 }
@@ -127,8 +127,8 @@ fn end_all(state: &mut CoreParts, outs: &mut Outs)
 #[tactic(auto, using(bq_state::proofs::FirstTimeoutLemmas::over_known))]
 fn is_some_wait_over(state: &mut CoreParts) -> bool
     ensures over { result ≡ list_any (has_waited state.old.moment) state.old.seats.items }
-    ensures same { held state.new
-        ≡ record (held state.old) { known = record state.old.known { first_timeout = state.new.known.first_timeout } } }
+    ensures same { fields state.new
+        ≡ record (fields state.old) { known = record state.old.known { first_timeout = state.new.known.first_timeout } } }
 {
     changes::find_first_timeout(state);
     match &state.known.first_timeout {

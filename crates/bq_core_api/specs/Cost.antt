@@ -44,8 +44,8 @@ changed_jobs old new =
     count_by (λ j. is_gone_or_changed j (job_with j.id new)) old + count_by (λ j. not (is_some (job_with j.id old))) new
 
 -- how many jobs become ready by a timer when a step begins at this moment
-abbrev pub ripening : ℕ → Machine → ℕ
-ripening at m = count_by (λ j. is_due (max m.moment at) j.state || is_expired (max m.moment at) j.state) m.jobs
+abbrev pub due_timers : ℕ → Machine → ℕ
+due_timers at m = count_by (λ j. is_due (max m.moment at) j.state || is_expired (max m.moment at) j.state) m.jobs
 
 -- how many tubes the client watches, if it waits or is at this seat
 abbrev pub tubes_watched : ℕ → SeatRecord → ℕ
@@ -64,7 +64,7 @@ pub record IsStepWithin (first : Machine) (at seat : ℕ) (what : Step) (outcome
   pub step : IsStep first at seat what outcome answers last
   pub stays : old ≤ new
   pub comparisons :
-      let changes = ripening at first + length step.handed + length step.handed_then + changed_jobs step.before.jobs step.after.jobs in
+      let changes = due_timers at first + length step.handed + length step.handed_then + changed_jobs step.before.jobs step.after.jobs in
       let jobs = max (length first.jobs) (length last.jobs) in
       new ≤ old + (changes + 8) * (watched_tubes seat first + 16) * (2 * binary_digits (2 * jobs + 2))
 

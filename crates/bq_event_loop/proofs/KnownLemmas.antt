@@ -10,14 +10,14 @@ use Rattle.std.proofs.lemmas.Bool.Decides.{nat_tests}
 use Rattle.std.proofs.lemmas.List.{get_or-set_same}
 use Rattle.bq_job.specs.declared.answer.Answer.{Answer}
 use Rattle.bq_line.specs.declared.attendant.Attendant.{Attendant}
-use Rattle.bq_line.specs.declared.attendant.LinePlace.{LinePlace}
+use Rattle.bq_line.specs.declared.attendant.SeatPhase.{SeatPhase}
 use Rattle.bq_line.specs.Tending.{IsNewSeat}
 use Rattle.bq_event_loop.proofs.ListingLemmas.{falls_once}
 use Rattle.std.specs.List.{All}
 use Rattle.bq_host.proofs.MarkLemmas.{one_if, times_push}
 use Rattle.bq_event_loop.specs.Keeping.{Chooses, KeepsSeats}
 use Rattle.bq_event_loop.specs.Known.{AreIdle, AreKnown, ChangesOnly, ChangesOnlyIn, IsKnown}
-use Rattle.bq_event_loop.specs.Known.{IsListedIn, IsNextOf, IsTaken, KnowsAll, is_listed, is_looking, is_on, is_visited}
+use Rattle.bq_event_loop.specs.Known.{IsListedIn, IsNextOf, IsTaken, KnowsAll, is_listed, is_on, is_trying, is_visited}
 use Rattle.bq_event_loop.specs.Meanings.{Line}
 use Rattle.bq_event_loop.specs.Listings.{Listing, all_free, enqueued, falling, freed, is_nowhere}
 use Rattle.bq_host.specs.Marks.{times}
@@ -31,10 +31,10 @@ use Rattle.bq_host.specs.WakeLists.{WakeList, Wakes, none_waits}
 pub changed_one : {L : Type 0} {seats : List (Attendant L)} {i : ℕ} (new : Attendant L) → ChangesOnly i seats (slice_set seats i new)
 changed_one {L} {seats} {i} new = grind (arith, common_steps)
 
--- The place of a seat that was changed.
-pub changed_place : {L : Type 0} (seats : List (Attendant L)) (i : ℕ) (new : Attendant L) (a : Attendant L) (place : LinePlace L)
-    → i < length seats → new.place ≡ place → (slice_index_or (slice_set seats i new) i a).place ≡ place
-changed_place seats i new a place below is = ap (λ z. z.place) (get_or-set_same seats i new a below) ∙ is
+-- The phase of a seat that was changed.
+pub changed_phase : {L : Type 0} (seats : List (Attendant L)) (i : ℕ) (new : Attendant L) (a : Attendant L) (place : SeatPhase L)
+    → i < length seats → new.phase ≡ place → (slice_index_or (slice_set seats i new) i a).phase ≡ place
+changed_phase seats i new a place below is = ap (λ z. z.phase) (get_or-set_same seats i new a below) ∙ is
 
 pub changed_none : {L : Type 0} {seats : List (Attendant L)} {i : ℕ} → ChangesOnly i seats seats
 changed_none = record { many = refl; others = λ t differs a. refl }
@@ -151,50 +151,50 @@ none_on : (xs : List ℕ) → ((t : ℕ) → is_on xs t ≡ false) → xs ≡ []
 none_on [] none = refl
 none_on (x ∷ xs) none = grind (arith, got_on (x ∷ xs) zero x refl)
 
-pub idle_visits : (may_come : Bool) (l : Listing) (visited : Option ℕ) → AreIdle may_come (is_listed l visited) (is_looking l)
+pub idle_visits : (may_come : Bool) (l : Listing) (visited : Option ℕ) → AreIdle may_come (is_listed l visited) (is_trying l)
     → visited ≡ None
 idle_visits may_come l None idle = refl
 idle_visits may_come l (Some i) idle = grind (arith, eq-eqb i i refl)
 
-pub idle_queue : (may_come : Bool) (l : Listing) (visited : Option ℕ) → AreIdle may_come (is_listed l visited) (is_looking l)
+pub idle_queue : (may_come : Bool) (l : Listing) (visited : Option ℕ) → AreIdle may_come (is_listed l visited) (is_trying l)
     → l.queue ≡ []
 idle_queue may_come l visited idle = none_on l.queue (λ t. (or_parts (is_on l.queue t) (is_visited visited t) (idle.acts t)).0)
 
 pub idle_free : (may_come : Bool) (l : Listing) (visited : Option ℕ) → may_come ≡ true
-    → AreIdle may_come (is_listed l visited) (is_looking l) → l.free ≡ []
+    → AreIdle may_come (is_listed l visited) (is_trying l) → l.free ≡ []
 idle_free may_come l visited may idle = none_on l.free (idle.checks may)
 
 pub listed_self : (l : Listing) (i : ℕ) → is_listed l (Some i) i ≡ true
 listed_self l i = or_right (is_on l.queue i) (i == i) (eq-eqb i i refl)
 
 -- Seats that all check for a client are known.
-pub all_known : (seats : ℕ) (l : Listing) → l ≡ all_free seats → KnowsAll seats l.seats (is_listed l None) (is_looking l)
-all_known seats l is = subst (λ z. KnowsAll seats z.seats (is_listed z None) (is_looking z)) (sym is) (record {
+pub all_known : (seats : ℕ) (l : Listing) → l ≡ all_free seats → KnowsAll seats l.seats (is_listed l None) (is_trying l)
+all_known seats l is = subst (λ z. KnowsAll seats z.seats (is_listed z None) (is_trying z)) (sym is) (record {
   all = omega arith;
-  apart = λ t looks on. absurd cc;
+  apart = λ t tries on. absurd cc;
   each = λ t below. inr (some_on (falling seats) t (omega (arith, falls_once seats t below)));
 })
 
 -- New seats are known by turns that know all seats.
-pub known_at_first : {L : Type 0} {line : Line L} {many seats : ℕ} {listed looks : ℕ → Bool} {all : List (Attendant L)}
-    {mails : List (List Answer)} {size : ℕ} → length all ≡ seats → KnowsAll seats many listed looks → All (IsNewSeat size) all
-    → AreKnown line many listed looks [] all mails
+pub known_at_first : {L : Type 0} {line : Line L} {many seats : ℕ} {listed tries : ℕ → Bool} {all : List (Attendant L)}
+    {mails : List (List Answer)} {size : ℕ} → length all ≡ seats → KnowsAll seats many listed tries → All (IsNewSeat size) all
+    → AreKnown line many listed tries [] all mails
 known_at_first same knows new = grind arith
 
-module _ {L : Type 0} {line : Line L} {many : ℕ} {listed looks : ℕ → Bool} where
+module _ {L : Type 0} {line : Line L} {many : ℕ} {listed tries : ℕ → Bool} where
   known_woken : {seats : List (Attendant L)} {mails later : List (List Answer)} {old new : WakeList} → length seats ≤ old.seats
       → Wakes mails later old new
-      → AreKnown line many listed looks old.waiting seats mails → AreKnown line many listed looks new.waiting seats later
+      → AreKnown line many listed tries old.waiting seats mails → AreKnown line many listed tries new.waiting seats later
   known_woken {seats} {mails} {later} {old} {new} within wakes k = record {
     all = k.all;
     apart = k.apart;
-    looking = k.looking;
+    trying = k.trying;
     known = λ t below a. at t below a (k.known t below a);
   }
     where
       at : (t : ℕ) → t < length seats → (a : Attendant L)
-          → IsKnown (listed t) (looks t) (times t old.waiting) (IsStill line (slice_index_or seats t a) (slice_index_or mails t []))
-          → IsKnown (listed t) (looks t) (times t new.waiting) (IsStill line (slice_index_or seats t a) (slice_index_or later t []))
+          → IsKnown (listed t) (tries t) (times t old.waiting) (IsStill line (slice_index_or seats t a) (slice_index_or mails t []))
+          → IsKnown (listed t) (tries t) (times t new.waiting) (IsStill line (slice_index_or seats t a) (slice_index_or later t []))
       at t below a (inl acts) = inl acts
       at t below a (inr (inl checks)) = inr (inl checks)
       at t below a (inr (inr (inl waits))) = inr (inr (inl (omega (arith, waits, wakes.kept t))))
@@ -203,12 +203,12 @@ module _ {L : Type 0} {line : Line L} {many : ℕ} {listed looks : ℕ → Bool}
   -- A turn was taken. Each seat that got mail is to be woken.
   known_turned : (turn : Turn) (woken : List ℕ) (seats later : List (Attendant L)) (mails : List (List Answer))
       → IsListedIn listed turn → ChangesOnlyIn turn seats later
-      → AreKnown line many listed looks woken seats mails → AreKnown line many listed looks woken later mails
-  known_turned (turns.Serve i extent) woken seats later mails acts only k = grind arith
-  known_turned _ woken seats later mails acts only k = subst (λ z. AreKnown line many listed looks woken z mails) (sym only) k
+      → AreKnown line many listed tries woken seats mails → AreKnown line many listed tries woken later mails
+  known_turned (turns.Serve i task) woken seats later mails acts only k = grind arith
+  known_turned _ woken seats later mails acts only k = subst (λ z. AreKnown line many listed tries woken z mails) (sym only) k
 
   pub known_after : (turn : Turn) {seats later : List (Attendant L)} {mails after : List (List Answer)} {old new : WakeList}
       → old ≡ none_waits (length mails) → length later ≤ length mails → Wakes mails after old new
       → IsListedIn listed turn → ChangesOnlyIn turn seats later
-      → AreKnown line many listed looks [] seats mails → AreKnown line many listed looks new.waiting later after
+      → AreKnown line many listed tries [] seats mails → AreKnown line many listed tries new.waiting later after
   known_after turn {seats} {later} {mails} none within wakes acts only k = grind (arith, known_woken, known_turned turn)

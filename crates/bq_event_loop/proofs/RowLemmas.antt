@@ -140,9 +140,9 @@ module _ {L D : Type 0} {l : Line L} {d : Door D L} {seats : List (Attendant L)}
 
   -- A seat and a door that were looked up are placed together.
   pub placed_there : {a : Attendant L} {x : D} → i < length seats
-      → AllTended l d seats doors → a ≡ slice_index_or seats i a → x ≡ slice_index_or doors i x → IsPlaced a.place (door_seen d x)
+      → AllTended l d seats doors → a ≡ slice_index_or seats i a → x ≡ slice_index_or doors i x → IsPlaced a.phase (door_seen d x)
   placed_there {a} {x} below all a_is x_is =
-      looked_up (λ (u : Attendant L) (v : D). IsPlaced u.place (door_seen d v)) seats doors i a a x x below all.doored a_is x_is
+      looked_up (λ (u : Attendant L) (v : D). IsPlaced u.phase (door_seen d v)) seats doors i a a x x below all.doored a_is x_is
       (let t = all.each i below a x in t.tended.placed)
 
 module _ {L D : Type 0} (l : Line L) (d : Door D L) where

@@ -24,7 +24,7 @@ use Rattle.bq_host.specs.Compared.{AreCompared}
 use Rattle.bq_host.specs.Hubs.{state_of}
 use Rattle.bq_host.specs.MailStates.{IsNewMailState, waiting}
 use Rattle.bq_host.proofs.HasComparedLemmas.{compared_all}
-use Rattle.bq_host.proofs.WentLemmas.{core_none, new_mails_are, none_waits}
+use Rattle.bq_host.proofs.TraceLemmas.{core_none, new_mails_are, none_waits}
 use Rattle.bq_job.proofs.JoinLemmas.{doors_owed, seat_owed_so_far}
 use Rattle.bq_line.proofs.CountedLemmas.{got_few}
 use Rattle.bq_line.proofs.LineSoFarLemmas.{line_so_far}
@@ -33,13 +33,13 @@ use Rattle.bq_line.specs.ControlRead.{IsReadToEnd}
 use Rattle.bq_line.specs.Attending.{IsAt}
 use Rattle.bq_line.specs.Tending.{AreSame, DoorSeen, IsDoorServed, IsNewDoor, IsNewSeat, IsTended, door_seen, ended_lines}
 use Rattle.bq_line.specs.declared.attendant.Attendant.{Attendant}
-use Rattle.bq_line.specs.declared.attendant.LinePlace.{LinePlace}
-use Rattle.bq_line.specs.declared.attendant.LinePlace.TheVariants as places
+use Rattle.bq_line.specs.declared.attendant.SeatPhase.{SeatPhase}
+use Rattle.bq_line.specs.declared.attendant.SeatPhase.TheVariants as phases
 use Rattle.bq_seat.specs.declared.machine.SeatMachine.{SeatMachine}
 use Rattle.bq_line.specs.ControlTold.{HasTold, IsAtStage}
 use Rattle.bq_event_loop.specs.Meanings.{Clock, Control, Core, Door, Line}
 use Rattle.bq_event_loop.specs.Rows.{AreDone}
-use Rattle.bq_event_loop.specs.Serving.{IsServing, LoopWent}
+use Rattle.bq_event_loop.specs.Serving.{IsServing, LoopTrace}
 use Rattle.bq_host.specs.declared.hub.Hub.{Hub}
 use Rattle.bq_event_loop.specs.declared.row.Row.{Row}
 use Rattle.bq_event_loop.specs.SoFar.{Beginning, IsLoopSoFar, doors_so_far, line_out}
@@ -95,13 +95,13 @@ module _ {I : Type 0} (i : Control I) where
 
 module _ {L : Type 0} (seen : L → LineSeen) where
   -- the open connection, or what a seat without one submitted
-  out_at : (size : ℕ) (machine : SeatMachine) (place : LinePlace L) (submitted : List Step) (taken more : List Answer)
+  out_at : (size : ℕ) (machine : SeatMachine) (place : SeatPhase L) (submitted : List Step) (taken more : List Answer)
       → IsAt seen size machine place submitted taken → IsOutOwed size (line_out seen place) submitted (taken ++ more)
-  out_at size machine places.Between submitted taken more at = inl at.0
-  out_at size machine (places.On line action sent) submitted taken more at =
+  out_at size machine phases.Between submitted taken more at = inl at.0
+  out_at size machine (phases.On line action sent) submitted taken more at =
       grind (arith, line_so_far size machine at.0 action sent submitted taken more at.2)
-  out_at size machine places.Leaving submitted taken more at = inl at.0
-  out_at size machine places.Done submitted taken more at = inr at.0
+  out_at size machine phases.Leaving submitted taken more at = inl at.0
+  out_at size machine phases.Done submitted taken more at = inr at.0
 
   -- the answers of the connections that have ended, and then those of the open connection
   got_first : (got getting more taken : List Answer) → taken ≡ got ++ getting → taken ++ more ≡ got ++ (getting ++ more)
@@ -110,7 +110,7 @@ module _ {L : Type 0} (seen : L → LineSeen) where
   out_so_far : (size : ℕ) (a : Attendant L) (door : DoorSeen) (submitted : List Step) (taken more : List Answer)
       → (t : IsTended seen size a door submitted taken)
       → AreLinesOwed size door.lines_over t.attends.before t.attends.got
-      → IsDoorOwedSoFar size (record { over = door.lines_over; out = line_out seen a.place; is_out = door.is_out })
+      → IsDoorOwedSoFar size (record { over = door.lines_over; out = line_out seen a.phase; is_out = door.is_out })
       submitted (taken ++ more)
   out_so_far size a door submitted taken more t owed = grind (arith, common_steps, out_at)
 
@@ -144,7 +144,7 @@ module _ {L D C I K : Type 0} {k : Core K} {c : Clock C} {l : Line L} {d : Door 
     served = record {
       history = [];
       took = λ t. [];
-      went = core_none (state_of k core);
+      trace = core_none (state_of k core);
       mailed = new_mails_are begun.settings (state_of k core) new ∙ sym many;
       doored = doored ∙ sym many;
       each = λ t below a x. tended_new l.seen begun.settings.max_job_size (slice_index_or row.seats.items t a)
@@ -158,7 +158,7 @@ module _ {L D C I K : Type 0} {k : Core K} {c : Clock C} {l : Line L} {d : Door 
 
   -- The service went on.
   pub serving_on : {begun : Beginning D C} {old new : Hub C K} {row later : Row L D} {control next : ControlSteps I}
-      → IsServing k c l d i begun old row control → LoopWent k c l d i old row control new later next
+      → IsServing k c l d i begun old row control → LoopTrace k c l d i old row control new later next
       → IsServing k c l d i begun new later next
   serving_on {begun} s on = record {
     first = s.first;
@@ -180,17 +180,17 @@ module _ {L D C I K : Type 0} {k : Core K} {c : Clock C} {l : Line L} {d : Door 
 module _ {L D C I K : Type 0} {k : Core K} {c : Clock C} {l : Line L} {d : Door D L} {i : Control I} {begun : Beginning D C}
     {core : Hub C K} {row : Row L D} {control : ControlSteps I} (s : IsServing k c l d i begun core row control) where
   -- One history of all steps, each with a reading of its own.
-  ran : IsRun begun.settings s.readings s.served.history s.served.went.given (k.machine core.timed.core)
+  ran : IsRun begun.settings s.readings s.served.history s.served.trace.given (k.machine core.timed.core)
   ran = grind arith
 
   -- Along it, the core stayed within its bounds.
-  within_bounds : AreCompared (new_machine begun.settings) s.served.history s.served.went.given (k.machine core.timed.core) 0
+  within_bounds : AreCompared (new_machine begun.settings) s.served.history s.served.trace.given (k.machine core.timed.core) 0
       (k.comparisons core.timed.core)
   within_bounds =
-      subst (λ (m : Machine). AreCompared m s.served.history s.served.went.given (k.machine core.timed.core) 0
+      subst (λ (m : Machine). AreCompared m s.served.history s.served.trace.given (k.machine core.timed.core) 0
       (k.comparisons core.timed.core)) s.is_new.core
-      (compared_all s.first (state_of k core) s.served.history s.served.went.given s.is_new.unknown s.is_new.none_compared
-      s.served.went.compared)
+      (compared_all s.first (state_of k core) s.served.history s.served.trace.given s.is_new.unknown s.is_new.none_compared
+      s.served.trace.compared)
 
   -- Its steps are those of the seats, and of the control line after them.
   control_steps : steps_at begun.settings.seats s.served.history ≡ s.told
@@ -207,7 +207,7 @@ module _ {L D C I K : Type 0} {k : Core K} {c : Clock C} {l : Line L} {d : Door 
   record IsSeatSoFar (t : ℕ) (a : Attendant L) (door : DoorSeen) : Type 0 where
     within : t < begun.settings.seats
     tended : IsTended l.seen begun.settings.max_job_size a door (steps_at t s.served.history) (s.served.took t)
-    answers_are : answers_to t s.served.went.given ≡ s.served.took t ++ waiting t (state_of k core)
+    answers_are : answers_to t s.served.trace.given ≡ s.served.took t ++ waiting t (state_of k core)
     few : closes (s.served.took t) ≤ ended_lines a door
 
   seat_served : (t : ℕ) → t < length row.seats.items → (a : Attendant L) (x : D)
@@ -217,12 +217,12 @@ module _ {L D C I K : Type 0} {k : Core K} {c : Clock C} {l : Line L} {d : Door 
   -- The connections of a seat that have ended are owed what their clients received, and an open one is owed a beginning of it.
   seat_so_far : (t : ℕ) (a : Attendant L) (x : D) → IsSeatSoFar t a (door_seen d x)
       → IsDoorOwedSoFar begun.settings.max_job_size
-      (record { over = d.lines_over x; out = line_out l.seen a.place; is_out = d.is_out x }) (steps_at t s.served.history)
-      (answers_to t s.served.went.given)
+      (record { over = d.lines_over x; out = line_out l.seen a.phase; is_out = d.is_out x }) (steps_at t s.served.history)
+      (answers_to t s.served.trace.given)
   seat_so_far t a x g =
       let did = g.tended.attends in
       let owed = seat_owed_so_far begun.settings begun.settings.max_job_size t (d.lines_over x) did.before did.now did.got
-      (did.getting ++ waiting t (state_of k core)) s.served.history s.served.went.given (k.machine core.timed.core) g.within ran.runs
+      (did.getting ++ waiting t (state_of k core)) s.served.history s.served.trace.given (k.machine core.timed.core) g.within ran.runs
       did.submitted_is
       (g.answers_are ∙ got_first l.seen did.got did.getting (waiting t (state_of k core)) (s.served.took t) did.taken_is)
       (got_few l.seen begun.settings.max_job_size a (door_seen d x) (steps_at t s.served.history) (s.served.took t) g.tended g.few)
@@ -234,7 +234,7 @@ module _ {L D C I K : Type 0} {k : Core K} {c : Clock C} {l : Line L} {d : Door 
       → ((j : ℕ) → j < length seats → (a : Attendant L) (x : D)
       → IsSeatSoFar (n + j) (slice_index_or seats j a) (door_seen d (slice_index_or doors j x)))
       → AreDoorsOwedSoFar begun.settings.max_job_size n
-      (doors_so_far l.seen d.lines_over d.is_out seats doors) s.served.history s.served.went.given
+      (doors_so_far l.seen d.lines_over d.is_out seats doors) s.served.history s.served.trace.given
   doors_begun n [] [] h = tt
   doors_begun n [] (x ∷ doors) h = tt
   doors_begun n (a ∷ seats) [] h = tt
@@ -257,7 +257,7 @@ module _ {L D C I K : Type 0} {k : Core K} {c : Clock C} {l : Line L} {d : Door 
         fault = b.fault;
         history = record {
           history = s.served.history;
-          given = s.served.went.given;
+          given = s.served.trace.given;
           run = ran;
           many = many_doors l d row.seats.items row.doors.items s.served.doored ∙ s.many;
           of_doors = doors_begun 0 row.seats.items row.doors.items (λ j below a x.
@@ -274,7 +274,7 @@ module _ {L D C I K : Type 0} {k : Core K} {c : Clock C} {l : Line L} {d : Door 
     -- a door whose seat is done, and its answers
     record IsDoorDone (t : ℕ) (door : DoorSeen) : Type 0 where
       served : IsDoorServed begun.settings.max_job_size door (steps_at t s.served.history) (s.served.took t)
-      answers_are : answers_to t s.served.went.given ≡ s.served.took t ++ waiting t (state_of k core)
+      answers_are : answers_to t s.served.trace.given ≡ s.served.took t ++ waiting t (state_of k core)
 
     door_done : (t : ℕ) → t < length row.doors.items → (x : D) → IsDoorDone t (door_seen d (slice_index_or row.doors.items t x))
     door_done t below x =
@@ -287,7 +287,7 @@ module _ {L D C I K : Type 0} {k : Core K} {c : Clock C} {l : Line L} {d : Door 
     doors_tied : (n : ℕ) (rest : List D)
         → ((j : ℕ) → j < length rest → (x : D) → IsDoorDone (n + j) (door_seen d (slice_index_or rest j x)))
         → AreTied begun.settings.max_job_size n (map d.lines_over rest) (λ t. steps_at t s.served.history) s.served.took
-        (λ t. waiting t (state_of k core)) s.served.history s.served.went.given
+        (λ t. waiting t (state_of k core)) s.served.history s.served.trace.given
     doors_tied n [] h = tt
     doors_tied n (x ∷ rest) h =
         let more = doors_tied (suc n) rest (λ j below y.
@@ -317,11 +317,11 @@ module _ {L D C I K : Type 0} {k : Core K} {c : Clock C} {l : Line L} {d : Door 
           told = t;
           history = record {
             history = s.served.history;
-            given = s.served.went.given;
+            given = s.served.trace.given;
             run = ran;
             many = many;
             of_doors = doors_owed begun.settings begun.settings.max_job_size 0 (map d.lines_over row.doors.items)
-                (λ n. steps_at n s.served.history) s.served.took (λ n. waiting n (state_of k core)) s.served.history s.served.went.given
+                (λ n. steps_at n s.served.history) s.served.took (λ n. waiting n (state_of k core)) s.served.history s.served.trace.given
                 (k.machine core.timed.core) (omega (arith, many)) ran.runs
                 (doors_tied 0 row.doors.items (λ j below x.
                 subst (λ (n : ℕ). IsDoorDone n (door_seen d (slice_index_or row.doors.items j x)))

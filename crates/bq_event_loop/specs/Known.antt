@@ -3,7 +3,7 @@ use Rattle.std.specs.Prelude.{ℕ, ◌≡◌, ◌≢◌, ◌<◌, ◌≤◌, ◌
 use Rattle.std.specs.Prelude.{slice_index_or}
 use Rattle.bq_job.specs.declared.answer.Answer.{Answer}
 use Rattle.bq_line.specs.declared.attendant.Attendant.{Attendant}
-use Rattle.bq_line.specs.declared.attendant.LinePlace.TheVariants as places
+use Rattle.bq_line.specs.declared.attendant.SeatPhase.TheVariants as phases
 use Rattle.bq_event_loop.specs.Listings.{Listing}
 use Rattle.bq_host.specs.Marks.{times}
 use Rattle.bq_event_loop.specs.Meanings.{Line}
@@ -14,34 +14,34 @@ use Rattle.bq_event_loop.specs.declared.turns.Turn.TheVariants as turns
 -- The seat acts before the turns sleep, or it checks for a client before they sleep if one may have
 -- come, or it is to be woken, or nothing moves at it.
 abbrev pub IsKnown : Bool → Bool → ℕ → Type 0 → Type 0
-IsKnown listed looks waits Still = (listed ≡ true) ⊎ (looks ≡ true) ⊎ (0 < waits) ⊎ Still
+IsKnown listed tries waits Still = (listed ≡ true) ⊎ (tries ≡ true) ⊎ (0 < waits) ⊎ Still
 
 -- No seat acts, and none checks for a client that may have come.
-pub record AreIdle (may_come : Bool) (listed looks : ℕ → Bool) : Type 0 where
+pub record AreIdle (may_come : Bool) (listed tries : ℕ → Bool) : Type 0 where
   pub acts : (seat : ℕ) → listed seat ≡ false
-  pub checks : may_come ≡ true → (seat : ℕ) → looks seat ≡ false
+  pub checks : may_come ≡ true → (seat : ℕ) → tries seat ≡ false
 
 -- No seat that checks for a client is one that acts.
 abbrev pub AreApart : (ℕ → Bool) → (ℕ → Bool) → Type 0
-AreApart listed looks = (seat : ℕ) → looks seat ≡ true → listed seat ≡ true → ⊥
+AreApart listed tries = (seat : ℕ) → tries seat ≡ true → listed seat ≡ true → ⊥
 
--- No seat is forgotten. The turns, which know this many seats, let `listed` act, and let `looks`
--- check for a client. These seats are to be woken.
-pub record AreKnown {L : Type 0} (l : Line L) (many : ℕ) (listed looks : ℕ → Bool) (woken : List ℕ)
+-- No seat is forgotten. The turns, which know this many seats, let `listed` act, and let `tries`
+-- try their doors. These seats are to be woken.
+pub record AreKnown {L : Type 0} (l : Line L) (many : ℕ) (listed tries : ℕ → Bool) (woken : List ℕ)
     (seats : List (Attendant L)) (mails : List (List Answer)) : Type 0 where
   pub all : length seats ≤ many
-  pub apart : AreApart listed looks
-  pub looking : (seat : ℕ) → seat < length seats → looks seat ≡ true → (a : Attendant L)
-      → (slice_index_or seats seat a).place ≡ places.Between
+  pub apart : AreApart listed tries
+  pub trying : (seat : ℕ) → seat < length seats → tries seat ≡ true → (a : Attendant L)
+      → (slice_index_or seats seat a).phase ≡ phases.Between
   pub known : (seat : ℕ) → seat < length seats → (a : Attendant L)
-      → IsKnown (listed seat) (looks seat) (times seat woken) (IsStill l (slice_index_or seats seat a) (slice_index_or mails seat []))
+      → IsKnown (listed seat) (tries seat) (times seat woken) (IsStill l (slice_index_or seats seat a) (slice_index_or mails seat []))
 
 -- Nothing moves at any seat: its next action would move nothing, or it checks for a client, and none
 -- can have come.
 abbrev pub AreStill : {L : Type 0} → Line L → Bool → List (Attendant L) → List (List Answer) → Type 0
 AreStill {L} l may_come seats mails = (seat : ℕ) → seat < length seats → (a : Attendant L)
     → IsStill l (slice_index_or seats seat a) (slice_index_or mails seat [])
-    ⊎ (((slice_index_or seats seat a).place ≡ places.Between) × (may_come ≡ false))
+    ⊎ (((slice_index_or seats seat a).phase ≡ phases.Between) × (may_come ≡ false))
 
 -- At most this seat was changed.
 pub record ChangesOnly {L : Type 0} (one : ℕ) (old new : List (Attendant L)) : Type 0 where
@@ -50,19 +50,19 @@ pub record ChangesOnly {L : Type 0} (one : ℕ) (old new : List (Attendant L)) :
 
 -- At most the seat of this turn was changed.
 abbrev pub ChangesOnlyIn : {L : Type 0} → Turn → List (Attendant L) → List (Attendant L) → Type 0
-ChangesOnlyIn (turns.Serve seat extent) old new = ChangesOnly seat old new
+ChangesOnlyIn (turns.Serve seat task) old new = ChangesOnly seat old new
 ChangesOnlyIn _ old new = new ≡ old
 
 -- A seat that acts or checks for a client in a turn is one that the turns let act.
 abbrev pub IsListedIn : (ℕ → Bool) → Turn → Type 0
-IsListedIn listed (turns.Serve seat extent) = listed seat ≡ true
-IsListedIn listed (turns.Look seat) = listed seat ≡ true
+IsListedIn listed (turns.Serve seat task) = listed seat ≡ true
+IsListedIn listed (turns.TryOpen seat) = listed seat ≡ true
 IsListedIn listed (turns.HandOn seat) = listed seat ≡ true
 IsListedIn listed _ = Unit {0}
 
 -- The seat that checked for a client and found none is between two connections.
 abbrev pub IsFreeSeat : {L : Type 0} → Option ℕ → List (Attendant L) → Type 0
-IsFreeSeat {L} free seats = (seat : ℕ) → free ≡ Some seat → (a : Attendant L) → (slice_index_or seats seat a).place ≡ places.Between
+IsFreeSeat {L} free seats = (seat : ℕ) → free ≡ Some seat → (a : Attendant L) → (slice_index_or seats seat a).phase ≡ phases.Between
 
 -- Nothing moves at the still seat.
 abbrev pub IsStillSeat : {L : Type 0} → Line L → Option ℕ → List (Attendant L) → List (List Answer) → Type 0
@@ -84,8 +84,8 @@ is_visited (Some visited) seat = visited == seat
 abbrev pub is_listed : Listing → Option ℕ → ℕ → Bool
 is_listed l visited seat = is_on l.queue seat || is_visited visited seat
 
-abbrev pub is_looking : Listing → ℕ → Bool
-is_looking l seat = is_on l.free seat
+abbrev pub is_trying : Listing → ℕ → Bool
+is_trying l seat = is_on l.free seat
 
 -- Both lists have the same seats.
 pub record AreSameLists (old new : Listing) : Type 0 where
@@ -104,7 +104,7 @@ IsNextOf None old new = AreSameLists old new
 IsNextOf (Some seat) old new = IsTaken seat old new
 
 -- Turns that know these seats at first: each of them acts, or checks for a client.
-pub record KnowsAll (seats many : ℕ) (listed looks : ℕ → Bool) : Type 0 where
+pub record KnowsAll (seats many : ℕ) (listed tries : ℕ → Bool) : Type 0 where
   pub all : seats ≤ many
-  pub apart : AreApart listed looks
-  pub each : (seat : ℕ) → seat < seats → (listed seat ≡ true) ⊎ (looks seat ≡ true)
+  pub apart : AreApart listed tries
+  pub each : (seat : ℕ) → seat < seats → (listed seat ≡ true) ⊎ (tries seat ≡ true)

@@ -14,6 +14,6 @@ pub record IsNewLoop {L C K : Type 0} (k : Core K) (config : Settings) (clock : 
   pub made : IsNewMailState config (state_of k parts.core)
   pub order : IsInOrder (state_of k parts.core)
   pub has_clock : parts.core.timed.time.clock ≡ clock
-  pub woken : parts.core.woken ≡ none_waits (length parts.core.mails.items)
+  pub woken : parts.core.wake_queue ≡ none_waits (length parts.core.mails.items)
   pub many : length parts.seats.items ≡ config.seats
   pub new_seats : All (IsNewSeat config.max_job_size) parts.seats.items

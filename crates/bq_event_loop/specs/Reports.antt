@@ -1,8 +1,8 @@
--- What a loop knows of doors and seats after a report of the system, and after a look at a door.
+-- What a loop knows of doors and seats after a report of the system, and after a door was tried.
 use Rattle.std.specs.Prelude.{ℕ, ◌≡◌, ◌≢◌, ◌<◌, ◌⊎◌, Bool, true, false, List, Option, None}
 use Rattle.bq_line.specs.declared.attendant.Attendant.{Attendant}
-use Rattle.bq_line.specs.declared.attendant.Looked.{Looked}
-use Rattle.bq_line.specs.declared.attendant.Looked.TheVariants as results
+use Rattle.bq_line.specs.declared.attendant.TryOpened.{TryOpened}
+use Rattle.bq_line.specs.declared.attendant.TryOpened.TheVariants as results
 use Rattle.bq_line.specs.declared.door.turned_away.TurnedAway.{TurnedAway}
 use Rattle.bq_line.specs.declared.door.turned_away.TurnedAway.TheVariants as closes
 use Rattle.bq_event_loop.specs.Accepting.{rests}
@@ -25,11 +25,11 @@ none_there d = record d { accepts = record d.accepts { may_have_come = false } }
 abbrev pub BeginsRest : Doors → Doors → Type 0
 BeginsRest old new = (new ≡ record old { accepts = record old.accepts { rest = new.accepts.rest } }) × (rests new.accepts.rest ≡ true)
 
--- The doors after a look at a door. Before it a connection may have come, or not.
-abbrev pub IsAfterLook : Looked → Bool → Doors → Doors → Type 0
-IsAfterLook results.NotYet true old new = new ≡ none_there old
-IsAfterLook results.Later may old new = BeginsRest old new
-IsAfterLook _ may old new = new ≡ old
+-- The doors after one was tried. Before it a connection may have come, or not.
+abbrev pub IsAfterTry : TryOpened → Bool → Doors → Doors → Type 0
+IsAfterTry results.NotYet true old new = new ≡ none_there old
+IsAfterTry results.Later may old new = BeginsRest old new
+IsAfterTry _ may old new = new ≡ old
 
 -- The doors after connections were closed because all seats are taken; this is the last result.
 abbrev pub AfterTurningAway : TurnedAway → Doors → Doors → Type 0
@@ -61,17 +61,17 @@ ChangesOnlyBy _ old new = new ≡ old
 
 -- The seat of a report acts, unless it checks for a client.
 abbrev pub IsToldOf : Report → ℕ → (ℕ → Bool) → (ℕ → Bool) → Type 0
-IsToldOf (reports.Line seat ready) many looks listed = seat < many → (looks seat ≡ true → ⊥) → listed seat ≡ true
-IsToldOf _ many looks listed = Unit {0}
+IsToldOf (reports.Line seat ready) many tries listed = seat < many → (tries seat ≡ true → ⊥) → listed seat ≡ true
+IsToldOf _ many tries listed = Unit {0}
 
 -- At most it became known that a connection may have come.
 abbrev pub MayHaveCome : Doors → Doors → Type 0
 MayHaveCome old new = (new ≡ old) ⊎ (new ≡ one_came old)
 
--- The doors after a turn. In a look that found a client nothing changed. What may have come before a
+-- The doors after a turn. If a door was tried and a client found, nothing changed. What may have come before a
 -- wait still may.
 abbrev pub IsAfterTurn : Turn → Option ℕ → Doors → Doors → Type 0
-IsAfterTurn (turns.Look seat) free old new = free ≡ None → new ≡ old
+IsAfterTurn (turns.TryOpen seat) free old new = free ≡ None → new ≡ old
 IsAfterTurn turns.TurnAway free old new = IsTurnedAway old new
 IsAfterTurn turns.Time free old new = old.accepts.may_have_come ≡ true → new.accepts.may_have_come ≡ true
 IsAfterTurn _ free old new = new ≡ old

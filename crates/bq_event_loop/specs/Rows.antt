@@ -4,7 +4,7 @@ use Rattle.bq_job.specs.declared.answer.Answer.{Answer}
 use Rattle.bq_job.specs.declared.step.Step.{Step}
 use Rattle.bq_line.specs.Tending.{AreSame, DoorSeen, IsTended, Tends, door_seen}
 use Rattle.bq_line.specs.declared.attendant.Attendant.{Attendant}
-use Rattle.bq_line.specs.declared.attendant.LinePlace.TheVariants.{Done}
+use Rattle.bq_line.specs.declared.attendant.SeatPhase.TheVariants.{Done}
 use Rattle.bq_event_loop.specs.Meanings.{Door, Line}
 use Rattle.bq_event_loop.specs.declared.row.Row.{Row}
 
@@ -45,4 +45,4 @@ KeepsRow {L} {D} l d old new = AreTended l d new × ((first : Row L D) → Rests
 
 -- Every seat is done.
 abbrev pub AreDone : {L : Type 0} → List (Attendant L) → Type 0
-AreDone {L} seats = (seat : ℕ) → seat < length seats → (a : Attendant L) → (slice_index_or seats seat a).place ≡ Done
+AreDone {L} seats = (seat : ℕ) → seat < length seats → (a : Attendant L) → (slice_index_or seats seat a).phase ≡ Done

@@ -8,14 +8,14 @@ use Rattle.bq_job.specs.promise.Runs.{Entry}
 use Rattle.bq_line.specs.GivenReadings.{GaveReadings}
 use Rattle.bq_line.specs.Tending.{AreSame, IsTended, door_seen, ended_lines}
 use Rattle.bq_line.specs.declared.attendant.Attendant.{Attendant}
-use Rattle.bq_host.specs.Hubs.{WentAt, state_of}
+use Rattle.bq_host.specs.Hubs.{HubTrace, state_of}
 use Rattle.bq_host.specs.MailStates.{IsInOrder, IsNewMailState, MailState, waiting}
 use Rattle.bq_host.specs.WakeLists.{Wakes}
 use Rattle.bq_line.specs.ControlTold.{HasTold, TellsOn}
 use Rattle.bq_event_loop.specs.Known.{ChangesOnly}
 use Rattle.bq_event_loop.specs.Meanings.{Clock, Control, Core, Door, Line}
 use Rattle.bq_line.specs.declared.control_steps.ControlSteps.{ControlSteps}
-use Rattle.bq_host.specs.Went.{CoreWent}
+use Rattle.bq_host.specs.Traces.{CoreTrace}
 use Rattle.bq_event_loop.specs.Rows.{AreTended}
 use Rattle.bq_event_loop.specs.SoFar.{Beginning}
 use Rattle.bq_host.specs.declared.hub.Hub.{Hub}
@@ -29,7 +29,7 @@ pub record AreServed {L D : Type 0} (l : Line L) (d : Door D L) (max_job_size : 
     (readings : List (Option ℕ)) (core : MailState) (seats : List (Attendant L)) (doors : List D) : Type 0 where
   pub history : List Entry
   pub took : ℕ → List Answer
-  pub went : CoreWent first readings history took core
+  pub trace : CoreTrace first readings history took core
   pub mailed : length first.mails ≡ length seats
   pub doored : length doors ≡ length seats
   pub each : (seat : ℕ) → seat < length seats → (a : Attendant L) (x : D)
@@ -62,19 +62,19 @@ pub record ServesOn {C K L D : Type 0} (k : Core K) (c : Clock C) (l : Line L) (
   pub same_doors : (doors : List D) → AreSame d.same doors row.doors.items → AreSame d.same doors later.doors.items
 
 -- The service went on, and its steps of the control line are those that the control line submitted.
-pub record LoopWent {C K L D I : Type 0} (k : Core K) (c : Clock C) (l : Line L) (d : Door D L) (i : Control I)
+pub record LoopTrace {C K L D I : Type 0} (k : Core K) (c : Clock C) (l : Line L) (d : Door D L) (i : Control I)
     (old : Hub C K) (row : Row L D) (control : ControlSteps I) (new : Hub C K) (later : Row L D) (next : ControlSteps I) : Type 0 where
   pub told : List Step
   pub tells : TellsOn i control told next
   pub serves : ServesOn k c l d old row told new later
 
 -- What the control line submitted at a hub, whose seats have the numbers before its own.
-pub record ControlWent {C K I : Type 0} (k : Core K) (c : Clock C) (i : Control I) (old : Hub C K)
+pub record ControlTrace {C K I : Type 0} (k : Core K) (c : Clock C) (i : Control I) (old : Hub C K)
     (control : ControlSteps I) (new : Hub C K) (next : ControlSteps I) : Type 0 where
   pub order : IsInOrder (state_of k new)
   pub told : List Step
   pub tells : TellsOn i control told next
-  pub went : WentAt k c (length old.mails.items) old told [] new
+  pub trace : HubTrace k c (length old.mails.items) old told [] new
 
 -- The core of a loop and its seats are ready for a turn. The core is in order. Each seat has done
 -- something for its door's connections, by the rules, and has its mail. The numbers of the seats
@@ -95,7 +95,7 @@ pub record SeatActed {C K L D : Type 0} (k : Core K) (c : Clock C) (l : Line L) 
   pub tended : AreTended l d later
   pub serves : ServesOn k c l d old row [] new later
   pub only : ChangesOnly seat row.seats.items later.seats.items
-  pub wakes : Wakes old.mails.items new.mails.items old.woken new.woken
+  pub wakes : Wakes old.mails.items new.mails.items old.wake_queue new.wake_queue
 
 -- What was served since the run began so, with a new core.
 pub record IsServing {L D C I K : Type 0} (k : Core K) (c : Clock C) (l : Line L) (d : Door D L) (i : Control I) (begun : Beginning D C)

@@ -24,8 +24,8 @@ use Rattle.bq_event_loop.specs.declared.turns.ControlStands.TheVariants as stand
 -- the seat of the visit that is under way, or the one that checks for a client
 abbrev pub visited_by : Part → Visit → Option ℕ
 visited_by (parts.Visit part) visit = Some visit.seat
-visited_by (parts.DoorLook seat) visit = Some seat
-visited_by (parts.VisitLook seat part) visit = Some seat
+visited_by (parts.DoorTry seat) visit = Some seat
+visited_by (parts.VisitTry seat part) visit = Some seat
 visited_by (parts.HandOn seat part) visit = Some seat
 visited_by _ visit = None
 
@@ -50,10 +50,10 @@ is_awaited watches.Over = true
 is_awaited (watches.Watched fd knowns.Waits) = true
 is_awaited watch = false
 
--- The core has sorted all answers into the mail of their seats, and a wait of at most this many
+-- All answers are in the mail of their seats, and a wait of at most this many
 -- milliseconds ends no later than what is due.
 pub record MayWait {C K : Type 0} (k : Core K) (most : Option ℕ) (core : Hub C K) : Type 0 where
-  pub sorted : (state_of k core).pending ≡ []
+  pub delivered : (state_of k core).pending ≡ []
   pub in_time : IsWithinDue most (next_due (k.machine core.timed.core)) core.timed.time.moment
 
 -- The same, or there is to be no wait at all.
@@ -63,17 +63,17 @@ IsWaitFor k most core = (most ≡ Some 0) ⊎ MayWait k most core
 -- Something is left to do before a wait: a seat acts, or checks for a client that may have come,
 -- connections are left to close, something is due now, or the control line owes a step or is read.
 abbrev pub HasWork : Bool → (ℕ → Bool) → (ℕ → Bool) → Bool → Option ℕ → ControlStands → Option ControlReads → Type 0
-HasWork may_come listed looks are_more_away due standing reads =
-    (AreIdle may_come listed looks → ⊥) ⊎ (are_more_away ≡ true) ⊎ (due ≡ Some 0) ⊎ (standing ≡ stands.Owes) ⊎ (reads ≡ None → ⊥)
+HasWork may_come listed tries are_more_away due standing reads =
+    (AreIdle may_come listed tries → ⊥) ⊎ (are_more_away ≡ true) ⊎ (due ≡ Some 0) ⊎ (standing ≡ stands.Owes) ⊎ (reads ≡ None → ⊥)
 
 -- What holds between two turns. No seat is forgotten, and each seat that has mail was woken for it.
 -- A wait of `due` milliseconds ends in time. The control line stands so.
 pub record IsAtTurn {L C I K : Type 0} (l : Line L) (k : Core K) (many : ℕ)
-    (listed looks : ℕ → Bool) (seats : List (Attendant L)) (mails : List (List Answer)) (due : Option ℕ) (standing : ControlStands)
+    (listed tries : ℕ → Bool) (seats : List (Attendant L)) (mails : List (List Answer)) (due : Option ℕ) (standing : ControlStands)
     (core : Hub C K) (control : ControlSteps I) : Type 0 where
-  pub known : AreKnown l many listed looks [] seats mails
+  pub known : AreKnown l many listed tries [] seats mails
   pub mails_are : mails ≡ core.mails.items
-  pub woken : core.woken.waiting ≡ []
+  pub woken : core.wake_queue.waiting ≡ []
   pub in_time : IsWaitFor k due core
   pub stands : standing ≡ stands_of control.owes_drain control.stage
 

@@ -11,22 +11,22 @@ use Rattle.bq_host.specs.Compared.{AreCompared}
 use Rattle.bq_line.specs.ControlSeen.{ControlSeen}
 use Rattle.bq_line.specs.Tending.{AreSame}
 use Rattle.bq_line.specs.declared.attendant.Attendant.{Attendant}
-use Rattle.bq_line.specs.declared.attendant.LinePlace.{LinePlace}
-use Rattle.bq_line.specs.declared.attendant.LinePlace.TheVariants as places
+use Rattle.bq_line.specs.declared.attendant.SeatPhase.{SeatPhase}
+use Rattle.bq_line.specs.declared.attendant.SeatPhase.TheVariants as phases
 use Rattle.bq_event_loop.specs.Meanings.{Clock, Control, Core, Door, Line}
 use Rattle.bq_event_loop.specs.declared.turns.Began.{Began}
 use Rattle.bq_event_loop.specs.declared.turns.SoFar.{SoFar}
 
 -- the connection that a seat serves
-abbrev pub line_out : {L : Type 0} → (L → LineSeen) → LinePlace L → Option LineSeen
-line_out seen (places.On line action sent) = Some (seen line)
+abbrev pub line_out : {L : Type 0} → (L → LineSeen) → SeatPhase L → Option LineSeen
+line_out seen (phases.On line action sent) = Some (seen line)
 line_out seen _ = None
 
 -- the connections of each seat and its door
 abbrev pub doors_so_far : {L D : Type 0} → (L → LineSeen) → (D → List LineOver) → (D → Bool) → List (Attendant L) → List D
     → List DoorSoFar
 doors_so_far seen over is_out (seat ∷ seats) (door ∷ doors) =
-    record { over = over door; out = line_out seen seat.place; is_out = is_out door } ∷ doors_so_far seen over is_out seats doors
+    record { over = over door; out = line_out seen seat.phase; is_out = is_out door } ∷ doors_so_far seen over is_out seats doors
 doors_so_far seen over is_out _ _ = []
 
 -- what a run began with: its settings, doors and clock, the bytes of its control line, if they are

@@ -2,8 +2,8 @@
 use Rattle.std.specs.Prelude.{◌≡◌, ◌⊎◌, ◌&&◌, Bool, false, List, []}
 use Rattle.bq_job.specs.declared.answer.Answer.{Answer}
 use Rattle.bq_line.specs.declared.attendant.Attendant.{Attendant}
-use Rattle.bq_line.specs.declared.attendant.LinePlace.{LinePlace}
-use Rattle.bq_line.specs.declared.attendant.LinePlace.TheVariants as places
+use Rattle.bq_line.specs.declared.attendant.SeatPhase.{SeatPhase}
+use Rattle.bq_line.specs.declared.attendant.SeatPhase.TheVariants as phases
 use Rattle.bq_event_loop.specs.Meanings.{Line}
 use Rattle.bq_seat.specs.Outstanding.{ReadsWith}
 use Rattle.bq_seat.specs.SeatParts.{would_read}
@@ -19,12 +19,12 @@ IsStillOn actions.PollMail machine gives takes mail = (mail ≡ []) × ((gives &
 IsStillOn (actions.Write answer) machine gives takes mail = takes ≡ false
 IsStillOn _ machine gives takes mail = ⊥
 
-abbrev pub IsStillAt : {L : Type 0} → Line L → SeatMachine → LinePlace L → List Answer → Type 0
-IsStillAt l machine (places.On line action sent) mail = IsStillOn action machine (l.may_give line) (l.may_take line) mail
-IsStillAt l machine places.Done mail = Unit {0}
+abbrev pub IsStillAt : {L : Type 0} → Line L → SeatMachine → SeatPhase L → List Answer → Type 0
+IsStillAt l machine (phases.On line action sent) mail = IsStillOn action machine (l.may_give line) (l.may_take line) mail
+IsStillAt l machine phases.Done mail = Unit {0}
 IsStillAt l machine _ mail = ⊥
 
 -- The next action of a seat would move nothing, and so would the one after it. A seat between two
 -- connections, or one that has to submit that no more connections come, is not still.
 abbrev pub IsStill : {L : Type 0} → Line L → Attendant L → List Answer → Type 0
-IsStill l a mail = IsStillAt l a.machine a.place mail
+IsStill l a mail = IsStillAt l a.machine a.phase mail

@@ -4,23 +4,23 @@ use Rattle.bq_line.specs.declared.attendant.Progress.{Progress}
 use Rattle.bq_line.specs.declared.attendant.Progress.TheVariants as results
 use Rattle.bq_event_loop.specs.declared.order.visits.Part.{Part}
 use Rattle.bq_event_loop.specs.declared.order.visits.Part.TheVariants as parts
-use Rattle.bq_event_loop.specs.declared.order.visits.Share.{Share}
-use Rattle.bq_event_loop.specs.declared.order.visits.Share.TheVariants as shares
+use Rattle.bq_event_loop.specs.declared.order.visits.VisitLimit.{VisitLimit}
+use Rattle.bq_event_loop.specs.declared.order.visits.VisitLimit.TheVariants as limits
 use Rattle.bq_event_loop.specs.declared.order.visits.Visit.{Visit}
-use Rattle.bq_event_loop.specs.declared.turns.Extent.{Extent}
-use Rattle.bq_event_loop.specs.declared.turns.Extent.TheVariants as extents
+use Rattle.bq_event_loop.specs.declared.turns.Task.{Task}
+use Rattle.bq_event_loop.specs.declared.turns.Task.TheVariants as tasks
 use Rattle.bq_event_loop.specs.declared.turns.Turn.{Turn}
 use Rattle.bq_event_loop.specs.declared.turns.Turn.TheVariants as turns
 
 -- how many actions a visit may do
-abbrev pub actions_of : Share → ℕ
-actions_of shares.Commands = 128
-actions_of shares.OneCommand = 2
-actions_of shares.OneAnswer = 128
+abbrev pub actions_of : VisitLimit → ℕ
+actions_of limits.Commands = 128
+actions_of limits.OneCommand = 2
+actions_of limits.OneAnswer = 128
 
 -- It begins no command.
-abbrev pub only_writes : Share → Bool
-only_writes shares.OneAnswer = true
+abbrev pub only_writes : VisitLimit → Bool
+only_writes limits.OneAnswer = true
 only_writes _ = false
 
 -- how many actions a turn counts as: a turn for a whole command counts as two
@@ -39,14 +39,14 @@ is_over_after took time was_over = was_over || not (nat_lt took time)
 
 -- a turn for a whole command in the last part of a round, and otherwise for one action; once no
 -- further command begins, for the rest of an answer
-abbrev pub extent_in : Bool → Part → Extent
-extent_in is_over parts.Reads = extents.Read
-extent_in is_over parts.Steps = extents.Step
-extent_in true parts.Answers = extents.Answer
-extent_in false parts.Answers = extents.Command
+abbrev pub task_in : Bool → Part → Task
+task_in is_over parts.Reads = tasks.Read
+task_in is_over parts.Steps = tasks.Step
+task_in true parts.Answers = tasks.Answer
+task_in false parts.Answers = tasks.Command
 
 abbrev pub turn_of : Visit → Turn
-turn_of v = turns.Serve v.seat (extent_in v.is_over v.part)
+turn_of v = turns.Serve v.seat (task_in v.is_over v.part)
 
 -- A step of this part took so long that it held up the seat after it.
 abbrev pub holds_up : Part → ℕ → Bool

@@ -1,13 +1,13 @@
 //! What a loop knows of connections that were not accepted yet.
 ghost use Rattle.std.specs.Prelude.{◌≡◌, true, false, Some};
 ghost use Rattle.bq_event_loop.specs.Accepting.{IsPassed, may_come, rests};
-ghost use Rattle.bq_event_loop.specs.Reports.{AfterTurningAway, IsAfterLook, IsTurnedAway, one_came};
+ghost use Rattle.bq_event_loop.specs.Reports.{AfterTurningAway, IsAfterTry, IsTurnedAway, one_came};
 ghost use Rattle.bq_event_loop.specs.Sleeping.{IsNoLonger};
 
 use crate::accepts::Accepts;
 use crate::row::Row;
 use crate::waits::longest_wait;
-use bq_line::attendant::Looked;
+use bq_line::attendant::TryOpened;
 use bq_line::line::Line;
 use bq_line::{Door, TurnedAway};
 use std::rt;
@@ -56,17 +56,17 @@ impl Doors {
     }
 
     /// Notes the result of a check for a connection, and whether one may have come before it.
-    pub(crate) fn note_looked<R: rt::Clock>(&mut self, rt: &R, may_have_come: bool, looked: Looked)
-        ensures { IsAfterLook looked may_have_come self.old self.new }
+    pub(crate) fn note_tried<R: rt::Clock>(&mut self, rt: &R, may_have_come: bool, tried: TryOpened)
+        ensures { IsAfterTry tried may_have_come self.old self.new }
     {
-        match looked {
-            Looked::Opened | Looked::NoMore => {}
-            Looked::NotYet => {
+        match tried {
+            TryOpened::Opened | TryOpened::NoMore => {}
+            TryOpened::NotYet => {
                 if may_have_come {
                     self.accepts.none_there();
                 }
             }
-            Looked::Later => self.accepts.rest(rt),
+            TryOpened::Later => self.accepts.rest(rt),
         }
     }
 

@@ -10,7 +10,7 @@ pub use row::Row;
 pub use run::{EventLoopRun, RunRefused, run_turns};
 pub use sleeper::{Report, Sleeper};
 pub use turns::{
-    Began, ControlReads, ControlStands, Extent, News, SoFar, Stands, Turn, Turns, TurnsFault,
+    Began, ControlReads, ControlStands, News, SoFar, Stands, Task, Turn, Turns, TurnsFault,
 };
 pub use watch::Watch;
 

@@ -8,7 +8,7 @@
 //! are woken during the last part are visited in the same round, unless a visit was cut short.
 ghost use Rattle.std.specs.Prelude.{◌≡◌, ◌⊎◌, ℕ, [], true, false, None, Some, IfOk, IfSome};
 ghost use Rattle.bq_event_loop.specs.Keeping.{Chooses, KeepsSeats};
-ghost use Rattle.bq_event_loop.specs.Known.{AreIdle, AreSameLists, IsListedIn, IsNextOf, KnowsAll, is_listed, is_looking};
+ghost use Rattle.bq_event_loop.specs.Known.{AreIdle, AreSameLists, IsListedIn, IsNextOf, KnowsAll, is_listed, is_trying};
 ghost use Rattle.bq_event_loop.specs.Listings.{enqueued};
 ghost use Rattle.bq_event_loop.specs.Sleeping.{visited_by};
 ghost use Rattle.bq_event_loop.specs.declared.order.Stage.TheVariants as stages;
@@ -22,7 +22,7 @@ use bq_line::control_line::ControlInput;
 use bq_line::line::Line;
 use pace::Pace;
 use std::alloc::Global;
-use visits::{Part, Pause, Share, Visit};
+use visits::{Part, Pause, Visit, VisitLimit};
 
 mod pace;
 mod visits;
@@ -33,7 +33,7 @@ enum Stage {
     Control,
     Doors,
     /// This free seat checks for a client. The next one checks after it.
-    DoorLook(usize),
+    DoorTry(usize),
     /// Connections are closed because all seats are taken.
     Away,
     /// The next visit begins.
@@ -41,7 +41,7 @@ enum Stage {
     /// A visit is under way.
     Visit(Part),
     /// The connection of this seat has ended during its visit, and it checks for the next one.
-    VisitLook(usize, Part),
+    VisitTry(usize, Part),
     /// The visit of this seat was cut short, and what its connection holds back is sent.
     HandOn(usize, Part),
 }
@@ -70,7 +70,7 @@ impl Order {
     pub fn new(alloc: Global, seats: u16) -> Result<Order, TurnsFault>
         // It knows each seat.
         ensures knows { IfOk result (λ order. KnowsAll seats order.queue.seats
-            (is_listed order.queue (visited_by order.stage order.visit)) (is_looking order.queue)) }
+            (is_listed order.queue (visited_by order.stage order.visit)) (is_trying order.queue)) }
     {
         let Ok(queue) = SeatQueue::new(alloc, usize::from(seats)) else {
             return Err(TurnsFault::NoMemory);
@@ -83,7 +83,7 @@ impl Order {
             fresh: 0,
             visited: 0,
             may_repeat: true,
-            visit: Visit::new(0, Part::Answers, Share::Commands),
+            visit: Visit::new(0, Part::Answers, VisitLimit::Commands),
         })
     }
 
@@ -93,16 +93,16 @@ impl Order {
     {
         match self.stage {
             Stage::Control => self.control_turn(news),
-            Stage::Doors => self.look_at_next(news.may_come),
-            Stage::DoorLook(seat) => {
-                self.note_looked(seat, news.free);
-                self.look_at_next(news.may_come)
+            Stage::Doors => self.try_next_free(news.may_come),
+            Stage::DoorTry(seat) => {
+                self.note_tried(seat, news.free);
+                self.try_next_free(news.may_come)
             }
             Stage::Away => self.begin_visits(),
             Stage::Visits(part) => self.begin_next(part),
             Stage::Visit(part) => self.go_on(part, news),
-            Stage::VisitLook(seat, part) => {
-                self.note_looked(seat, news.free);
+            Stage::VisitTry(seat, part) => {
+                self.note_tried(seat, news.free);
                 self.begin_next(part)
             }
             Stage::HandOn(seat, part) => {
@@ -122,13 +122,13 @@ impl Order {
                 self.stage = Stage::Doors;
                 Turn::Control(reads)
             }
-            None => self.look_at_next(news.may_come),
+            None => self.try_next_free(news.may_come),
         }
     }
 
     // Lets one free seat check for a connection, if one may have come. Otherwise the visits begin.
     #[inline(always)]
-    fn look_at_next(&mut self, may_come: bool) -> Turn
+    fn try_next_free(&mut self, may_come: bool) -> Turn
         ensures { Chooses None None self.old.queue None self.new result }
     {
         if !may_come {
@@ -138,13 +138,13 @@ impl Order {
             self.stage = Stage::Away;
             return Turn::TurnAway;
         };
-        self.stage = Stage::DoorLook(seat);
-        Turn::Look(seat)
+        self.stage = Stage::DoorTry(seat);
+        Turn::TryOpen(seat)
     }
 
     // Notes the result of a check for a connection: this seat was free, or another or none. A seat
     // without a connection checks again when a client may have connected.
-    fn note_looked(&mut self, seat: usize, free: Option<usize>)
+    fn note_tried(&mut self, seat: usize, free: Option<usize>)
         ensures { KeepsSeats None free self.old.queue (Some seat) self.new.queue None }
     {
         if is_this(free, seat) {
@@ -198,7 +198,7 @@ impl Order {
         let Some(seat) = self.next_seat(part) else {
             return self.end_part(part);
         };
-        self.visit = Visit::new(seat, part, self.share(part));
+        self.visit = Visit::new(seat, part, self.limit(part));
         self.visited = self.visited.saturating_add(1);
         self.stage = Stage::Visit(part);
         self.visit.turn()
@@ -223,19 +223,19 @@ impl Order {
 
     // Returns how much the next visit of this part may do. If a step of the round took long, each
     // seat whose step was taken in the part before receives its answer before any goes on.
-    fn share(&self, part: Part) -> Share {
+    fn limit(&self, part: Part) -> VisitLimit {
         let is_first = self.fresh > 1 && self.visited < self.fresh;
         match part {
             Part::Answers => {
                 if is_first && (self.pace.is_held_up() || self.pace.is_late()) {
-                    Share::OneAnswer
+                    VisitLimit::OneAnswer
                 } else if self.pace.is_late() {
-                    Share::OneCommand
+                    VisitLimit::OneCommand
                 } else {
-                    Share::Commands
+                    VisitLimit::Commands
                 }
             }
-            Part::Reads | Part::Steps => Share::Commands,
+            Part::Reads | Part::Steps => VisitLimit::Commands,
         }
     }
 
@@ -305,8 +305,8 @@ impl Order {
     {
         match pause {
             Pause::IsFree => {
-                self.stage = Stage::VisitLook(seat, part);
-                Some(Turn::Look(seat))
+                self.stage = Stage::VisitTry(seat, part);
+                Some(Turn::TryOpen(seat))
             }
             // Answers that are held back for further ones would wait for the visits of all others.
             Pause::GoesOn => {
@@ -348,7 +348,7 @@ impl Order {
         ensures some { result ≡ true → visited_by self.now.stage self.now.visit ≡ None → ⊥ }
     {
         match self.stage {
-            Stage::DoorLook(_) | Stage::Visit(_) | Stage::VisitLook(_, _) | Stage::HandOn(_, _) =>
+            Stage::DoorTry(_) | Stage::Visit(_) | Stage::VisitTry(_, _) | Stage::HandOn(_, _) =>
                 true,
             Stage::Control | Stage::Doors | Stage::Away | Stage::Visits(_) => false,
         }
@@ -358,9 +358,9 @@ impl Order {
     #[tactic(auto, using(crate::proofs::KnownLemmas::idle_visits, crate::proofs::KnownLemmas::idle_queue, crate::proofs::KnownLemmas::idle_free))]
     fn is_idle(&self, may_come: bool) -> bool
         ensures acts { result ≡ true → (seat : ℕ) → is_listed self.now.queue (visited_by self.now.stage self.now.visit) seat ≡ false }
-        ensures checks { result ≡ true → may_come ≡ true → (seat : ℕ) → is_looking self.now.queue seat ≡ false }
+        ensures checks { result ≡ true → may_come ≡ true → (seat : ℕ) → is_trying self.now.queue seat ≡ false }
         ensures busy { result ≡ false
-            → AreIdle may_come (is_listed self.now.queue (visited_by self.now.stage self.now.visit)) (is_looking self.now.queue) → ⊥ }
+            → AreIdle may_come (is_listed self.now.queue (visited_by self.now.stage self.now.visit)) (is_trying self.now.queue) → ⊥ }
     {
         if self.is_visiting() {
             return false;
@@ -380,7 +380,7 @@ impl Turns for Order {
 
     ghost listed = { λ order. is_listed order.queue (visited_by order.stage order.visit) };
 
-    ghost looks = { λ order. is_looking order.queue };
+    ghost tries = { λ order. is_trying order.queue };
 
     // An order may be used for any run.
     ghost is_of = { λ begun. Unit {0} };

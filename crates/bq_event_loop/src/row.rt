@@ -6,7 +6,7 @@ ghost use Rattle.bq_line.specs.Tending.{IsPlaced, Tends, door_seen};
 
 use crate::still::{is_still, rests, stands_of};
 use crate::turns::Stands;
-use bq_line::attendant::{Attendant, LinePlace, Looked};
+use bq_line::attendant::{Attendant, SeatPhase, TryOpened};
 use bq_line::line::{Line, ReadBuffer, Readiness};
 use bq_line::{Door, TurnedAway, Watcher};
 use std::alloc::Global;
@@ -35,7 +35,7 @@ impl<L: Line + Drop, D: Door<Line = L>> Row<L, D> {
     /// Returns what a seat does next, or `Done` if it does not exist.
     pub fn stands(&self, seat: usize) -> Stands
         ensures { (a : Attendant L) → seat < length self.now.seats.items
-            → (slice_index_or self.now.seats.items seat a).place ≡ LinePlace.Between → result ≡ Stands.Between }
+            → (slice_index_or self.now.seats.items seat a).phase ≡ SeatPhase.Between → result ≡ Stands.Between }
     {
         match self.seats.get(seat) {
             Some(seat) => stands_of(seat),
@@ -66,25 +66,25 @@ impl<L: Line + Drop, D: Door<Line = L>> Row<L, D> {
 
     /// Checks for the next connection at a door, without waiting for it, and has it watched.
     /// `may_have_come` is false if none can have come since the last check. A seat that has a
-    /// connection is left alone, and the result is `Looked::Opened`.
-    pub fn look<W: Watcher>(
+    /// connection is left alone, and the result is `TryOpened::Opened`.
+    pub fn try_open<W: Watcher>(
         &mut self,
         alloc: Global,
         seat: usize,
         may_have_come: bool,
         watcher: &W,
-    ) -> Looked
+    ) -> TryOpened
         requires tended { AreTended L.Line D.Door self.old }
         ensures keeps { KeepsRow L.Line D.Door self.old self.new }
         ensures only { ChangesOnly seat self.old.seats.items self.new.seats.items }
         // Without a connection the seat is still between two connections.
-        ensures none { (result ≡ Looked.NotYet) ⊎ (result ≡ Looked.Later) → (a : Attendant L)
-            → (slice_index_or self.new.seats.items seat a).place ≡ LinePlace.Between }
+        ensures none { (result ≡ TryOpened.NotYet) ⊎ (result ≡ TryOpened.Later) → (a : Attendant L)
+            → (slice_index_or self.new.seats.items seat a).phase ≡ SeatPhase.Between }
     {
         if seat >= self.seats.len() {
-            return Looked::Opened;
+            return TryOpened::Opened;
         }
-        look_at(
+        try_open_at(
             alloc,
             &mut self.seats[seat],
             &mut self.doors[seat],
@@ -98,8 +98,8 @@ impl<L: Line + Drop, D: Door<Line = L>> Row<L, D> {
         requires tended { AreTended L.Line D.Door self.old }
         ensures keeps { KeepsRow L.Line D.Door self.old self.new }
         ensures only { ChangesOnly seat self.old.seats.items self.new.seats.items }
-        ensures between { (a : Attendant L) → (slice_index_or self.old.seats.items seat a).place ≡ LinePlace.Between
-            → (slice_index_or self.new.seats.items seat a).place ≡ LinePlace.Between }
+        ensures between { (a : Attendant L) → (slice_index_or self.old.seats.items seat a).phase ≡ SeatPhase.Between
+            → (slice_index_or self.new.seats.items seat a).phase ≡ SeatPhase.Between }
     {
         if seat < self.seats.len() {
             self.seats[seat].note_ready(ready);
@@ -160,23 +160,23 @@ impl<L: Line + Drop, D: Door<Line = L>> Row<L, D> {
 }
 
 // Checks for the next connection at a door, unless its seat has a connection.
-fn look_at<L: Line + Drop, D: Door<Line = L>, W: Watcher>(
+fn try_open_at<L: Line + Drop, D: Door<Line = L>, W: Watcher>(
     alloc: Global,
     seat: &mut Attendant<L>,
     door: &mut D,
     may_have_come: bool,
     watcher: &W,
-) -> Looked
-    requires placed { IsPlaced seat.old.place (door_seen D.Door door.old) }
-    ensures went { let at = door_seen D.Door in
+) -> TryOpened
+    requires placed { IsPlaced seat.old.phase (door_seen D.Door door.old) }
+    ensures trace { let at = door_seen D.Door in
         Tends L.seen seat.old (at door.old) [] [] seat.new (at door.new) }
     ensures same { (first : D) → D.same first door.old → D.same first door.new }
-    ensures none { (result ≡ Looked.NotYet) ⊎ (result ≡ Looked.Later) → seat.new.place ≡ LinePlace.Between }
+    ensures none { (result ≡ TryOpened.NotYet) ⊎ (result ≡ TryOpened.Later) → seat.new.phase ≡ SeatPhase.Between }
 {
     if !seat.is_between() {
-        return Looked::Opened;
+        return TryOpened::Opened;
     }
-    seat.look(alloc, door, may_have_come, watcher)
+    seat.try_open(alloc, door, may_have_come, watcher)
 }
 
 // Swaps the read buffer of a seat's connection, or of its door between two connections, with this
@@ -186,7 +186,7 @@ fn exchange_at<L: Line + Drop, D: Door<Line = L>>(
     door: &mut D,
     buffer: &mut ReadBuffer,
 )
-    ensures went { let at = door_seen D.Door in
+    ensures trace { let at = door_seen D.Door in
         Tends L.seen seat.old (at door.old) [] [] seat.new (at door.new) }
     ensures same { (first : D) → D.same first door.old → D.same first door.new }
 {

@@ -25,7 +25,7 @@ use crate::serve::serve;
 use crate::sleeper::Sleeper;
 use crate::turns::{Began, Turns, TurnsFault};
 use bq_core_api::{Config, QueueCore};
-use bq_host::{Hub, RunFault, Woken, new_seats};
+use bq_host::{Hub, RunFault, WakeQueue, new_seats};
 use bq_job::{NoMemory, steps_keep_settings, the_headline};
 use bq_line::Door;
 use bq_line::attendant::Attendant;
@@ -121,7 +121,7 @@ pub fn run_turns<
     // The turns are for this run.
     requires of_run { T.is_of (beginning config doors.items clock (I.remaining control) (I.may_fail control)) }
     // They know each seat.
-    requires knows { IfOk turns (λ t. KnowsAll config.seats (T.seats t) (T.listed t) (T.looks t)) }
+    requires knows { IfOk turns (λ t. KnowsAll config.seats (T.seats t) (T.listed t) (T.tries t)) }
     // There is one history of the steps of all clients and of the control line, each at the moment
     // of a reading of the clock. The one-list model takes this history, the core represents the
     // model after it, and each connection received exactly the bytes that the history prescribes
@@ -272,16 +272,16 @@ fn new_hub<C: Clock + Drop, K: QueueCore + Drop>(
     ensures made { IfOk result (λ hub. IsNewMailState config (state_of K.QueueCore hub)) }
     ensures order { IfOk result (λ hub. IsInOrder (state_of K.QueueCore hub)) }
     ensures clock { IfOk result (λ hub. hub.timed.time.clock ≡ clock) }
-    ensures woken { IfOk result (λ hub. hub.woken ≡ none_waits (length hub.mails.items)) }
+    ensures woken { IfOk result (λ hub. hub.wake_queue ≡ none_waits (length hub.mails.items)) }
     ensures bad_configuration { IsErrOf result RunFault.BadConfiguration ↔ IsTrue
         (not (are_in_range config)) }
 {
     let mut hub: Hub<C, K> = Hub::new(alloc, config, clock)?;
-    let Ok(woken) = Woken::new(alloc, config.seats) else {
+    let Ok(woken) = WakeQueue::new(alloc, config.seats) else {
         drop(hub);
         return Err(RunFault::NoMemory);
     };
-    hub.woken = woken;
+    hub.wake_queue = woken;
     Ok(hub)
 }
 
@@ -321,7 +321,7 @@ fn run_at<
     requires new { IsNewLoop K.QueueCore config parts.core.timed.time.clock parts }
     requires doored { length doors.items ≡ config.seats }
     requires of_run { T.is_of (beginning config doors.items parts.core.timed.time.clock (I.remaining control) (I.may_fail control)) }
-    requires knows { KnowsAll config.seats (T.seats turns.old) (T.listed turns.old) (T.looks turns.old) }
+    requires knows { KnowsAll config.seats (T.seats turns.old) (T.listed turns.old) (T.tries turns.old) }
     requires new_doors { All
         (λ door. IsNewDoor (door_seen D.Door door)) doors.items }
     ensures served { result.is_over ≡ true →
@@ -374,7 +374,7 @@ fn serve_new<
     requires doored { length doors.items ≡ config.seats }
     requires unread { I.seen input ≡ new_control }
     requires of_run { T.is_of (beginning config doors.items parts.core.timed.time.clock (I.remaining input) (I.may_fail input)) }
-    requires knows { KnowsAll config.seats (T.seats turns.old) (T.listed turns.old) (T.looks turns.old) }
+    requires knows { KnowsAll config.seats (T.seats turns.old) (T.listed turns.old) (T.tries turns.old) }
     requires new_doors { All
         (λ door. IsNewDoor (door_seen D.Door door)) doors.items }
     ensures done { result.has_ended ≡ true → AreDone result.row.seats.items }
@@ -432,7 +432,7 @@ fn begin<
     requires doored { length doors.now.items ≡ config.seats }
     requires of_run { T.is_of
         (beginning config doors.now.items parts.now.core.timed.time.clock (I.remaining input.now) (I.may_fail input.now)) }
-    requires knows { KnowsAll config.seats (T.seats _turns.now) (T.listed _turns.now) (T.looks _turns.now) }
+    requires knows { KnowsAll config.seats (T.seats _turns.now) (T.listed _turns.now) (T.tries _turns.now) }
     requires new_doors { All
         (λ door. IsNewDoor (door_seen D.Door door)) doors.now.items }
     ensures began { began_with I.ControlInput result
@@ -440,7 +440,7 @@ fn begin<
     ensures of_run { T.is_of (began_with I.ControlInput result) }
     ensures ready { AreReady K.QueueCore L.Line D.Door parts.now.core (record { seats = parts.now.seats; doors = doors.now }) }
     ensures known { AreKnownBy L.Line T.Turns _turns.now [] parts.now.seats.items parts.now.core.mails.items }
-    ensures woken { parts.now.core.woken ≡ none_waits (length parts.now.core.mails.items) }
+    ensures woken { parts.now.core.wake_queue ≡ none_waits (length parts.now.core.mails.items) }
     ensures serving { (control : ControlSteps I)
         → HasTold I.ControlInput (I.remaining input.now) (I.may_fail input.now) control []
         → IsServing K.QueueCore C.Clock L.Line D.Door I.ControlInput (began_with I.ControlInput result) parts.now.core

@@ -3,9 +3,9 @@ ghost use Rattle.std.specs.Prelude.{◌≡◌, ◌⊎◌, ◌<◌, ◌≤◌, �
 ghost use Rattle.bq_host.specs.MailStates.{IsInOrder};
 ghost use Rattle.bq_event_loop.specs.Known.{ChangesOnly, ChangesOnlyIn, KeepsAll};
 ghost use Rattle.bq_event_loop.specs.KnownTurns.{AreKnownBy};
-ghost use Rattle.bq_host.specs.Hubs.{WentInOrder, state_of};
+ghost use Rattle.bq_host.specs.Hubs.{TraceInOrder, state_of};
 ghost use Rattle.bq_event_loop.specs.Rows.{AreDone, AreTended, KeepsRow};
-ghost use Rattle.bq_event_loop.specs.Serving.{AreReady, AreReadyFor, ControlWent, IsServing, LoopWent, SeatActed};
+ghost use Rattle.bq_event_loop.specs.Serving.{AreReady, AreReadyFor, ControlTrace, IsServing, LoopTrace, SeatActed};
 ghost use Rattle.bq_event_loop.specs.SoFar.{began_with};
 ghost use Rattle.bq_event_loop.specs.Sleeping.{IsWaitFor, stands_of};
 ghost use Rattle.bq_event_loop.specs.Still.{IsStill};
@@ -15,20 +15,20 @@ ghost use Rattle.bq_line.specs.Tending.{is_polling, polls_by};
 ghost use Rattle.bq_line.specs.declared.attendant.Attendant.{Attendant};
 ghost use Rattle.bq_seat.specs.SeatParts.{would_read};
 ghost use Rattle.bq_seat.specs.declared.machine.Action.{Action};
-ghost use Rattle.bq_line.specs.declared.attendant.LinePlace.TheVariants as places;
+ghost use Rattle.bq_line.specs.declared.attendant.SeatPhase.TheVariants as phases;
 
 use crate::doors::Doors;
 use crate::row::Row;
 use crate::sleeper::Sleeper;
 use crate::still::{has_no_mail, is_still, stands_of};
-use crate::turns::{Began, ControlReads, ControlStands, Extent, News, SoFar, Stands, Turn, Turns};
+use crate::turns::{Began, ControlReads, ControlStands, News, SoFar, Stands, Task, Turn, Turns};
 use crate::waiting::end_turn;
 use bq_core_api::QueueCore;
 use bq_host::hub_seat::attend;
 use bq_host::{Hub, Mail};
 use bq_job::Seat;
 use bq_line::Door;
-use bq_line::attendant::{Attendant, LinePlace, Progress};
+use bq_line::attendant::{Attendant, Progress, SeatPhase};
 use bq_line::buffers::Buffers;
 use bq_line::clock::Clock;
 use bq_line::control_line::ControlInput;
@@ -70,7 +70,7 @@ pub fn serve<
     requires serving { IsServing K.QueueCore C.Clock L.Line D.Door I.ControlInput
         (began_with I.ControlInput began.now) core.old row.old control.old }
     requires known { AreKnownBy L.Line T.Turns turns.old [] row.old.seats.items core.old.mails.items }
-    requires woken { core.old.woken ≡ none_waits (length core.old.mails.items) }
+    requires woken { core.old.wake_queue ≡ none_waits (length core.old.mails.items) }
     ensures done { result ≡ true → AreDone row.new.seats.items }
     ensures over { result ≡ true → control.new.stage ≡ stages.Over }
     ensures serving { IsServing K.QueueCore C.Clock L.Line D.Door I.ControlInput
@@ -161,19 +161,19 @@ fn take_turn<
     ensures over { result ≡ true → control.new.stage ≡ stages.Over }
     ensures order { IsInOrder (state_of K.QueueCore core.new) }
     ensures tended { AreTended L.Line D.Door row.new }
-    ensures served { LoopWent K.QueueCore C.Clock L.Line D.Door I.ControlInput core.old row.old control.old
+    ensures served { LoopTrace K.QueueCore C.Clock L.Line D.Door I.ControlInput core.old row.old control.old
         core.new row.new control.new }
     ensures only { ChangesOnlyIn turn row.old.seats.items row.new.seats.items }
-    ensures wakes { Wakes core.old.mails.items core.new.mails.items core.old.woken core.new.woken }
+    ensures wakes { Wakes core.old.mails.items core.new.mails.items core.old.wake_queue core.new.wake_queue }
     ensures due { result ≡ false → IsWaitFor K.QueueCore news.old.due core.old
         → IsWaitFor K.QueueCore news.new.due core.new }
     ensures stands { news.old.control ≡ stands_of control.old.owes_drain control.old.stage
         → news.new.control ≡ stands_of control.new.owes_drain control.new.stage }
 {
     match turn {
-        Turn::Nothing | Turn::Look(_) | Turn::HandOn(_) | Turn::TurnAway => false,
-        Turn::Serve(seat, extent) => {
-            news.progress = serve_seat(row, core, seat, buffers, buffer, extent);
+        Turn::Nothing | Turn::TryOpen(_) | Turn::HandOn(_) | Turn::TurnAway => false,
+        Turn::Serve(seat, task) => {
+            news.progress = serve_seat(row, core, seat, buffers, buffer, task);
             news.due = Some(0);
             false
         }
@@ -194,14 +194,14 @@ fn take_turn<
 }
 
 // Passes time. Returns how long the loop may wait, in milliseconds: not at all if an answer is left
-// to be sorted.
+// to be delivered.
 fn pass_time<C: Clock + Drop, K: QueueCore + Drop>(core: &mut Hub<C, K>) -> Option<u64>
     requires order { IsInOrder (state_of K.QueueCore core.old) }
-    ensures went { WentInOrder K.QueueCore C.Clock 0 core.old [] [] core.new }
+    ensures trace { TraceInOrder K.QueueCore C.Clock 0 core.old [] [] core.new }
     ensures due { IsWaitFor K.QueueCore result core.new }
 {
     let due = core.pass_time();
-    if core.is_sorted { due } else { Some(0) }
+    if core.all_delivered { due } else { Some(0) }
 }
 
 fn is_over<L: Line + Drop, D: Door<Line = L>, I: ControlInput>(
@@ -221,11 +221,11 @@ fn wake_all<T: Turns, L: Line + Drop, D: Door<Line = L>, C: Clock + Drop, K: Que
     row: &Row<L, D>,
     core: &mut Hub<C, K>,
 )
-    requires known { AreKnownBy L.Line T.Turns turns.old core.old.woken.waiting row.now.seats.items core.old.mails.items }
+    requires known { AreKnownBy L.Line T.Turns turns.old core.old.wake_queue.waiting row.now.seats.items core.old.mails.items }
     ensures known { AreKnownBy L.Line T.Turns turns.new [] row.now.seats.items core.new.mails.items }
     ensures keeps { KeepsAll (T.listed turns.old) (T.listed turns.new) }
-    ensures none { core.new.woken ≡ none_waits core.old.woken.seats }
-    ensures rest { core.new ≡ record core.old { woken = core.new.woken } }
+    ensures none { core.new.wake_queue ≡ none_waits core.old.wake_queue.seats }
+    ensures rest { core.new ≡ record core.old { wake_queue = core.new.wake_queue } }
 {
     while let Some(seat) = core.next_woken() {
         turns.wake(usize::from(seat));
@@ -241,62 +241,62 @@ fn serve_seat<L: Line + Drop, D: Door<Line = L>, C: Clock + Drop, K: QueueCore +
     seat: usize,
     buffers: &mut Buffers,
     buffer: &mut ReadBuffer,
-    extent: Extent,
+    task: Task,
 ) -> Progress
     requires ready { AreReady K.QueueCore L.Line D.Door core.old row.old }
     ensures acted { SeatActed K.QueueCore C.Clock L.Line D.Door seat core.old row.old core.new row.new }
-    ensures between { (a : Attendant L) → (slice_index_or row.old.seats.items seat a).place ≡ places.Between
+    ensures between { (a : Attendant L) → (slice_index_or row.old.seats.items seat a).phase ≡ phases.Between
         → (seat < length row.old.seats.items) → (row.new ≡ row.old) × (core.new ≡ core.old) }
 {
-    if !may_act(row, &core.mails, seat, extent) {
+    if !may_act(row, &core.mails, seat, task) {
         return Progress::NothingToDo;
     }
-    let progress = act_with_buffer(row, core, seat, buffers, buffer, extent);
+    let progress = act_with_buffer(row, core, seat, buffers, buffer, task);
     if !takes_next(&row.seats[seat]) {
-        let _all = core.sort(0);
+        let _all = core.deliver_all(0);
     }
     progress
 }
 
-// Returns true if this is a seat that acts in a turn of this extent. It is not between two
+// Returns true if this is a seat that acts on this task. It is not between two
 // connections then.
 fn may_act<L: Line + Drop, D: Door<Line = L>>(
     row: &Row<L, D>,
     mails: &Vec<Mail, Global>,
     seat: usize,
-    extent: Extent,
+    task: Task,
 ) -> bool
     ensures within { result ≡ true → seat < length row.now.seats.items }
-    ensures line { result ≡ true → (a : Attendant L) → (slice_index_or row.now.seats.items seat a).place ≡ places.Between → ⊥ }
+    ensures line { result ≡ true → (a : Attendant L) → (slice_index_or row.now.seats.items seat a).phase ≡ phases.Between → ⊥ }
     // Otherwise nothing moves at it, as far as a command goes.
-    ensures idle { result ≡ false → extent ≡ Extent.Command → seat < length row.now.seats.items → (a : Attendant L)
-        → ((slice_index_or row.now.seats.items seat a).place ≡ places.Between)
+    ensures idle { result ≡ false → task ≡ Task.Command → seat < length row.now.seats.items → (a : Attendant L)
+        → ((slice_index_or row.now.seats.items seat a).phase ≡ phases.Between)
         ⊎ IsStill L.Line (slice_index_or row.now.seats.items seat a) (slice_index_or mails.now.items seat []) }
 {
     match row.seats.get(seat) {
-        Some(at) => acts(at, extent, mails, seat),
+        Some(at) => acts(at, task, mails, seat),
         None => false,
     }
 }
 
-// Returns true if a seat acts in a turn of this extent. Mostly its connection has bytes, or it has a
+// Returns true if a seat acts on this task. Mostly its connection has bytes, or it has a
 // command already.
 #[inline(always)]
 fn acts<L: Line + Drop>(
     at: &Attendant<L>,
-    extent: Extent,
+    task: Task,
     mails: &Vec<Mail, Global>,
     seat: usize,
 ) -> bool
-    ensures line { result ≡ true → at.now.place ≡ places.Between → ⊥ }
-    ensures idle { result ≡ false → extent ≡ Extent.Command → (at.now.place ≡ places.Between)
+    ensures line { result ≡ true → at.now.phase ≡ phases.Between → ⊥ }
+    ensures idle { result ≡ false → task ≡ Task.Command → (at.now.phase ≡ phases.Between)
         ⊎ IsStill L.Line at.now (slice_index_or mails.now.items seat []) }
 {
-    if extent == Extent::Command && has_command(at) {
+    if task == Task::Command && has_command(at) {
         return true;
     }
     let stands = stands_of(at);
-    goes_with(extent, stands) && !waits_on(at, stands, mails, seat)
+    goes_with(task, stands) && !waits_on(at, stands, mails, seat)
 }
 
 // Returns true if a seat waits for an answer that has not come, and no bytes have come either.
@@ -315,13 +315,13 @@ fn waits_on<L: Line + Drop>(
 // One that checks for an answer is not counted.
 #[inline(always)]
 fn has_command<L: Line + Drop>(seat: &Attendant<L>) -> bool
-    ensures line { result ≡ true → seat.now.place ≡ places.Between → ⊥ }
-    ensures polls { result ≡ true → is_polling seat.now.place ≡ false }
-    ensures none { result ≡ false → (line : L) (action : Action) (sent : ℕ) → seat.now.place ≡ places.On line action sent
+    ensures line { result ≡ true → seat.now.phase ≡ phases.Between → ⊥ }
+    ensures polls { result ≡ true → is_polling seat.now.phase ≡ false }
+    ensures none { result ≡ false → (line : L) (action : Action) (sent : ℕ) → seat.now.phase ≡ phases.On line action sent
         → (action ≡ Action.PollMail) ⊎ (L.may_give line ≡ false) }
 {
-    match &seat.place {
-        LinePlace::On(line, action, _) => has_command_on(line, action),
+    match &seat.phase {
+        SeatPhase::On(line, action, _) => has_command_on(line, action),
         _ => false,
     }
 }
@@ -339,19 +339,19 @@ fn has_command_on<L: Line>(line: &L, action: &NextAction) -> bool
     }
 }
 
-// Returns true if a seat that stands so acts in a turn of this extent.
-fn goes_with(extent: Extent, stands: Stands) -> bool
+// Returns true if a seat that stands so acts on this task.
+fn goes_with(task: Task, stands: Stands) -> bool
     ensures line { result ≡ true → stands ≡ Stands.Between → ⊥ }
-    ensures command { result ≡ false → extent ≡ Extent.Command
+    ensures command { result ≡ false → task ≡ Task.Command
         → (stands ≡ Stands.Between) ⊎ (stands ≡ Stands.Done) ⊎ (stands ≡ Stands.Awaits) }
 {
     match stands {
         Stands::Between => false,
-        Stands::Done | Stands::Awaits => matches!(extent, Extent::Action),
-        Stands::Reads => matches!(extent, Extent::Action | Extent::Read | Extent::Command),
-        Stands::Submits => matches!(extent, Extent::Action | Extent::Step | Extent::Command),
-        Stands::Writes => matches!(extent, Extent::Action | Extent::Command | Extent::Answer),
-        Stands::ReadsOn | Stands::Waits | Stands::Other => !matches!(extent, Extent::Answer),
+        Stands::Done | Stands::Awaits => matches!(task, Task::Action),
+        Stands::Reads => matches!(task, Task::Action | Task::Read | Task::Command),
+        Stands::Submits => matches!(task, Task::Action | Task::Step | Task::Command),
+        Stands::Writes => matches!(task, Task::Action | Task::Command | Task::Answer),
+        Stands::ReadsOn | Stands::Waits | Stands::Other => !matches!(task, Task::Answer),
     }
 }
 
@@ -364,14 +364,14 @@ fn act_with_buffer<L: Line + Drop, D: Door<Line = L>, C: Clock + Drop, K: QueueC
     seat: usize,
     buffers: &mut Buffers,
     buffer: &mut ReadBuffer,
-    extent: Extent,
+    task: Task,
 ) -> Progress
     requires ready { AreReadyFor K.QueueCore L.Line D.Door seat core.old row.old }
     ensures { SeatActed K.QueueCore C.Clock L.Line D.Door seat core.old row.old core.new row.new }
 {
     let lends = uses_buffer(row, seat);
     exchange_if(lends, row, seat, buffer);
-    let progress = act_to_extent(row, core, seat, buffers, extent);
+    let progress = act_on_task(row, core, seat, buffers, task);
     exchange_if(lends, row, seat, buffer);
     progress
 }
@@ -382,8 +382,8 @@ fn uses_buffer<L: Line + Drop, D: Door<Line = L>>(row: &Row<L, D>, seat: usize) 
     let Some(seat) = row.seats.get(seat) else {
         return false;
     };
-    match &seat.place {
-        LinePlace::On(line, _, _) => line.has_unread() || seat.machine.missing() > PIECE_ROOM,
+    match &seat.phase {
+        SeatPhase::On(line, _, _) => line.has_unread() || seat.machine.missing() > PIECE_ROOM,
         _ => false,
     }
 }
@@ -406,12 +406,12 @@ fn exchange_if<L: Line + Drop, D: Door<Line = L>>(
 
 // Does as much of a seat as the turn says. A command is one turn, since a turn costs as much as a
 // small action.
-fn act_to_extent<L: Line + Drop, D: Door<Line = L>, C: Clock + Drop, K: QueueCore + Drop>(
+fn act_on_task<L: Line + Drop, D: Door<Line = L>, C: Clock + Drop, K: QueueCore + Drop>(
     row: &mut Row<L, D>,
     core: &mut Hub<C, K>,
     seat: usize,
     buffers: &mut Buffers,
-    extent: Extent,
+    task: Task,
 ) -> Progress
     requires ready { AreReadyFor K.QueueCore L.Line D.Door seat core.old row.old }
     ensures { SeatActed K.QueueCore C.Clock L.Line D.Door seat core.old row.old core.new row.new }
@@ -419,7 +419,7 @@ fn act_to_extent<L: Line + Drop, D: Door<Line = L>, C: Clock + Drop, K: QueueCor
     let mut progress = Progress::NothingToDo;
     for done in 0..MOST_ACTIONS {
         progress = act(row, core, seat, buffers);
-        if !goes_on(row, seat, extent, done, progress) {
+        if !goes_on(row, seat, task, done, progress) {
             return progress;
         }
     }
@@ -432,7 +432,7 @@ fn act_to_extent<L: Line + Drop, D: Door<Line = L>, C: Clock + Drop, K: QueueCor
 fn goes_on<L: Line + Drop, D: Door<Line = L>>(
     row: &Row<L, D>,
     seat: usize,
-    extent: Extent,
+    task: Task,
     done: u32,
     progress: Progress,
 ) -> bool
@@ -442,17 +442,17 @@ fn goes_on<L: Line + Drop, D: Door<Line = L>>(
         return false;
     }
     let seat = &row.seats[seat];
-    takes_next(seat) || extent == Extent::Command && (seat.writes() || done == 0 && seat.submits())
+    takes_next(seat) || task == Task::Command && (seat.writes() || done == 0 && seat.submits())
 }
 
 // Returns true if a seat takes an answer next. That to a `reserve` that waits was looked for when its
 // step was submitted, so that it comes later.
 #[inline(always)]
 fn takes_next<L: Line + Drop>(seat: &Attendant<L>) -> bool
-    ensures { result ≡ (is_polling seat.now.place && not (would_read seat.now.machine)) }
+    ensures { result ≡ (is_polling seat.now.phase && not (would_read seat.now.machine)) }
 {
-    match &seat.place {
-        LinePlace::On(_, action, _) => takes_on(action, &seat.machine),
+    match &seat.phase {
+        SeatPhase::On(_, action, _) => takes_on(action, &seat.machine),
         _ => false,
     }
 }
@@ -495,7 +495,7 @@ fn serve_control<C: Clock + Drop, I: ControlInput, K: QueueCore + Drop>(
 )
     requires order { IsInOrder (state_of K.QueueCore core.old) }
     requires few { length core.old.mails.items ≤ 65535 }
-    ensures { ControlWent K.QueueCore C.Clock I.ControlInput core.old control.old core.new control.new }
+    ensures { ControlTrace K.QueueCore C.Clock I.ControlInput core.old control.old core.new control.new }
 {
     let mut may_wait = reads != ControlReads::Buffered;
     for _ in 0..u64::MAX {
@@ -524,7 +524,7 @@ fn submit_owed<C: Clock + Drop, I: ControlInput, K: QueueCore + Drop>(
 ) -> bool
     requires order { IsInOrder (state_of K.QueueCore core.old) }
     requires few { length core.old.mails.items ≤ 65535 }
-    ensures { ControlWent K.QueueCore C.Clock I.ControlInput core.old control.old core.new control.new }
+    ensures { ControlTrace K.QueueCore C.Clock I.ControlInput core.old control.old core.new control.new }
 {
     if !submit_one(control, core) {
         return false;
@@ -540,7 +540,7 @@ fn submit_one<C: Clock + Drop, I: ControlInput, K: QueueCore + Drop>(
 ) -> bool
     requires order { IsInOrder (state_of K.QueueCore core.old) }
     requires few { length core.old.mails.items ≤ 65535 }
-    ensures { ControlWent K.QueueCore C.Clock I.ControlInput core.old control.old core.new control.new }
+    ensures { ControlTrace K.QueueCore C.Clock I.ControlInput core.old control.old core.new control.new }
 {
     let Some(step) = control.owed() else {
         return true;

@@ -79,7 +79,7 @@ pub trait Sleeper {
         requires unvisited { (seat : ℕ) → T.listed turns.now seat ≡ false }
         requires away { doors.now.are_more_away ≡ false }
         // No seat has mail for which it was not woken.
-        requires woken { so_far.now.whole_core.value.woken.waiting ≡ [] }
+        requires woken { so_far.now.whole_core.value.wake_queue.waiting ≡ [] }
         // All answers are in the mail of their seats, and the next due moment is not missed.
         requires due { MayWait K.QueueCore due so_far.now.whole_core.value }
         requires limit { IsNoLonger most due }
@@ -101,7 +101,7 @@ pub trait Sleeper {
     )
         // A seat acts, or checks for a client that may have come, connections are left to be
         // closed, something is due now, or the control line owes a step or is read.
-        requires work { HasWork (may_come doors.now.accepts) (T.listed turns.now) (T.looks turns.now) doors.now.are_more_away
+        requires work { HasWork (may_come doors.now.accepts) (T.listed turns.now) (T.tries turns.now) doors.now.are_more_away
             due stands reads };
 
     /// Returns how many reports the last wait or question gave.

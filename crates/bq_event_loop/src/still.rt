@@ -9,7 +9,7 @@ ghost use Rattle.bq_event_loop.specs.Still.{IsStill, IsStillOn};
 
 use crate::turns::Stands;
 use bq_host::Mail;
-use bq_line::attendant::{Attendant, LinePlace};
+use bq_line::attendant::{Attendant, SeatPhase};
 use bq_line::line::Line;
 use bq_seat::{Does, NextAction, SeatMachine};
 use std::alloc::Global;
@@ -19,10 +19,10 @@ use std::alloc::Global;
 pub fn is_still<L: Line + Drop>(seat: &Attendant<L>, has_none: bool) -> bool
     ensures { result ≡ true → (mail : List Answer) → (has_none ≡ true → mail ≡ []) → IsStill L.Line seat.now mail }
 {
-    match &seat.place {
-        LinePlace::On(line, action, _) => is_still_on(action, &seat.machine, line, has_none),
-        LinePlace::Done => true,
-        LinePlace::Between | LinePlace::Leaving => false,
+    match &seat.phase {
+        SeatPhase::On(line, action, _) => is_still_on(action, &seat.machine, line, has_none),
+        SeatPhase::Done => true,
+        SeatPhase::Between | SeatPhase::Leaving => false,
     }
 }
 
@@ -77,15 +77,15 @@ pub fn has_no_mail(mails: &Vec<Mail, Global>, seat: usize) -> bool
 
 /// Returns what a seat does next.
 pub fn stands_of<L: Line + Drop>(seat: &Attendant<L>) -> Stands
-    ensures between { (result ≡ Stands.Between) ↔ (seat.now.place ≡ LinePlace.Between) }
-    ensures done { (result ≡ Stands.Done) ↔ (seat.now.place ≡ LinePlace.Done) }
+    ensures between { (result ≡ Stands.Between) ↔ (seat.now.phase ≡ SeatPhase.Between) }
+    ensures done { (result ≡ Stands.Done) ↔ (seat.now.phase ≡ SeatPhase.Done) }
     ensures still { (result ≡ Stands.Done) ⊎ (result ≡ Stands.Awaits) → (mail : List Answer) → IsStill L.Line seat.now mail }
 {
-    match &seat.place {
-        LinePlace::On(line, action, _) => stands_on(line, action, &seat.machine),
-        LinePlace::Between => Stands::Between,
-        LinePlace::Leaving => Stands::Submits,
-        LinePlace::Done => Stands::Done,
+    match &seat.phase {
+        SeatPhase::On(line, action, _) => stands_on(line, action, &seat.machine),
+        SeatPhase::Between => Stands::Between,
+        SeatPhase::Leaving => Stands::Submits,
+        SeatPhase::Done => Stands::Done,
     }
 }
 
@@ -135,11 +135,11 @@ fn read_stands<L: Line>(line: &L, machine: &SeatMachine) -> Stands
 /// then sends what it holds back.
 #[inline(always)]
 pub fn rests<L: Line + Drop>(seat: &mut Attendant<L>) -> bool
-    ensures went { (door : DoorSeen) → Tends L.seen seat.old door [] [] seat.new door }
+    ensures trace { (door : DoorSeen) → Tends L.seen seat.old door [] [] seat.new door }
     ensures still { result ≡ true → (mail : List Answer) → IsStill L.Line seat.new mail }
 {
-    match &mut seat.place {
-        LinePlace::On(line, next, _) => rests_on(&seat.machine, next, line),
+    match &mut seat.phase {
+        SeatPhase::On(line, next, _) => rests_on(&seat.machine, next, line),
         _ => false,
     }
 }

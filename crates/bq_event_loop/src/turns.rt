@@ -21,25 +21,25 @@ pub enum Turn {
     /// Nothing is done.
     Nothing,
     /// This seat acts. If the seat does not exist or is between two connections, nothing is done.
-    Serve(usize, Extent),
+    Serve(usize, Task),
     /// This seat checks for its next connection at its door, without waiting, unless it has one.
-    Look(usize),
+    TryOpen(usize),
     /// Sends what the connection of this seat holds back in the expectation of more answers.
     HandOn(usize),
     /// Connections that wait although all seats are taken are closed, if the doors do so.
     TurnAway,
     /// The control line is read.
     Control(ControlReads),
-    /// The core takes a tick if something is due, and all answers are sorted into the mail of their
+    /// The core takes a tick if something is due, and all answers are delivered to the mail of their
     /// seats. The run ends here if all seats are done and the control line has ended. Otherwise the
     /// loop takes what the system has to report. It sleeps until there is something if nothing can
     /// move.
     Time,
 }
 
-/// How much a seat does in a turn.
+/// What a seat does in a turn.
 #[derive(Clone, Copy, PartialEq, Eq)]
-pub enum Extent {
+pub enum Task {
     /// One action. If it submits a step, the seat then checks for the answer too.
     Action,
     /// The same, up to a step: nothing if the seat submits or writes next, or no bytes have come.
@@ -201,7 +201,7 @@ pub trait Turns {
     ghost listed: { Self → ℕ → Bool };
 
     /// The seats that they let check for a client before they sleep, if one may have come.
-    ghost looks: { Self → ℕ → Bool };
+    ghost tries: { Self → ℕ → Bool };
 
     /// What is known of the run that these turns are for, by what it began with.
     ghost is_of: { {B : Type 0} → B → Type 0 };
@@ -222,7 +222,7 @@ pub trait Turns {
         requires so_far { IsLoopAtTurn C.Clock L.Line D.Door I.ControlInput K.QueueCore began.now so_far }
         // No seat is forgotten: it acts, or it checks for a client, or nothing moves at it. Each
         // seat that has mail was woken for it. A wait of `news.due` ends in time.
-        requires turn { IsAtTurn L.Line K.QueueCore (seats self.old) (listed self.old) (looks self.old)
+        requires turn { IsAtTurn L.Line K.QueueCore (seats self.old) (listed self.old) (tries self.old)
             so_far.seats.value.items so_far.mails.value.items news.now.due news.now.control
             so_far.whole_core.value so_far.whole_control.value }
         // The seat that checked for a client and found none is between two connections.
@@ -230,7 +230,7 @@ pub trait Turns {
         // Nothing moves at the still seat.
         requires still { IsStillSeat L.Line news.now.still so_far.seats.value.items so_far.mails.value.items }
         ensures seats { seats self.new ≡ seats self.old }
-        ensures known { AreKnown L.Line (seats self.new) (listed self.new) (looks self.new) []
+        ensures known { AreKnown L.Line (seats self.new) (listed self.new) (tries self.new) []
             so_far.seats.value.items so_far.mails.value.items }
         // Only a seat that is let act does.
         ensures acts { IsListedIn (listed self.new) result };
@@ -239,10 +239,10 @@ pub trait Turns {
     /// seat can act. It is let act then, unless it checks for a client.
     fn wake(&mut self, seat: usize)
         ensures seats { seats self.new ≡ seats self.old }
-        ensures woken { seat < seats self.old → (looks self.old seat ≡ true → ⊥) → listed self.new seat ≡ true }
+        ensures woken { seat < seats self.old → (tries self.old seat ≡ true → ⊥) → listed self.new seat ≡ true }
         ensures keeps { KeepsAll (listed self.old) (listed self.new) }
-        ensures looking { (other : ℕ) → looks self.new other ≡ looks self.old other }
-        ensures apart { AreApart (listed self.old) (looks self.old) → AreApart (listed self.new) (looks self.new) };
+        ensures trying { (other : ℕ) → tries self.new other ≡ tries self.old other }
+        ensures apart { AreApart (listed self.old) (tries self.old) → AreApart (listed self.new) (tries self.new) };
 
     /// Returns true if the loop may sleep: no seat acts before it does, and none checks for a
     /// client that may have come. If it returns false, one does. The loop waits next, or asks the
@@ -250,8 +250,8 @@ pub trait Turns {
     fn may_sleep(&mut self, may_come: bool) -> bool
         ensures seats { seats self.new ≡ seats self.old }
         ensures listed { (seat : ℕ) → listed self.new seat ≡ listed self.old seat }
-        ensures looks { (seat : ℕ) → looks self.new seat ≡ looks self.old seat }
+        ensures tries { (seat : ℕ) → tries self.new seat ≡ tries self.old seat }
         ensures acts { result ≡ true → (seat : ℕ) → listed self.old seat ≡ false }
-        ensures checks { result ≡ true → may_come ≡ true → (seat : ℕ) → looks self.old seat ≡ false }
-        ensures busy { result ≡ false → AreIdle may_come (listed self.new) (looks self.new) → ⊥ };
+        ensures checks { result ≡ true → may_come ≡ true → (seat : ℕ) → tries self.old seat ≡ false }
+        ensures busy { result ≡ false → AreIdle may_come (listed self.new) (tries self.new) → ⊥ };
 }

@@ -1,4 +1,4 @@
-//! What a loop does after a turn: it looks at doors, and it waits for the system.
+//! What a loop does after a turn: it tries doors, and it waits for the system.
 ghost use Rattle.std.specs.Prelude.{◌≡◌, ◌⊎◌, ℕ, [], true, false, None, Some};
 ghost use Rattle.bq_event_loop.specs.Accepting.{may_come};
 ghost use Rattle.bq_event_loop.specs.Known.{ChangesOnly, IsFreeSeat, IsListedIn, IsStillSeat, KeepsAll};
@@ -14,7 +14,7 @@ use crate::still::has_no_mail;
 use crate::turns::{ControlReads, ControlStands, News, SoFar, Stands, Turn, Turns};
 use bq_core_api::QueueCore;
 use bq_host::Mail;
-use bq_line::attendant::{Looked, Progress};
+use bq_line::attendant::{Progress, TryOpened};
 use bq_line::clock::Clock;
 use bq_line::control_line::ControlInput;
 use bq_line::line::Line;
@@ -76,7 +76,7 @@ pub fn end_turn<
     match turn {
         Turn::Serve(seat, _) => note_seat(row, mails, seat, news),
         Turn::HandOn(seat) => row.hand_on(seat),
-        Turn::Look(seat) => look(sleeper, doors, alloc, row, seat, news),
+        Turn::TryOpen(seat) => try_open(sleeper, doors, alloc, row, seat, news),
         Turn::TurnAway => {
             doors.turn_away(sleeper.system(), row);
             news.may_come = doors.may_come();
@@ -177,7 +177,7 @@ fn still_seat<L: Line + Drop, D: Door<Line = L>>(
 }
 
 // Lets a seat check for its next connection, which is watched from then on.
-fn look<W: Sleeper, L: Line + Drop, D: Door<Line = L>>(
+fn try_open<W: Sleeper, L: Line + Drop, D: Door<Line = L>>(
     sleeper: &W,
     doors: &mut Doors,
     alloc: Global,
@@ -196,28 +196,28 @@ fn look<W: Sleeper, L: Line + Drop, D: Door<Line = L>>(
 {
     let may_have_come = doors.may_come();
     let watcher = LineWatcher { sleeper, seat };
-    let looked = row.look(alloc, seat, may_have_come, &watcher);
-    doors.note_looked(sleeper.system(), may_have_come, looked);
+    let tried = row.try_open(alloc, seat, may_have_come, &watcher);
+    doors.note_tried(sleeper.system(), may_have_come, tried);
     news.may_come = doors.may_come();
-    news.free = free_after(looked, seat);
-    news.progress = progress_of(looked);
+    news.free = free_after(tried, seat);
+    news.progress = progress_of(tried);
 }
 
 // Returns the seat if it found no client and checks again when one may have come.
-fn free_after(looked: Looked, seat: usize) -> Option<usize>
-    ensures some { (free : ℕ) → result ≡ Some free → (free ≡ seat) × ((looked ≡ Looked.NotYet) ⊎ (looked ≡ Looked.Later)) }
-    ensures none { result ≡ None → (looked ≡ Looked.Opened) ⊎ (looked ≡ Looked.NoMore) }
+fn free_after(tried: TryOpened, seat: usize) -> Option<usize>
+    ensures some { (free : ℕ) → result ≡ Some free → (free ≡ seat) × ((tried ≡ TryOpened.NotYet) ⊎ (tried ≡ TryOpened.Later)) }
+    ensures none { result ≡ None → (tried ≡ TryOpened.Opened) ⊎ (tried ≡ TryOpened.NoMore) }
 {
-    match looked {
-        Looked::Opened | Looked::NoMore => None,
-        Looked::NotYet | Looked::Later => Some(seat),
+    match tried {
+        TryOpened::Opened | TryOpened::NoMore => None,
+        TryOpened::NotYet | TryOpened::Later => Some(seat),
     }
 }
 
-fn progress_of(looked: Looked) -> Progress {
-    match looked {
-        Looked::Opened | Looked::NoMore => Progress::Moved,
-        Looked::NotYet | Looked::Later => Progress::NothingToDo,
+fn progress_of(tried: TryOpened) -> Progress {
+    match tried {
+        TryOpened::Opened | TryOpened::NoMore => Progress::Moved,
+        TryOpened::NotYet | TryOpened::Later => Progress::NothingToDo,
     }
 }
 
@@ -291,14 +291,14 @@ fn sleep_or_ask<
 fn is_busy<T: Turns>(turns: &mut T, doors: &Doors, news: &News, reads: Option<ControlReads>) -> bool
     ensures seats { T.seats turns.new ≡ T.seats turns.old }
     ensures listed { (seat : ℕ) → T.listed turns.new seat ≡ T.listed turns.old seat }
-    ensures looks { (seat : ℕ) → T.looks turns.new seat ≡ T.looks turns.old seat }
+    ensures tries { (seat : ℕ) → T.tries turns.new seat ≡ T.tries turns.old seat }
     ensures acts { result ≡ false → (seat : ℕ) → T.listed turns.new seat ≡ false }
-    ensures checks { result ≡ false → may_come doors.now.accepts ≡ true → (seat : ℕ) → T.looks turns.new seat ≡ false }
+    ensures checks { result ≡ false → may_come doors.now.accepts ≡ true → (seat : ℕ) → T.tries turns.new seat ≡ false }
     ensures away { result ≡ false → doors.now.are_more_away ≡ false }
     ensures due { result ≡ false → news.now.due ≡ Some 0 → ⊥ }
     ensures owes { result ≡ false → news.now.control ≡ ControlStands.Owes → ⊥ }
     ensures control { result ≡ false → reads ≡ None }
-    ensures busy { result ≡ true → HasWork (may_come doors.now.accepts) (T.listed turns.new) (T.looks turns.new)
+    ensures busy { result ≡ true → HasWork (may_come doors.now.accepts) (T.listed turns.new) (T.tries turns.new)
         doors.now.are_more_away news.now.due news.now.control reads }
 {
     if !turns.may_sleep(doors.may_come()) {
@@ -349,7 +349,7 @@ fn note_report<T: Turns, L: Line + Drop, D: Door<Line = L>>(
     requires known { AreKnownBy L.Line T.Turns turns.old [] row.old.seats.items mails.now.items }
     ensures keeps { KeepsRow L.Line D.Door row.old row.new }
     ensures known { AreKnownBy L.Line T.Turns turns.new [] row.new.seats.items mails.now.items }
-    ensures woken { IsToldOf report (T.seats turns.old) (T.looks turns.old) (T.listed turns.new) }
+    ensures woken { IsToldOf report (T.seats turns.old) (T.tries turns.old) (T.listed turns.new) }
     ensures listed { KeepsAll (T.listed turns.old) (T.listed turns.new) }
     ensures only { ChangesOnlyBy report row.old.seats.items row.new.seats.items }
     ensures doors { doors.new ≡ doors_after report doors.old }

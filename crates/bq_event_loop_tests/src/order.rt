@@ -3,7 +3,7 @@ ghost use Rattle.std.specs.Prelude.{true, false};
 
 use crate::together::Together;
 use bq_core_api::QueueCore;
-use bq_event_loop::{Began, ControlReads, Extent, News, SoFar, Stands, Turn, Turns};
+use bq_event_loop::{Began, ControlReads, News, SoFar, Stands, Task, Turn, Turns};
 use bq_line::Door;
 use bq_line::clock::Clock;
 use bq_line::control_line::ControlInput;
@@ -55,18 +55,18 @@ struct Stood {
 
 impl Stood {
     // Notes what is known after a turn of the seat, and whether that moved something.
-    fn note(&mut self, moved: bool, looked: bool, news: &News) {
+    fn note(&mut self, moved: bool, tried: bool, news: &News) {
         self.unmoved = if moved {
             0
         } else {
             self.unmoved.saturating_add(1)
         };
-        self.is_between = if looked {
+        self.is_between = if tried {
             news.free.is_some()
         } else {
             matches!(news.stands, Stands::Between)
         };
-        self.tries_again = !looked && news.still.is_none() && news.stands != Stands::Submits;
+        self.tries_again = !tried && news.still.is_none() && news.stands != Stands::Submits;
     }
 }
 
@@ -116,7 +116,7 @@ impl<'t> RuleOrder<'t> {
     // Notes whether the last turn moved something. If it did, every other seat can act, unless
     // seats act only after they are woken.
     fn note(&mut self, news: &News) {
-        let Some((seat, looked)) = self.last else {
+        let Some((seat, tried)) = self.last else {
             return;
         };
         let moved = news.progress.has_moved();
@@ -124,7 +124,7 @@ impl<'t> RuleOrder<'t> {
             self.move_all();
         }
         if let Some(stood) = self.stood.get_mut(seat) {
-            stood.note(moved, looked, news);
+            stood.note(moved, tried, news);
         }
         self.last = None;
     }
@@ -206,14 +206,14 @@ impl<'t> RuleOrder<'t> {
             self.stage = Stage::Time;
             return Turn::Nothing;
         };
-        let looks = self.stood(seat).is_between;
-        self.last = Some((seat, looks));
-        if looks {
-            return Turn::Look(seat);
+        let tries = self.stood(seat).is_between;
+        self.last = Some((seat, tries));
+        if tries {
+            return Turn::TryOpen(seat);
         }
         match self.rule {
-            Rule::Commands => Turn::Serve(seat, Extent::Command),
-            _ => Turn::Serve(seat, Extent::Action),
+            Rule::Commands => Turn::Serve(seat, Task::Command),
+            _ => Turn::Serve(seat, Task::Action),
         }
     }
 
@@ -251,7 +251,7 @@ impl<'t> Turns for RuleOrder<'t> {
 
     ghost listed = { λ order seat. true };
 
-    ghost looks = { λ order seat. false };
+    ghost tries = { λ order seat. false };
 
     // An order may be used for any run.
     ghost is_of = { λ begun. Unit {0} };

@@ -132,7 +132,7 @@ fn ran_by<T: Turns + Drop>(
     requires of_run { T.is_of (beginning config scene.doors.all.items scene.clock
         (⟦<BufReader<Pieces> as ControlReader>⟧.remaining scene.control)
         (⟦<BufReader<Pieces> as ControlReader>⟧.may_fail scene.control)) }
-    requires knows { IfOk turns (λ t. KnowsAll config.seats (T.seats t) (T.listed t) (T.looks t)) }
+    requires knows { IfOk turns (λ t. KnowsAll config.seats (T.seats t) (T.listed t) (T.tries t)) }
 {
     let Scene {
         doors,

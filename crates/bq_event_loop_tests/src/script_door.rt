@@ -91,7 +91,7 @@ impl<'t> Door for ScriptDoor<'t> {
         }
     }
 
-    fn look<W: Watcher>(
+    fn try_open<W: Watcher>(
         &mut self,
         _may_have_come: bool,
         _watcher: &W,

@@ -1,5 +1,5 @@
 -- What happens at a hub, step by step.
-use Rattle.bq_host.proofs.WentLemmas.{none_held, seat_none, seat_on, seat_sorted, seat_stepped, seat_took}
+use Rattle.bq_host.proofs.TraceLemmas.{none_held_back, seat_delivered, seat_none, seat_on, seat_stepped, seat_took}
 use Rattle.std.proofs.Common.{◌≡◌, ℕ, ◌&&◌, Bool, true, false, true≢false, not, List, [], ◌∷◌, ◌++◌, arith}
 use Rattle.std.proofs.lemmas.Grind.{common_steps}
 use Rattle.std.proofs.Common.{Option, refl, sym, ap, ◌∙◌, subst}
@@ -13,8 +13,8 @@ use Rattle.bq_job.specs.promise.History.{is_tick}
 use Rattle.bq_seat.specs.declared.machine.Action.{Action}
 use Rattle.bq_line.specs.Links.{Calls, TakesInPlace}
 use Rattle.bq_host.specs.Clocks.{Gives}
-use Rattle.bq_host.specs.Hubs.{KeepsFresh, OnlyMoves, WentAt, WentInOrder, state_of, with_pending}
-use Rattle.bq_host.specs.MailStates.{IsInOrder, IsSorted}
+use Rattle.bq_host.specs.Hubs.{HubTrace, KeepsFresh, OnlyMoves, TraceInOrder, state_of, with_pending}
+use Rattle.bq_host.specs.MailStates.{IsInOrder, OnlyDelivers}
 use Rattle.bq_host.specs.Meanings.{Clock, Core}
 use Rattle.bq_host.specs.Timed.{IsReady, LooksAndSteps, PassesOver}
 use Rattle.bq_host.specs.WakeLists.{Wakes}
@@ -32,101 +32,102 @@ module _ {C K : Type 0} (k : Core K) where
   -- A hub is in order if its core is ready and its marks about answers are right.
   pub order_ready : (first last : Hub C K) → IsReady k.machine last.timed
       → (k.machine last.timed.core).settings ≡ (k.machine first.timed.core).settings → last.mails ≡ first.mails
-      → (last.is_sorted ≡ true → (state_of k last).pending ≡ []) → IsInOrder (state_of k first) → IsInOrder (state_of k last)
+      → (last.all_delivered ≡ true → (state_of k last).pending ≡ []) → IsInOrder (state_of k first) → IsInOrder (state_of k last)
   order_ready first last ready settings mails none o = grind arith
 
   module _ (c : Clock C) where
-    pub went_none : (seat : ℕ) (hub : Hub C K) → WentAt k c seat hub [] [] hub
-    went_none seat hub = grind (arith, common_steps, seat_none)
+    pub trace_none : (seat : ℕ) (hub : Hub C K) → HubTrace k c seat hub [] [] hub
+    trace_none seat hub = grind (arith, common_steps, seat_none)
 
-    pub went_then : (seat other : ℕ) (first next last : Hub C K) (submitted more : List Step) (taken later : List Answer)
-        → other ≡ seat → WentAt k c seat first submitted taken next → WentAt k c other next more later last
-        → WentAt k c seat first (submitted ++ more) (taken ++ later) last
-    went_then seat other first next last submitted more taken later same a b =
+    pub trace_then : (seat other : ℕ) (first next last : Hub C K) (submitted more : List Step) (taken later : List Answer)
+        → other ≡ seat → HubTrace k c seat first submitted taken next → HubTrace k c other next more later last
+        → HubTrace k c seat first (submitted ++ more) (taken ++ later) last
+    trace_then seat other first next last submitted more taken later same a b =
         let b' = rw same at b.0 in (
           (
             a.0.0 ++ b'.0,
             gave_then c.given first.timed.time.clock next.timed.time.clock last.timed.time.clock a.0.0 b'.0 a.0.1 b'.1,
             seat_on (state_of k first) (state_of k next) (state_of k last) seat a.0.0 b'.0 submitted more taken later a.0.2 b'.2,
           ),
-          wakes_then first.mails.items next.mails.items last.mails.items first.woken next.woken last.woken a.1 b.1,
+          wakes_then first.mails.items next.mails.items last.mails.items first.wake_queue next.wake_queue last.wake_queue a.1 b.1,
         )
 
-    pub went_sorted : (seat : ℕ) (first last : Hub C K) → IsSorted (state_of k first) (state_of k last)
-        → last.timed.time.clock ≡ first.timed.time.clock → Wakes first.mails.items last.mails.items first.woken last.woken
-        → WentAt k c seat first [] [] last
-    went_sorted seat first last s same wakes = grind (arith, common_steps, seat_sorted)
+    pub trace_delivered : (seat : ℕ) (first last : Hub C K) → OnlyDelivers (state_of k first) (state_of k last)
+        → last.timed.time.clock ≡ first.timed.time.clock → Wakes first.mails.items last.mails.items first.wake_queue last.wake_queue
+        → HubTrace k c seat first [] [] last
+    trace_delivered seat first last s same wakes = grind (arith, common_steps, seat_delivered)
 
     -- All answers at the hub are still there, in some place.
-    pub went_moved : (seat : ℕ) (first last : Hub C K) (held : Option GivenAnswer) (answers : List GivenAnswer) (sorted : Bool)
-        → last ≡ with_pending held answers sorted first → (state_of k last).pending ≡ (state_of k first).pending
-        → WentAt k c seat first [] [] last
-    went_moved seat first last held answers sorted moved pending =
-        subst (λ (h : Hub C K). WentAt k c seat first [] [] h) (sym moved)
-        (went_sorted seat first (with_pending held answers sorted first) (record {
+    pub trace_moved : (seat : ℕ) (first last : Hub C K) (held_back : Option GivenAnswer) (answers : List GivenAnswer) (delivered : Bool)
+        → last ≡ with_pending held_back answers delivered first → (state_of k last).pending ≡ (state_of k first).pending
+        → HubTrace k c seat first [] [] last
+    trace_moved seat first last held_back answers delivered moved pending =
+        subst (λ (h : Hub C K). HubTrace k c seat first [] [] h) (sym moved)
+        (trace_delivered seat first (with_pending held_back answers delivered first) (record {
           rest = refl;
           many = refl;
           waiting_is = grind arith;
-        }) refl (wakes_none first.mails.items first.woken))
+        }) refl (wakes_none first.mails.items first.wake_queue))
 
     -- A seat without mail took the oldest answer.
-    pub went_taken : (seat : ℕ) (answer : Answer) (first last : Hub C K) (held : Option GivenAnswer) (answers : List GivenAnswer)
-        (sorted : Bool) → last ≡ with_pending held answers sorted first → slice_index_or first.mails.items seat [] ≡ []
-        → (state_of k first).pending ≡ (seat, answer) ∷ (state_of k last).pending → WentAt k c seat first [] (answer ∷ []) last
-    went_taken seat answer first last held answers sorted moved empty pending =
-        subst (λ (h : Hub C K). WentAt k c seat first [] (answer ∷ []) h) (sym moved) (
+    pub trace_taken : (seat : ℕ) (answer : Answer) (first last : Hub C K) (held_back : Option GivenAnswer) (answers : List GivenAnswer)
+        (delivered : Bool) → last ≡ with_pending held_back answers delivered first → slice_index_or first.mails.items seat [] ≡ []
+        → (state_of k first).pending ≡ (seat, answer) ∷ (state_of k last).pending → HubTrace k c seat first [] (answer ∷ []) last
+    trace_taken seat answer first last held_back answers delivered moved empty pending =
+        subst (λ (h : Hub C K). HubTrace k c seat first [] (answer ∷ []) h) (sym moved) (
           (
             [],
             gave_none c.given first.timed.time.clock,
-            seat_takes_pending (state_of k first) seat answer (option_to_list held ++ answers) sorted empty
+            seat_takes_pending (state_of k first) seat answer (option_to_list held_back ++ answers) delivered empty
                 (pending ∙ ap (λ (h : Hub C K). (seat, answer) ∷ (state_of k h).pending) moved),
           ),
-          wakes_none first.mails.items first.woken,
+          wakes_none first.mails.items first.wake_queue,
         )
 
     -- The core took a step, or a tick, while all answers so far were in the mail.
-    pub went_stepped : (seat at : ℕ) (what : Step) (old : Hub C K) (t : TimedCore C K) (marked : Bool)
+    pub trace_stepped : (seat at : ℕ) (what : Step) (old : Hub C K) (t : TimedCore C K) (marked : Bool)
         → TimedRan k c old.timed (entry_of at seat what ∷ []) t.outs.given t → (state_of k old).pending ≡ []
-        → WentAt k c seat old (if is_tick what then [] else what ∷ []) [] (record old { timed = t; is_sorted = marked })
-    went_stepped seat at what old t marked r empty = (
+        → HubTrace k c seat old (if is_tick what then [] else what ∷ []) [] (record old { timed = t; all_delivered = marked })
+    trace_stepped seat at what old t marked r empty = (
       (
         r.0,
         r.1,
-        seat_stepped (state_of k old) (state_of k (record old { timed = t; is_sorted = marked })) seat at what r.0
+        seat_stepped (state_of k old) (state_of k (record old { timed = t; all_delivered = marked })) seat at what r.0
             t.outs.given r.2 refl empty
-            (ap (λ (xs : List GivenAnswer). xs ++ t.outs.given) (none_held (option_to_list old.held) old.timed.outs.given empty)),
+            (ap (λ (xs : List GivenAnswer). xs ++ t.outs.given) (none_held_back (option_to_list old.held_back) old.timed.outs.given empty)),
       ),
-      wakes_none old.mails.items old.woken,
+      wakes_none old.mails.items old.wake_queue,
     )
 
     -- Time passed, and no step was taken.
-    went_over : (seat : ℕ) (old : Hub C K) (t : TimedCore C K) (marked : Bool) → PassesOver k c old.timed t
-        → WentAt k c seat old [] [] (record old { timed = t; is_sorted = marked })
-    went_over seat old t marked over = grind (arith, timed_over k c old.timed t over, seat_took)
+    trace_over : (seat : ℕ) (old : Hub C K) (t : TimedCore C K) (marked : Bool) → PassesOver k c old.timed t
+        → HubTrace k c seat old [] [] (record old { timed = t; all_delivered = marked })
+    trace_over seat old t marked over = grind (arith, timed_over k c old.timed t over, seat_took)
 
     -- Time passed, and the core took a tick if something was due and it may.
-    pub went_passed : (old : Hub C K) (t : TimedCore C K) (may due : Bool) → IsReady k.machine t
+    pub trace_passed : (old : Hub C K) (t : TimedCore C K) (may due : Bool) → IsReady k.machine t
         → (k.machine t.core).settings ≡ (k.machine old.timed.core).settings
         → ((may && due) ≡ false → PassesOver k c old.timed t) → ((may && due) ≡ true → LooksAndSteps k c old.timed 0 Tick t)
         → (may ≡ true → (state_of k old).pending ≡ []) → IsInOrder (state_of k old)
-        → WentInOrder k c 0 old [] [] (record old { timed = t; is_sorted = may && not due })
-    went_passed old t true true ready settings over ticked empty o = (
-      order_ready old (record old { timed = t; is_sorted = false }) ready settings refl (λ sorted. absurd (true≢false (sym sorted))) o,
-      went_stepped 0 t.time.moment Tick old t false (timed_late k c old.timed t 0 Tick (ticked refl)) (empty refl),
+        → TraceInOrder k c 0 old [] [] (record old { timed = t; all_delivered = may && not due })
+    trace_passed old t true true ready settings over ticked empty o = (
+      order_ready old (record old { timed = t; all_delivered = false }) ready settings refl
+          (λ delivered. absurd (true≢false (sym delivered))) o,
+      trace_stepped 0 t.time.moment Tick old t false (timed_late k c old.timed t 0 Tick (ticked refl)) (empty refl),
     )
-    went_passed old t true false ready settings over ticked empty o = grind (arith, went_over 0 old t true (over refl))
-    went_passed old t false due ready settings over ticked empty o = grind (arith, went_over 0 old t false (over refl))
+    trace_passed old t true false ready settings over ticked empty o = grind (arith, trace_over 0 old t true (over refl))
+    trace_passed old t false due ready settings over ticked empty o = grind (arith, trace_over 0 old t false (over refl))
 
     -- A seat took an answer after its hub stayed the same for all seats.
     pub takes_on : (seat : ℕ) (first next last : Hub C K) (place after : Action) (took : Bool)
-        → WentAt k c seat first [] [] next → TakesInPlace (WentAt k c seat) next place took after last
-        → TakesInPlace (WentAt k c seat) first place took after last
+        → HubTrace k c seat first [] [] next → TakesInPlace (HubTrace k c seat) next place took after last
+        → TakesInPlace (HubTrace k c seat) first place took after last
     takes_on seat first next last place after true still takes =
-        (takes.0, takes.1, went_then seat seat first next last [] [] [] (takes.0 ∷ []) refl still takes.2)
+        (takes.0, takes.1, trace_then seat seat first next last [] [] [] (takes.0 ∷ []) refl still takes.2)
     takes_on seat first next last place after false still takes =
-        (takes.0, went_then seat seat first next last [] [] [] [] refl still takes.1)
+        (takes.0, trace_then seat seat first next last [] [] [] [] refl still takes.1)
 
     -- What a seat did, whether its link to the hub was used or not.
     pub called : (seat : ℕ) (first last : Hub C K) (submitted : List Step) (taken : List Answer)
-        → Calls (WentAt k c seat) first submitted taken last → WentAt k c seat first submitted taken last
-    called seat first last submitted taken h = grind (arith, went_none seat first)
+        → Calls (HubTrace k c seat) first submitted taken last → HubTrace k c seat first submitted taken last
+    called seat first last submitted taken h = grind (arith, trace_none seat first)

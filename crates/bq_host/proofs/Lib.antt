@@ -6,5 +6,5 @@ pub mod ListLemmas
 pub mod MailLemmas
 pub mod MarkLemmas
 pub mod TimedRunLemmas
+pub mod TraceLemmas
 pub mod WakeLemmas
-pub mod WentLemmas

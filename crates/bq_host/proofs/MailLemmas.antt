@@ -7,8 +7,8 @@ use Rattle.std.proofs.lemmas.List.{length-set}
 use Rattle.bq_job.specs.declared.answer.Answer.{Answer}
 use Rattle.bq_job.specs.machine.Dispatch.{GivenAnswer}
 use Rattle.bq_job.specs.promise.Runs.{answers_to}
-use Rattle.bq_host.specs.{MailStates.{MailState, timed_of, waiting}, Went.SeatWent}
-use Rattle.bq_host.proofs.{TimedRunLemmas.ran_none, WentLemmas.{only, seat_took}}
+use Rattle.bq_host.specs.{MailStates.{MailState, timed_of, waiting}, Traces.SeatTrace}
+use Rattle.bq_host.proofs.{TimedRunLemmas.ran_none, TraceLemmas.{only, seat_took}}
 
 pub still_at : (items : List (List Answer)) (i : ℕ) (old new : List Answer) → i < length items → old ≡ slice_index_or items i old
     → new ≡ old → slice_set items i new ≡ items
@@ -21,7 +21,7 @@ none_taken taken old rest is none = grind arith
 -- the seat took its oldest answer
 pub seat_takes : (d : MailState) (seat i : ℕ) (old rest taken : List Answer) → i ≡ seat → i < length d.mails
     → old ≡ slice_index_or d.mails i old → old ≡ taken ++ rest
-    → SeatWent seat d [] [] taken (record d { mails = slice_set d.mails i rest })
+    → SeatTrace seat d [] [] taken (record d { mails = slice_set d.mails i rest })
 seat_takes d seat i old rest taken same below at is =
     seat_took d (record d { mails = slice_set d.mails i rest }) seat [] taken (ran_none (timed_of d))
     (length-set d.mails i rest) (λ t here. tied_at t)
@@ -30,8 +30,8 @@ seat_takes d seat i old rest taken same below at is =
     tied_at t = grind (arith, common_steps)
 
 -- A seat whose mail is empty took the oldest pending answer, which was its own.
-pub seat_takes_pending : (d : MailState) (seat : ℕ) (answer : Answer) (rest : List GivenAnswer) (sorted : Bool)
+pub seat_takes_pending : (d : MailState) (seat : ℕ) (answer : Answer) (rest : List GivenAnswer) (delivered : Bool)
     → slice_index_or d.mails seat [] ≡ [] → d.pending ≡ (seat, answer) ∷ rest
-    → SeatWent seat d [] [] (answer ∷ []) (record d { pending = rest; sorted = sorted })
-seat_takes_pending d seat answer rest sorted empty pending =
+    → SeatTrace seat d [] [] (answer ∷ []) (record d { pending = rest; delivered = delivered })
+seat_takes_pending d seat answer rest delivered empty pending =
     grind (arith, common_steps, seat_took, ran_none, only, eqb-true, eq-eqb, eqb-false)

@@ -9,7 +9,7 @@ use Rattle.std.proofs.lemmas.List.{get_or-set_other, get_or-set_same, get_or_def
 use Rattle.bq_job.specs.declared.answer.Answer.{Answer}
 use Rattle.bq_job.specs.promise.Runs.{answers_to}
 use Rattle.bq_job.specs.machine.Dispatch.{GivenAnswer}
-use Rattle.bq_host.specs.MailStates.{IsSorted, MailState, waiting}
+use Rattle.bq_host.specs.MailStates.{MailState, OnlyDelivers, waiting}
 use Rattle.bq_host.specs.Marks.{times}
 use Rattle.bq_host.specs.WakeLists.{WakeList, Wakes, to_wake}
 
@@ -97,18 +97,18 @@ pub wakes_put : (first mails next last : List (List Answer)) (old w mid new : Wa
     → Wakes first mails old w → next ≡ mails → mid ≡ w → length last ≡ length next
     → ((t : ℕ) → t < length next → slice_index_or last t [] ≡ slice_index_or next t [] ++ answers_to t ((seat, answer) ∷ []))
     → new ≡ to_wake seat mid → Wakes first last old new
-wakes_put first mails next last old w mid new seat answer so_far same still many put woken =
-    wakes_then first next last old mid new (rw (same, still) so_far) (rw woken (wakes_posted next last seat answer mid many put))
+wakes_put first mails next last old w mid new seat answer so_far same still many put wake_queue =
+    wakes_then first next last old mid new (rw (same, still) so_far) (rw wake_queue (wakes_posted next last seat answer mid many put))
 
 pub wakes_full : (first mails next last : List (List Answer)) (old w mid new : WakeList) (seat : ℕ)
     → Wakes first mails old w → next ≡ mails → mid ≡ w → last ≡ next → new ≡ to_wake seat mid → Wakes first last old new
-wakes_full first mails next last old w mid new seat so_far same still kept woken =
-    wakes_then first next last old mid new (rw (same, still) so_far) (rw (kept, woken) (wakes_added next seat mid))
+wakes_full first mails next last old w mid new seat so_far same still kept wake_queue =
+    wakes_then first next last old mid new (rw (same, still) so_far) (rw (kept, wake_queue) (wakes_added next seat mid))
 
 -- An answer went from those that are pending into the mail of its seat.
-pub sorted_put : (first mid next : MailState) (pending : List GivenAnswer) (sorted : Bool) (mails : List (List Answer)) (seat : ℕ)
-    (answer : Answer) → IsSorted first mid → next ≡ record mid { pending = pending; sorted = sorted }
+pub delivered_put : (first mid next : MailState) (pending : List GivenAnswer) (delivered : Bool) (mails : List (List Answer)) (seat : ℕ)
+    (answer : Answer) → OnlyDelivers first mid → next ≡ record mid { pending = pending; delivered = delivered }
     → mid.pending ≡ (seat, answer) ∷ next.pending → length mails ≡ length next.mails
     → ((t : ℕ) → t < length next.mails → slice_index_or mails t [] ≡ slice_index_or next.mails t [] ++ answers_to t ((seat, answer) ∷ []))
-    → IsSorted first (record next { mails = mails })
-sorted_put first mid next pending sorted mails seat answer s moved oldest many put = grind (arith, append_assoc)
+    → OnlyDelivers first (record next { mails = mails })
+delivered_put first mid next pending delivered mails seat answer s moved oldest many put = grind (arith, append_assoc)

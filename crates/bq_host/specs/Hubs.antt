@@ -4,32 +4,32 @@ use Rattle.bq_job.specs.declared.answer.Answer.{Answer}
 use Rattle.bq_job.specs.declared.step.Step.{Step}
 use Rattle.bq_job.specs.machine.Dispatch.{GivenAnswer}
 use Rattle.bq_line.specs.GivenReadings.{GaveReadings}
-use Rattle.bq_host.specs.{Clocks.Gives, MailStates.{IsInOrder, MailState, mail_state}, Meanings.{Clock, Core}, Went.SeatWentBy}
+use Rattle.bq_host.specs.{Clocks.Gives, MailStates.{IsInOrder, MailState, mail_state}, Meanings.{Clock, Core}, Traces.SeatTraceBy}
 use Rattle.bq_host.specs.WakeLists.{Wakes}
 use Rattle.bq_host.specs.declared.hub.Hub.{Hub}
 
 -- the state of a hub
 abbrev pub state_of : {C K : Type 0} → Core K → Hub C K → MailState
-state_of k h = mail_state k h.timed h.held h.mails.items h.is_sorted
+state_of k h = mail_state k h.timed h.held_back h.mails.items h.all_delivered
 
 -- A hub is in order, and this is one of its seats.
 abbrev pub IsInOrderFor : {C K : Type 0} → Core K → ℕ → Hub C K → Type 0
 IsInOrderFor k seat core = IsInOrder (state_of k core) × (seat < length core.mails.items)
 
 -- What a seat did at a hub. Each seat that got mail and had none is to be woken, if the hub notes this seat.
-abbrev pub WentAt : {C K : Type 0} → Core K → Clock C → ℕ → Hub C K → List Step → List Answer → Hub C K → Type 0
-WentAt k c seat old submitted taken new =
-    SeatWentBy c.given seat old.timed.time.clock (state_of k old) submitted taken new.timed.time.clock (state_of k new)
-    × Wakes old.mails.items new.mails.items old.woken new.woken
+abbrev pub HubTrace : {C K : Type 0} → Core K → Clock C → ℕ → Hub C K → List Step → List Answer → Hub C K → Type 0
+HubTrace k c seat old submitted taken new =
+    SeatTraceBy c.given seat old.timed.time.clock (state_of k old) submitted taken new.timed.time.clock (state_of k new)
+    × Wakes old.mails.items new.mails.items old.wake_queue new.wake_queue
 
 -- The same, and it left the hub in order.
-abbrev pub WentInOrder : {C K : Type 0} → Core K → Clock C → ℕ → Hub C K → List Step → List Answer → Hub C K → Type 0
-WentInOrder k c seat old submitted taken new = IsInOrder (state_of k new) × WentAt k c seat old submitted taken new
+abbrev pub TraceInOrder : {C K : Type 0} → Core K → Clock C → ℕ → Hub C K → List Step → List Answer → Hub C K → Type 0
+TraceInOrder k c seat old submitted taken new = IsInOrder (state_of k new) × HubTrace k c seat old submitted taken new
 
--- a hub with other answers that are not in the mail: the one that is held, the core's, and the mark about them
+-- a hub with other answers that are not in the mail: the one that is held back, the core's, and the mark about them
 abbrev pub with_pending : {C K : Type 0} → Option GivenAnswer → List GivenAnswer → Bool → Hub C K → Hub C K
-with_pending held given sorted h =
-    record h { held = held; timed = record h.timed { outs = record h.timed.outs { given = given } }; is_sorted = sorted }
+with_pending held_back given delivered h =
+    record h { held_back = held_back; timed = record h.timed { outs = record h.timed.outs { given = given } }; all_delivered = delivered }
 
 -- What stays the same while answers move: the clock, the mark of a fresh reading, what was logged, and what is still to be logged.
 pub record OnlyMoves {C K : Type 0} (old new : Hub C K) : Type 0 where

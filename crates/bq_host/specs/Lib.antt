@@ -11,5 +11,5 @@ pub mod Meanings
 pub mod Timed
 pub mod TimedRuns
 pub mod Told
+pub mod Traces
 pub mod WakeLists
-pub mod Went

@@ -17,7 +17,7 @@ pub record MailState : Type 0 where
   pub mails : List (List Answer)
   pub pending : List GivenAnswer
   -- true if it is known that all answers are in the mail
-  pub sorted : Bool
+  pub delivered : Bool
   -- the latest moment of the clock
   pub heard : ℕ
   -- the most answers that a step can give
@@ -29,11 +29,11 @@ pub record MailState : Type 0 where
 
 -- of a core with its clock, an answer that is held back, and the mail of each seat
 abbrev pub mail_state : {C K : Type 0} → Core K → TimedCore C K → Option GivenAnswer → List (List Answer) → Bool → MailState
-mail_state k timed held mails sorted = record {
+mail_state k timed held_back mails delivered = record {
   core = k.machine timed.core;
   mails = mails;
-  pending = option_to_list held ++ timed.outs.given;
-  sorted = sorted;
+  pending = option_to_list held_back ++ timed.outs.given;
+  delivered = delivered;
   heard = timed.time.moment;
   most = timed.outs.most;
   known = timed.is_due_known;
@@ -64,12 +64,12 @@ pub record IsNewMailState (settings : Settings) (d : MailState) : Type 0 where
 pub record IsInOrder (d : MailState) : Type 0 where
   pub many : length d.mails ≡ d.core.settings.seats
   pub room : d.core.settings.seats < d.most
-  pub none_pending : d.sorted ≡ true → d.pending ≡ []
+  pub none_pending : d.delivered ≡ true → d.pending ≡ []
   pub due_is : d.known ≡ true → d.due ≡ next_due d.core
 
 -- Answers moved from one place to another, which makes no difference to any seat.
-pub record IsSorted (first last : MailState) : Type 0 where
-  pub rest : last ≡ record first { mails = last.mails; pending = last.pending; sorted = last.sorted }
+pub record OnlyDelivers (first last : MailState) : Type 0 where
+  pub rest : last ≡ record first { mails = last.mails; pending = last.pending; delivered = last.delivered }
   pub many : length last.mails ≡ length first.mails
   pub waiting_is : (seat : ℕ) → seat < length first.mails → waiting seat last ≡ waiting seat first
 

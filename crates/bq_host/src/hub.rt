@@ -6,7 +6,7 @@ ghost use Rattle.std.specs.Option.{option_to_list};
 ghost use Rattle.bq_job.specs.declared.answer.Answer.{Answer};
 ghost use Rattle.bq_job.specs.promise.Runs.{answers_to};
 ghost use Rattle.bq_host.specs.MailStates.{IsInOrder};
-ghost use Rattle.bq_host.specs.Hubs.{IsInOrderFor, KeepsFresh, OnlyMoves, WentAt, WentInOrder, state_of, with_pending};
+ghost use Rattle.bq_host.specs.Hubs.{HubTrace, IsInOrderFor, KeepsFresh, OnlyMoves, TraceInOrder, state_of, with_pending};
 ghost use Rattle.bq_host.specs.Told.{HasLogged, concern_of, none_told, none_unlogged, noted, told_after};
 ghost use Rattle.bq_host.specs.WakeLists.{Wakes, none_waits, to_wake};
 ghost use Rattle.bq_seat.specs.declared.machine.Action.TheVariants as actions;
@@ -15,7 +15,7 @@ use crate::fault::RunFault;
 use crate::mail::{Mail, new_mails};
 use crate::notices::Unlogged;
 use crate::timed_core::TimedCore;
-use crate::woken::Woken;
+use crate::wake_queue::WakeQueue;
 use bq_core_api::{Config, QueueCore};
 use bq_job::{Answer, Seat, Step};
 use bq_line::clock::Clock;
@@ -31,12 +31,12 @@ pub struct Hub<C, K> {
     /// mail.
     pub timed: TimedCore<C, K>,
     /// The oldest of these answers, if the mail of its seat was full.
-    pub held: Option<(Seat, Answer)>,
+    pub held_back: Option<(Seat, Answer)>,
     pub mails: Vec<Mail, Global>,
     /// True if it is known that all answers are in the mail.
-    pub is_sorted: bool,
+    pub all_delivered: bool,
     /// The seats that received mail and have to be woken.
-    pub woken: Woken,
+    pub wake_queue: WakeQueue,
     /// True if a step read the clock since time passed last.
     pub is_fresh: bool,
     /// What the operator has to see of the steps since time passed last. It is not logged in the
@@ -48,7 +48,7 @@ impl<C: Clock + Drop, K: QueueCore + Drop> Hub<C, K> {
     ghost use Rattle.bq_job.specs.beside.NextDue.{is_before, next_due};
     ghost use Rattle.bq_host.specs.DueTimes.{IsLimit, time_left};
     ghost use Rattle.bq_host.specs.Timed.{HearsIf, is_read_for};
-    ghost use Rattle.bq_host.specs.MailStates.{IsHeldUp, IsNewMailState, IsSorted, waiting};
+    ghost use Rattle.bq_host.specs.MailStates.{IsHeldUp, IsNewMailState, OnlyDelivers, waiting};
     ghost use Rattle.bq_core_api.specs.Limits.{are_in_range};
     ghost use Rattle.bq_line.specs.Links.{TakesInPlace, as_submitted};
 
@@ -61,7 +61,7 @@ impl<C: Clock + Drop, K: QueueCore + Drop> Hub<C, K> {
         ensures made { IfOk result (λ hub. IsNewMailState config (state_of K.QueueCore hub)) }
         ensures order { IfOk result (λ hub. IsInOrder (state_of K.QueueCore hub)) }
         ensures clock { IfOk result (λ hub. hub.timed.time.clock ≡ clock) }
-        ensures woken { IfOk result (λ hub. hub.woken ≡ none_waits 0) }
+        ensures wake_queue { IfOk result (λ hub. hub.wake_queue ≡ none_waits 0) }
         ensures not_fresh { IfOk result (λ hub. hub.is_fresh ≡ false) }
         ensures none_told { IfOk result (λ hub. hub.timed.notices ≡ none_told) }
         ensures none_noted { IfOk result (λ hub. hub.unlogged ≡ none_unlogged) }
@@ -75,10 +75,10 @@ impl<C: Clock + Drop, K: QueueCore + Drop> Hub<C, K> {
         };
         Ok(Hub {
             timed,
-            held: None,
+            held_back: None,
             mails,
-            is_sorted: true,
-            woken: Woken::none(alloc),
+            all_delivered: true,
+            wake_queue: WakeQueue::none(alloc),
             is_fresh: false,
             unlogged: Unlogged::none(),
         })
@@ -101,8 +101,8 @@ impl<C: Clock + Drop, K: QueueCore + Drop> Hub<C, K> {
     pub fn submit(&mut self, seat: Seat, step: &Step) -> bool
         requires order { IsInOrder (state_of K.QueueCore self.old) }
         ensures order { IsInOrder (state_of K.QueueCore self.new) }
-        ensures taken { result ≡ true → WentAt K.QueueCore C.Clock seat self.old (as_submitted step.now) [] self.new }
-        ensures left { result ≡ false → WentAt K.QueueCore C.Clock seat self.old [] [] self.new }
+        ensures taken { result ≡ true → HubTrace K.QueueCore C.Clock seat self.old (as_submitted step.now) [] self.new }
+        ensures left { result ≡ false → HubTrace K.QueueCore C.Clock seat self.old [] [] self.new }
         ensures held_up { result ≡ false → IsHeldUp (state_of K.QueueCore self.new) }
         ensures only { result ≡ false → OnlyMoves self.old self.new }
         ensures fresh { KeepsFresh C.given self.old self.new }
@@ -112,7 +112,7 @@ impl<C: Clock + Drop, K: QueueCore + Drop> Hub<C, K> {
         ensures noted { result ≡ true → self.new.unlogged ≡ noted (told_after (concern_of step.now) self.new.timed.outs
             self.new.timed.time.moment self.old.timed.notices).0 self.old.unlogged }
     {
-        if !self.sort(seat) {
+        if !self.deliver_all(seat) {
             return false;
         }
         self.take_step(seat, step);
@@ -124,33 +124,33 @@ impl<C: Clock + Drop, K: QueueCore + Drop> Hub<C, K> {
     fn take_step(&mut self, seat: Seat, what: &Step)
         requires order { IsInOrder (state_of K.QueueCore self.old) }
         requires empty { (state_of K.QueueCore self.old).pending ≡ [] }
-        ensures went { WentInOrder K.QueueCore C.Clock seat self.old (as_submitted what.now) [] self.new }
+        ensures trace { TraceInOrder K.QueueCore C.Clock seat self.old (as_submitted what.now) [] self.new }
         ensures read { HearsIf C.given true self.old.timed.time self.new.timed.time }
         ensures told { HasLogged (concern_of what.now) self.new.timed.outs self.new.timed.time.moment
             self.old.timed.notices self.new.timed.notices }
         ensures noted { self.new.unlogged ≡ noted (told_after (concern_of what.now) self.new.timed.outs self.new.timed.time.moment
             self.old.timed.notices).0 self.old.unlogged }
     {
-        self.is_sorted = false;
+        self.all_delivered = false;
         self.is_fresh = true;
         let notice = self.timed.take_step_quietly(seat, what);
         self.unlogged.note(notice);
     }
 
-    /// Takes the oldest answer to the seat, if there is one, and puts it into `place` as an action
-    /// that writes it. Returns false and leaves `place` as it was if there is none, or if an older
+    /// Takes the oldest answer to the seat, if there is one, and makes `action` one that writes it.
+    /// Returns false and leaves `action` as it was if there is none, or if an older
     /// answer that waits for room in the mail of its seat is in the way.
-    pub fn take_to(&mut self, seat: Seat, place: &mut NextAction) -> bool
+    pub fn take_to(&mut self, seat: Seat, action: &mut NextAction) -> bool
         requires ready { IsInOrderFor K.QueueCore seat self.old }
         ensures order { IsInOrder (state_of K.QueueCore self.new) }
-        ensures went { TakesInPlace (WentAt K.QueueCore C.Clock seat) self.old place.old result place.new self.new }
+        ensures trace { TakesInPlace (HubTrace K.QueueCore C.Clock seat) self.old action.old result action.new self.new }
         ensures none { result ≡ false → (waiting seat (state_of K.QueueCore self.old) ≡ []) ⊎ IsHeldUp (state_of K.QueueCore self.new) }
         ensures only { OnlyMoves self.old self.new }
     {
-        if self.held.is_none() && self.has_no_mail(seat) {
-            return self.take_new(seat, place);
+        if self.held_back.is_none() && self.has_no_mail(seat) {
+            return self.take_new(seat, action);
         }
-        self.take_kept(seat, place)
+        self.take_kept(seat, action)
     }
 
     fn has_no_mail(&self, seat: Seat) -> bool
@@ -163,17 +163,17 @@ impl<C: Clock + Drop, K: QueueCore + Drop> Hub<C, K> {
     // The same, wherever the answer is. Not inlined, because it reserves and initializes room for
     // answers.
     #[inline(never)]
-    fn take_kept(&mut self, seat: Seat, place: &mut NextAction) -> bool
+    fn take_kept(&mut self, seat: Seat, action: &mut NextAction) -> bool
         requires ready { IsInOrderFor K.QueueCore seat self.old }
         ensures order { IsInOrder (state_of K.QueueCore self.new) }
-        ensures went { TakesInPlace (WentAt K.QueueCore C.Clock seat) self.old place.old result place.new self.new }
+        ensures trace { TakesInPlace (HubTrace K.QueueCore C.Clock seat) self.old action.old result action.new self.new }
         ensures none { result ≡ false → (waiting seat (state_of K.QueueCore self.old) ≡ []) ⊎ IsHeldUp (state_of K.QueueCore self.new) }
         ensures only { OnlyMoves self.old self.new }
     {
-        let _all = self.sort(seat);
+        let _all = self.deliver_all(seat);
         match self.take_mail(seat) {
             Some(answer) => {
-                place.write(answer);
+                action.write(answer);
                 true
             }
             None => false,
@@ -181,13 +181,13 @@ impl<C: Clock + Drop, K: QueueCore + Drop> Hub<C, K> {
     }
 
     // The same if no earlier answer waits: mostly the core's only answer is for this seat. It goes
-    // from where the core put it right to its place.
-    fn take_new(&mut self, seat: Seat, place: &mut NextAction) -> bool
+    // from where the core put it right into the action.
+    fn take_new(&mut self, seat: Seat, action: &mut NextAction) -> bool
         requires ready { IsInOrderFor K.QueueCore seat self.old }
         requires empty { slice_index_or self.old.mails.items seat [] ≡ [] }
-        requires none_held { self.old.held ≡ None }
+        requires none_held_back { self.old.held_back ≡ None }
         ensures order { IsInOrder (state_of K.QueueCore self.new) }
-        ensures went { TakesInPlace (WentAt K.QueueCore C.Clock seat) self.old place.old result place.new self.new }
+        ensures trace { TakesInPlace (HubTrace K.QueueCore C.Clock seat) self.old action.old result action.new self.new }
         ensures none { result ≡ false → (waiting seat (state_of K.QueueCore self.old) ≡ []) ⊎ IsHeldUp (state_of K.QueueCore self.new) }
         ensures only { OnlyMoves self.old self.new }
     {
@@ -195,29 +195,29 @@ impl<C: Clock + Drop, K: QueueCore + Drop> Hub<C, K> {
             return false;
         };
         if seat == first {
-            write(place, answer);
+            write(action, answer);
             self.note_none_pending();
             return true;
         }
         self.put_back(first, answer);
-        self.take_kept(seat, place)
+        self.take_kept(seat, action)
     }
 
-    // Notes whether an answer is pending. Mostly none is: then nothing has to be sorted when the
+    // Notes whether an answer is pending. Mostly none is: then nothing has to be delivered when the
     // turn of the seat ends.
     fn note_none_pending(&mut self)
-        ensures none { self.new.is_sorted ≡ true → (state_of K.QueueCore self.new).pending ≡ [] }
-        ensures rest { self.new ≡ record self.old { is_sorted = self.new.is_sorted } }
+        ensures none { self.new.all_delivered ≡ true → (state_of K.QueueCore self.new).pending ≡ [] }
+        ensures rest { self.new ≡ record self.old { all_delivered = self.new.all_delivered } }
     {
-        self.is_sorted = self.has_none_pending();
+        self.all_delivered = self.has_none_pending();
     }
 
     // Takes the oldest answer that no seat has taken, if all of them are where the core put them.
     fn next_new(&mut self) -> Option<(Seat, Answer)>
-        requires none_held { self.old.held ≡ None }
+        requires none_held_back { self.old.held_back ≡ None }
         ensures pending { (state_of K.QueueCore self.old).pending ≡ option_to_list result ++ (state_of K.QueueCore self.new).pending }
         ensures none { IsNone result → (state_of K.QueueCore self.new).pending ≡ [] }
-        ensures rest { self.new ≡ with_pending None self.new.timed.outs.given self.old.is_sorted self.old }
+        ensures rest { self.new ≡ with_pending None self.new.timed.outs.given self.old.all_delivered self.old }
     {
         self.timed.outs.take_first()
     }
@@ -227,14 +227,14 @@ impl<C: Clock + Drop, K: QueueCore + Drop> Hub<C, K> {
     fn put_back(&mut self, seat: Seat, answer: Answer)
         ensures { self.new ≡ with_pending (Some (seat, answer)) self.old.timed.outs.given false self.old }
     {
-        hold(&mut self.held, seat, answer);
-        self.is_sorted = false;
+        hold(&mut self.held_back, seat, answer);
+        self.all_delivered = false;
     }
 
     fn take_mail(&mut self, seat: Seat) -> Option<Answer>
         requires ready { IsInOrderFor K.QueueCore seat self.old }
         ensures many { length self.new.mails.items ≡ length self.old.mails.items }
-        ensures went { WentInOrder K.QueueCore C.Clock seat self.old [] (option_to_list result) self.new }
+        ensures trace { TraceInOrder K.QueueCore C.Clock seat self.old [] (option_to_list result) self.new }
         ensures none { IsNone result → slice_index_or self.new.mails.items seat [] ≡ [] }
         ensures still { IsNone result → self.new.mails.items ≡ self.old.mails.items }
         ensures rest { self.new ≡ record self.old { mails = self.new.mails } }
@@ -246,43 +246,43 @@ impl<C: Clock + Drop, K: QueueCore + Drop> Hub<C, K> {
     /// Puts all answers into the mail of their seats, which makes no difference to any seat.
     /// Returns false if one is left because the mail of its seat is full.
     #[inline(always)]
-    pub fn sort(&mut self, seat: Seat) -> bool
+    pub fn deliver_all(&mut self, seat: Seat) -> bool
         requires order { IsInOrder (state_of K.QueueCore self.old) }
         ensures many { length self.new.mails.items ≡ length self.old.mails.items }
         ensures none { result ≡ true → (state_of K.QueueCore self.new).pending ≡ [] }
         ensures held_up { result ≡ false → IsHeldUp (state_of K.QueueCore self.new) }
-        ensures sorted { IsSorted (state_of K.QueueCore self.old) (state_of K.QueueCore self.new) }
+        ensures delivered { OnlyDelivers (state_of K.QueueCore self.old) (state_of K.QueueCore self.new) }
         ensures only { OnlyMoves self.old self.new }
-        ensures went { WentInOrder K.QueueCore C.Clock seat self.old [] [] self.new }
+        ensures trace { TraceInOrder K.QueueCore C.Clock seat self.old [] [] self.new }
     {
-        if self.is_sorted {
+        if self.all_delivered {
             return true;
         }
-        self.sort_out()
+        self.deliver_pending()
     }
 
     #[inline(never)]
-    fn sort_out(&mut self) -> bool
+    fn deliver_pending(&mut self) -> bool
         requires order { IsInOrder (state_of K.QueueCore self.old) }
         ensures order { IsInOrder (state_of K.QueueCore self.new) }
-        ensures sorted { IsSorted (state_of K.QueueCore self.old) (state_of K.QueueCore self.new) }
+        ensures delivered { OnlyDelivers (state_of K.QueueCore self.old) (state_of K.QueueCore self.new) }
         ensures clock { self.new.timed.time.clock ≡ self.old.timed.time.clock }
         ensures only { OnlyMoves self.old self.new }
-        ensures wakes { Wakes self.old.mails.items self.new.mails.items self.old.woken self.new.woken }
+        ensures wakes { Wakes self.old.mails.items self.new.mails.items self.old.wake_queue self.new.wake_queue }
         ensures none { result ≡ true → (state_of K.QueueCore self.new).pending ≡ [] }
         ensures held_up { result ≡ false → IsHeldUp (state_of K.QueueCore self.new) }
     {
-        let sorts = self.deliver();
-        self.is_sorted = sorts;
-        sorts
+        let delivers = self.deliver();
+        self.all_delivered = delivers;
+        delivers
     }
 
     // Puts pending answers into the mail. Returns true if none is left.
     fn deliver(&mut self) -> bool
-        ensures sorted { IsSorted (state_of K.QueueCore self.old) (state_of K.QueueCore self.new) }
+        ensures delivered { OnlyDelivers (state_of K.QueueCore self.old) (state_of K.QueueCore self.new) }
         ensures clock { self.new.timed.time.clock ≡ self.old.timed.time.clock }
         ensures only { OnlyMoves self.old self.new }
-        ensures wakes { Wakes self.old.mails.items self.new.mails.items self.old.woken self.new.woken }
+        ensures wakes { Wakes self.old.mails.items self.new.mails.items self.old.wake_queue self.new.wake_queue }
         ensures none { result ≡ true → (state_of K.QueueCore self.new).pending ≡ [] }
         ensures held_up { result ≡ false → IsHeldUp (state_of K.QueueCore self.new) }
     {
@@ -290,8 +290,8 @@ impl<C: Clock + Drop, K: QueueCore + Drop> Hub<C, K> {
             return true;
         }
         while let Some((seat, answer)) = self.next_pending() {
-            if let Err(back) = post(&mut self.mails, &mut self.woken, seat, answer) {
-                self.held = Some((seat, back));
+            if let Err(back) = post(&mut self.mails, &mut self.wake_queue, seat, answer) {
+                self.held_back = Some((seat, back));
                 return false;
             }
         }
@@ -302,29 +302,29 @@ impl<C: Clock + Drop, K: QueueCore + Drop> Hub<C, K> {
     fn has_none_pending(&self) -> bool
         ensures { result ≡ true → (state_of K.QueueCore self.now).pending ≡ [] }
     {
-        self.held.is_none() && self.timed.outs.is_empty()
+        self.held_back.is_none() && self.timed.outs.is_empty()
     }
 
     // Takes the oldest answer that is not in the mail.
     fn next_pending(&mut self) -> Option<(Seat, Answer)>
         ensures pending { (state_of K.QueueCore self.old).pending ≡ option_to_list result ++ (state_of K.QueueCore self.new).pending }
         ensures none { IsNone result → (state_of K.QueueCore self.new).pending ≡ [] }
-        ensures rest { self.new ≡ with_pending None self.new.timed.outs.given self.old.is_sorted self.old }
+        ensures rest { self.new ≡ with_pending None self.new.timed.outs.given self.old.all_delivered self.old }
     {
-        if self.held.is_some() {
-            return self.held.take();
+        if self.held_back.is_some() {
+            return self.held_back.take();
         }
         self.next_new()
     }
 
     /// Removes and returns the first of the seats that are to be woken.
     pub fn next_woken(&mut self) -> Option<Seat>
-        ensures first { self.old.woken.waiting ≡ option_to_list result ++ self.new.woken.waiting }
-        ensures none { IsNone result ↔ (self.old.woken.waiting ≡ []) }
-        ensures seats { self.new.woken.seats ≡ self.old.woken.seats }
-        ensures rest { self.new ≡ record self.old { woken = self.new.woken } }
+        ensures first { self.old.wake_queue.waiting ≡ option_to_list result ++ self.new.wake_queue.waiting }
+        ensures none { IsNone result ↔ (self.old.wake_queue.waiting ≡ []) }
+        ensures seats { self.new.wake_queue.seats ≡ self.old.wake_queue.seats }
+        ensures rest { self.new ≡ record self.old { wake_queue = self.new.wake_queue } }
     {
-        self.woken.take_first()
+        self.wake_queue.take_first()
     }
 
     /// Takes a tick if something is due by now, puts all answers into the mail, and logs what is
@@ -335,7 +335,7 @@ impl<C: Clock + Drop, K: QueueCore + Drop> Hub<C, K> {
     /// run must not wait between the step and this call.
     pub fn pass_time(&mut self) -> Option<u64>
         requires order { IsInOrder (state_of K.QueueCore self.old) }
-        ensures went { WentInOrder K.QueueCore C.Clock 0 self.old [] [] self.new }
+        ensures trace { TraceInOrder K.QueueCore C.Clock 0 self.old [] [] self.new }
         ensures read { HearsIf C.given (is_read_for self.old.is_fresh self.old.timed.time.moment (next_due (K.machine self.old.timed.core)))
             self.old.timed.time self.new.timed.time }
         ensures due { result ≡ (if is_before self.new.timed.time.moment (next_due (K.machine self.old.timed.core))
@@ -346,7 +346,7 @@ impl<C: Clock + Drop, K: QueueCore + Drop> Hub<C, K> {
         ensures logged { self.new.unlogged ≡ none_unlogged }
     {
         let ticks = self.tick_if_due();
-        let _all = self.sort(0);
+        let _all = self.deliver_all(0);
         self.is_fresh = false;
         self.unlogged.log_all(&self.timed.time.clock);
         self.rest(ticks)
@@ -374,58 +374,58 @@ impl<C: Clock + Drop, K: QueueCore + Drop> Hub<C, K> {
         ensures known { self.new.timed.due ≡ next_due (K.machine self.old.timed.core) }
         ensures same { result ≡ false → K.machine self.new.timed.core ≡ K.machine self.old.timed.core }
         ensures notices { self.new.timed.notices ≡ self.old.timed.notices }
-        ensures went { WentInOrder K.QueueCore C.Clock 0 self.old [] [] self.new }
+        ensures trace { TraceInOrder K.QueueCore C.Clock 0 self.old [] [] self.new }
     {
-        let may_tick = self.sort(0);
+        let may_tick = self.deliver_all(0);
         let is_due = self.timed.tick_if_due(0, self.is_fresh, may_tick);
-        self.is_sorted = may_tick & !is_due;
+        self.all_delivered = may_tick & !is_due;
         is_due
     }
 }
 
-// Writes this answer next. The most frequent answers are made anew in their place. Another one is
+// Writes this answer next. The most frequent answers are made anew in the action. Another one is
 // moved there, for which room for the largest answer is copied twice.
 #[inline(always)]
-fn write(place: &mut NextAction, answer: Answer)
-    ensures { place.new ≡ actions.Write answer }
+fn write(action: &mut NextAction, answer: Answer)
+    ensures { action.new ≡ actions.Write answer }
 {
     match answer {
-        Answer::Inserted(id) => place.write(Answer::Inserted(id)),
-        Answer::Reserved(id, body) => place.write(Answer::Reserved(id, body)),
-        Answer::Deleted => place.write(Answer::Deleted),
-        other => write_other(place, other),
+        Answer::Inserted(id) => action.write(Answer::Inserted(id)),
+        Answer::Reserved(id, body) => action.write(Answer::Reserved(id, body)),
+        Answer::Deleted => action.write(Answer::Deleted),
+        other => write_other(action, other),
     }
 }
 
-// Moves an answer to its place. Inlined, like `put_back`: so room for the answer, which is passed to a
+// Moves an answer into the action. Inlined, like `put_back`: so room for the answer, which is passed to a
 // call, is initialized only if the call is made.
 #[inline(always)]
-fn write_other(place: &mut NextAction, answer: Answer)
-    ensures { place.new ≡ actions.Write answer }
+fn write_other(action: &mut NextAction, answer: Answer)
+    ensures { action.new ≡ actions.Write answer }
 {
-    write_moved(place, answer);
+    write_moved(action, answer);
 }
 
 #[inline(never)]
-fn write_moved(place: &mut NextAction, answer: Answer)
-    ensures { place.new ≡ actions.Write answer }
+fn write_moved(action: &mut NextAction, answer: Answer)
+    ensures { action.new ≡ actions.Write answer }
 {
-    place.write(answer);
+    action.write(answer);
 }
 
 // Keeps an answer until there is room for it in the mail of its seat.
 #[inline(never)]
-fn hold(held: &mut Option<(Seat, Answer)>, seat: Seat, answer: Answer)
-    ensures { held.new ≡ Some (seat, answer) }
+fn hold(held_back: &mut Option<(Seat, Answer)>, seat: Seat, answer: Answer)
+    ensures { held_back.new ≡ Some (seat, answer) }
 {
-    *held = Some((seat, answer));
+    *held_back = Some((seat, answer));
 }
 
 // Puts an answer into the mail of its seat and notes that the seat has to be woken, or returns the
 // answer if the mail is full. If the seat does not exist, the answer is dropped.
 fn post(
     mails: &mut Vec<Mail, Global>,
-    woken: &mut Woken,
+    wake_queue: &mut WakeQueue,
     seat: Seat,
     answer: Answer,
 ) -> Result<(), Answer>
@@ -435,9 +435,9 @@ fn post(
         (λ done. (other : ℕ) → other < length mails.old.items → slice_index_or mails.new.items other []
         ≡ slice_index_or mails.old.items other [] ++ answers_to other ((seat, answer) ∷ []))
         (λ back. (back ≡ answer) × (mails.new.items ≡ mails.old.items)) }
-    ensures woken { woken.new ≡ to_wake seat woken.old }
+    ensures wake_queue { wake_queue.new ≡ to_wake seat wake_queue.old }
 {
-    woken.add(seat);
+    wake_queue.add(seat);
     match mails.get_mut(usize::from(seat)) {
         Some(mail) => mail.put(answer),
         None => Ok(()),

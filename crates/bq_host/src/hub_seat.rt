@@ -7,7 +7,7 @@ ghost use Rattle.bq_line.specs.Links.{Calls};
 ghost use Rattle.bq_line.specs.Streams.{StaysOver};
 ghost use Rattle.bq_line.specs.Tending.{GoesOn, IsPlaced, MayEndAt, door_seen};
 ghost use Rattle.bq_host.specs.MailStates.{IsHeldUp, IsInOrder, waiting};
-ghost use Rattle.bq_host.specs.Hubs.{IsInOrderFor, KeepsFresh, WentAt, state_of};
+ghost use Rattle.bq_host.specs.Hubs.{HubTrace, IsInOrderFor, KeepsFresh, state_of};
 
 use crate::hub::Hub;
 use bq_core_api::QueueCore;
@@ -30,8 +30,8 @@ impl<'a, C: Clock + Drop, K: QueueCore + Drop> Link for HubSeat<'a, C, K> {
     ghost is_ready = { λ l. IsInOrderFor K.QueueCore l.seat l.hub.now };
 
     // After the link is dropped, the hub is known by its ghost name.
-    ghost went = { λ first submitted taken last. (last.hub.ghost_name ≡ first.hub.ghost_name) × (last.seat ≡ first.seat) ×
-        WentAt K.QueueCore C.Clock first.seat first.hub.now submitted taken last.hub.now ×
+    ghost trace = { λ first submitted taken last. (last.hub.ghost_name ≡ first.hub.ghost_name) × (last.seat ≡ first.seat) ×
+        HubTrace K.QueueCore C.Clock first.seat first.hub.now submitted taken last.hub.now ×
         KeepsFresh C.given first.hub.now last.hub.now };
 
     // An answer waits for room in the mail of its seat.
@@ -45,13 +45,13 @@ impl<'a, C: Clock + Drop, K: QueueCore + Drop> Link for HubSeat<'a, C, K> {
         self.hub.submit(self.seat, step)
     }
 
-    fn mail(&mut self, place: &mut NextAction) -> bool {
-        self.hub.take_to(self.seat, place)
+    fn mail(&mut self, action: &mut NextAction) -> bool {
+        self.hub.take_to(self.seat, action)
     }
 
     // The hub's mail never sleeps.
-    fn mail_at_once(&mut self, place: &mut NextAction) -> bool {
-        self.hub.take_to(self.seat, place)
+    fn mail_at_once(&mut self, action: &mut NextAction) -> bool {
+        self.hub.take_to(self.seat, action)
     }
 }
 
@@ -64,20 +64,20 @@ pub fn attend<L: Line + Drop, D: Door<Line = L>, C: Clock + Drop, K: QueueCore +
     seat: Seat,
     buffers: &mut Buffers,
 ) -> Progress
-    requires placed { IsPlaced attendant.old.place
+    requires placed { IsPlaced attendant.old.phase
         (door_seen D.Door door.old) }
     requires ready { IsInOrderFor K.QueueCore seat hub.old }
     ensures order { IsInOrder (state_of K.QueueCore hub.new) }
-    // The result is one that this place can have. Unless something moved, the seat submitted
+    // The result is one that this phase can have. Unless something moved, the seat submitted
     // nothing and took nothing.
-    ensures progress { MayEndAt result attendant.old.place }
-    ensures still { (result ≡ Progress.Moved → ⊥) → Calls (WentAt K.QueueCore C.Clock seat) hub.old [] [] hub.new }
+    ensures progress { MayEndAt result attendant.old.phase }
+    ensures still { (result ≡ Progress.Moved → ⊥) → Calls (HubTrace K.QueueCore C.Clock seat) hub.old [] [] hub.new }
     // It reports a step that was not accepted only if an answer waits for room in the mail of its seat,
     // and that no answer has come only if there was none, or one waits for room.
     ensures refused { result ≡ Progress.NotAccepted → IsHeldUp (state_of K.QueueCore hub.new) }
     ensures none { result ≡ Progress.NoMail → (waiting seat (state_of K.QueueCore hub.old) ≡ []) ⊎ IsHeldUp (state_of K.QueueCore hub.new) }
-    ensures went { let at = door_seen D.Door in
-        GoesOn (WentAt K.QueueCore C.Clock seat) hub.old hub.new L.seen attendant.old (at door.old) attendant.new (at door.new) }
+    ensures trace { let at = door_seen D.Door in
+        GoesOn (HubTrace K.QueueCore C.Clock seat) hub.old hub.new L.seen attendant.old (at door.old) attendant.new (at door.new) }
     ensures fresh { KeepsFresh C.given hub.old hub.new }
     ensures same { (first : D) → D.same first door.old → D.same first door.new }
 {
@@ -99,7 +99,7 @@ pub fn act<L: Line, C: Clock + Drop, K: QueueCore + Drop>(
 ) -> Progress
     requires ready { IsInOrderFor K.QueueCore seat hub.old }
     ensures order { IsInOrder (state_of K.QueueCore hub.new) }
-    ensures carried { (submitted : List Step) × (taken : List Answer) × WentAt K.QueueCore C.Clock seat hub.old submitted taken hub.new ×
+    ensures carried { (submitted : List Step) × (taken : List Answer) × HubTrace K.QueueCore C.Clock seat hub.old submitted taken hub.new ×
         CarriedPart result machine.old (L.seen line.old) action.old sent.old machine.new (L.seen line.new) action.new sent.new submitted taken }
     // It reports a step that was not accepted only if an answer waits for room in the mail of its seat,
     // and that no answer has come only if there was none, or one waits for room.

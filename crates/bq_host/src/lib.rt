@@ -11,7 +11,7 @@ pub use mail::{Mail, new_mails};
 pub use notices::Notices;
 pub use seats::new_seats;
 pub use timed_core::{HeardClock, TimedCore, new_core};
-pub use woken::Woken;
+pub use wake_queue::WakeQueue;
 
 mod crew;
 mod fault;
@@ -23,4 +23,4 @@ mod notices;
 mod seats;
 mod start;
 mod timed_core;
-mod woken;
+mod wake_queue;

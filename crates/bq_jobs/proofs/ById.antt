@@ -12,7 +12,7 @@ use Rattle.bq_job.specs.machine.Changes.{job_with}
 use Rattle.bq_job.specs.beside.Lawful.{AreIdsWithin}
 use Rattle.bq_jobs.specs.Changed.{with_changed}
 use Rattle.bq_jobs.specs.Inside.{jobs_of, with_id}
-use Rattle.bq_jobs.specs.Kept.{with_added, without}
+use Rattle.bq_jobs.specs.JobsSeen.{with_added, without}
 use Rattle.bq_jobs.proofs.Changes.{none_changed, others_above, same_back, without_first}
 
 -- numbers compare equal exactly if they are the same

@@ -15,7 +15,7 @@ use Rattle.bq_job.proofs.KeptLemmas.{ids_of_filter}
 use Rattle.bq_job.proofs.ListLemmas.{all_from_members, all_weaker, count_cons}
 use Rattle.bq_job.proofs.LookupLemmas.{found_job, job_found, job_in_rest}
 use Rattle.bq_jobs.specs.Changed.{IgnoresTube, KeepsTube}
-use Rattle.bq_jobs.specs.Kept.{with_added, without}
+use Rattle.bq_jobs.specs.JobsSeen.{with_added, without}
 use Rattle.bq_jobs.specs.Laws.{AddsAtTheEnd, ChosenHasItsId, NextIsFree}
 
 -- the test of two numbers does not depend on their order

@@ -11,7 +11,7 @@ use Rattle.bq_jobs.specs.declared.places.Timer.{Timer}
 use Rattle.bq_jobs.specs.declared.places.Timer.TheVariants as timers
 use Rattle.bq_jobs.specs.declared.job_orders.JobOrders.TheInside.{Inside as Parts}
 use Rattle.bq_jobs.specs.Inside.{jobs_of}
-use Rattle.bq_jobs.specs.Kept.{ranked}
+use Rattle.bq_jobs.specs.JobsSeen.{ranked}
 use Rattle.bq_jobs.specs.PlaceOrder.{first_rank}
 use Rattle.bq_jobs.specs.Places.{timer_place, group_place}
 use Rattle.bq_jobs.specs.Ranks.{first_by, first_held, first_timed, id_in, is_of, is_timed, moment_of, rank_of}
@@ -29,11 +29,11 @@ numbered (holders.Held seat) j p e h = held_numbered seat j.state j p e h
 numbered (holders.Listed l) j p e h = listed_numbered l.list l.tube j.state j p e h
 
 timed : (t : Timer) (j : Job) → is_timed t j ≡ in_group timer_cmp t (timer_place j)
-timed timers.Due j = due_grouped j.state j
+timed timers.Delay j = due_grouped j.state j
 timed timers.Lease j = lease_grouped j.state j
 
 timed_numbered : (t : Timer) (j : Job) (p : ShelfPlace Timer) → timer_place j ≡ Some p → is_timed t j ≡ true → p.at ≡ moment_of t j
-timed_numbered timers.Due j p e h = due_numbered j.state j p e h
+timed_numbered timers.Delay j p e h = due_numbered j.state j p e h
 timed_numbered timers.Lease j p e h = lease_numbered j.state j p e h
 
 module _ (s : Parts) (h : AreShelved s) where

@@ -17,7 +17,7 @@ use Rattle.bq_job.proofs.ChoiceLemmas.{first_of_is, first_of_none_passes, pair_o
 use Rattle.bq_job.proofs.ListLemmas.{all_from_members, found_passes, list_any_not}
 use Rattle.bq_jobs.specs.declared.places.ShelfPlace.{ShelfPlace}
 use Rattle.bq_jobs.specs.Inside.{IsOrderOf, Order, has_place, is_place}
-use Rattle.bq_jobs.specs.Kept.{ranked}
+use Rattle.bq_jobs.specs.JobsSeen.{ranked}
 use Rattle.bq_jobs.specs.PlaceOrder.{place_total, front, first_rank, holds_place, place_cmp, rank_in_group}
 use Rattle.bq_jobs.proofs.Changes.{found_by_id, found_id}
 use Rattle.bq_jobs.proofs.Choice.{equal_from, found_below, from_found, from_least, from_not_below, none_below}
@@ -125,24 +125,24 @@ module _ {G : Type 0} {C : G → G → Ordering} (o : IsTotalOrder C) (g : G) wh
           absurd (cc))
 
       -- the job of a place in the order
-      record Standing (q : ShelfPlace G) : Type 0 where
+      record PriAndState (q : ShelfPlace G) : Type 0 where
         job : Job
         found : job_with q.id jobs ≡ Some job
         place : ShelfPlace G
         is : place_of job ≡ Some place
         ties : place_cmp C q place ≡ Equal
 
-      standing_at : (q : ShelfPlace G) (j : Job) (p : Option (ShelfPlace G)) → job_with q.id jobs ≡ Some j → place_of j ≡ p
-          → is_place C q p ≡ true → Standing q
-      standing_at q j None found e t = absurd cc
-      standing_at q j (Some p) found e t = record { job = j; found = found; place = p; is = e; ties = equal_from (place_cmp C q p) t }
+      pri_and_state_at : (q : ShelfPlace G) (j : Job) (p : Option (ShelfPlace G)) → job_with q.id jobs ≡ Some j → place_of j ≡ p
+          → is_place C q p ≡ true → PriAndState q
+      pri_and_state_at q j None found e t = absurd cc
+      pri_and_state_at q j (Some p) found e t = record { job = j; found = found; place = p; is = e; ties = equal_from (place_cmp C q p) t }
 
-      standing_in : (q : ShelfPlace G) (u : Option Job) → job_with q.id jobs ≡ u → has_place C place_of q u ≡ true → Standing q
-      standing_in q None found t = absurd cc
-      standing_in q (Some j) found t = standing_at q j (place_of j) found refl t
+      pri_and_state_in : (q : ShelfPlace G) (u : Option Job) → job_with q.id jobs ≡ u → has_place C place_of q u ≡ true → PriAndState q
+      pri_and_state_in q None found t = absurd cc
+      pri_and_state_in q (Some j) found t = pri_and_state_at q j (place_of j) found refl t
 
-      standing : (q : ShelfPlace G) → is_some (holds_place C q order.entries) ≡ true → Standing q
-      standing q t = standing_in q (job_with q.id jobs) refl (sym (h.places q) ∙ t)
+      pri_and_state : (q : ShelfPlace G) → is_some (holds_place C q order.entries) ≡ true → PriAndState q
+      pri_and_state q t = pri_and_state_in q (job_with q.id jobs) refl (sym (h.places q) ∙ t)
 
       tied_group : (k q : ShelfPlace G) → is_eq (C g k.group) ≡ true → is_eq (C g q.group) ≡ true → C k.group q.group ≡ Equal
       tied_group k q a b = sym (o.congr g k.group q.group (equal_from (C g k.group) a)) ∙ equal_from (C g q.group) b
@@ -156,7 +156,7 @@ module _ {G : Type 0} {C : G → G → Ordering} (o : IsTotalOrder C) (g : G) wh
       one_of_group : (e : ShelfPlace G × Unit {0}) → entry_from (place_cmp C (front C g)) order.entries ≡ Some e
           → is_eq (C g e.0.group) ≡ true → option_map (ranked number) (first_of passes before jobs) ≡ Some (rank_at e)
       one_of_group e n t =
-          let st = standing e.0 (from_found (place_total o) (front C g) e order.entries n) in
+          let st = pri_and_state e.0 (from_found (place_total o) (front C g) e order.entries n) in
           let x = st.job in
           let id : x.id ≡ e.0.id = found_id e.0.id jobs x st.found in
           let rest = ordering_then (nat_cmp e.0.at st.place.at) (nat_cmp e.0.id st.place.id) in

@@ -140,7 +140,7 @@ listed_grouped lists.Buried tube (states.Reserved seat deadline) j =
     apart (number_in tube) seat 2 3 (name_cmp tube []) (omega arith) (omega arith) refl
 listed_grouped lists.Buried tube (states.Buried number) j = list_ties 2 tube j.tube
 
-pub due_grouped : (s : JobState) (j : Job) → is_delayed s ≡ in_group timer_cmp timers.Due (in_timers s j)
+pub due_grouped : (s : JobState) (j : Job) → is_delayed s ≡ in_group timer_cmp timers.Delay (in_timers s j)
 due_grouped states.Ready j = refl
 due_grouped (states.Delayed due) j = refl
 due_grouped (states.Reserved seat deadline) j = refl

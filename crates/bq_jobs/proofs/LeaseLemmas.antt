@@ -11,7 +11,7 @@ use Rattle.std.proofs.lemmas.Bool.Decides.{nat_tests}
 use Rattle.bq_job.specs.machine.Changes.{is_pair_before}
 use Rattle.bq_jobs.specs.declared.places.ShelfPlace.{ShelfPlace}
 use Rattle.bq_jobs.specs.declared.places.Timer.{Timer}
-use Rattle.bq_jobs.specs.declared.places.Timer.TheVariants.{Due, Lease}
+use Rattle.bq_jobs.specs.declared.places.Timer.TheVariants.{Delay, Lease}
 use Rattle.bq_jobs.specs.declared.timers.FirstLease.{FirstLease}
 use Rattle.bq_jobs.specs.declared.timers.FirstLease.TheVariants.{Unknown, Known}
 use Rattle.bq_jobs.specs.FirstLeases.{IsFirstLease, lease_with, lease_without}
@@ -21,7 +21,7 @@ use Rattle.bq_jobs.proofs.Firsts.{timer_cmp}
 
 -- the first lease after a place is added
 abbrev first_with : Timer → ℕ × ℕ → Option (ℕ × ℕ) → Option (ℕ × ℕ)
-first_with Due rank known = known
+first_with Delay rank known = known
 first_with Lease rank None = Some rank
 first_with Lease rank (Some other) = Some (if is_pair_before rank.0 rank.1 other.0 other.1 then rank else other)
 
@@ -74,15 +74,16 @@ entered_beside : (t u : Timer) (a i b j : ℕ) (es : List (ShelfPlace Timer × U
     → first (insert_entry compare es (place t a i) tt) ≡ first_with t (a, i) (first es)
     → first (match_ordering o ((place t a i, tt) ∷ (place u b j, tt) ∷ es) ((place u b j, tt) ∷ es)
     ((place u b j, tt) ∷ insert_entry compare es (place t a i) tt)) ≡ first_with t (a, i) (first ((place u b j, tt) ∷ es))
-entered_beside Due Due a i b j es Less h k = refl
-entered_beside Due Due a i b j es Equal h k = refl
-entered_beside Due Due a i b j es Greater h k = k
-entered_beside Due Lease a i b j es Less h k = refl
-entered_beside Due Lease a i b j es Equal h k = refl
-entered_beside Due Lease a i b j es Greater h k = lease_first b j (insert_entry compare es (place Due a i) tt) ∙ sym (lease_first b j es)
-entered_beside Lease Due a i b j es Less h k = absurd cc
-entered_beside Lease Due a i b j es Equal h k = absurd cc
-entered_beside Lease Due a i b j es Greater h k = k
+entered_beside Delay Delay a i b j es Less h k = refl
+entered_beside Delay Delay a i b j es Equal h k = refl
+entered_beside Delay Delay a i b j es Greater h k = k
+entered_beside Delay Lease a i b j es Less h k = refl
+entered_beside Delay Lease a i b j es Equal h k = refl
+entered_beside Delay Lease a i b j es Greater h k = lease_first b j (insert_entry compare es (place Delay a i) tt)
+    ∙ sym (lease_first b j es)
+entered_beside Lease Delay a i b j es Less h k = absurd cc
+entered_beside Lease Delay a i b j es Equal h k = absurd cc
+entered_beside Lease Delay a i b j es Greater h k = k
 entered_beside Lease Lease a i b j es Less h k =
     lease_first a i ((place Lease b j, tt) ∷ es)
     ∙ sym (ap (first_with Lease (a, i)) (lease_first b j es) ∙ (rw (before_less a i b j h) refl))
@@ -97,7 +98,7 @@ first_entered : (p : ShelfPlace Timer) (es : List (ShelfPlace Timer × Unit {0})
 first_entered p [] = first_alone p.group p.at p.id
   where
     first_alone : (t : Timer) (a i : ℕ) → first ((place t a i, tt) ∷ []) ≡ first_with t (a, i) None
-    first_alone Due a i = refl
+    first_alone Delay a i = refl
     first_alone Lease a i = lease_first a i []
 first_entered p (e ∷ es) = entered_beside p.group e.0.group p.at p.id e.0.at e.0.id es (compare p e.0) refl (first_entered p es)
 
@@ -105,8 +106,8 @@ first_entered p (e ∷ es) = entered_beside p.group e.0.group p.at p.id e.0.at e
 entered_at : (t : Timer) (a i : ℕ) (lease : FirstLease) (es : List (ShelfPlace Timer × Unit {0})) → IsFirstLease timer_cmp lease es
     → first (insert_entry compare es (place t a i) tt) ≡ first_with t (a, i) (first es)
     → IsFirstLease timer_cmp (lease_with t (a, i) lease) (insert_entry compare es (place t a i) tt)
-entered_at Due a i Unknown es h k = tt
-entered_at Due a i (Known known) es h k = h ∙ sym k
+entered_at Delay a i Unknown es h k = tt
+entered_at Delay a i (Known known) es h k = h ∙ sym k
 entered_at Lease a i Unknown es h k = tt
 entered_at Lease a i (Known None) es h k = ap (first_with Lease (a, i)) h ∙ sym k
 entered_at Lease a i (Known (Some (b, j))) es h k =
@@ -125,16 +126,16 @@ lease_entered lease p es h = entered_at p.group p.at p.id lease es h (first_ente
 
 -- a removed delay changes nothing
 delay_beside : (a i : ℕ) (u : Timer) (b j : ℕ) (es : List (ShelfPlace Timer × Unit {0}))
-    → first (remove_entry (is_at (compare (place Due a i))) es) ≡ first es
-    → first (remove_entry (is_at (compare (place Due a i))) ((place u b j, tt) ∷ es)) ≡ first ((place u b j, tt) ∷ es)
-delay_beside a i Due b j es k =
-    elim (cases_Bool (is_at (compare (place Due a i)) (place Due b j))) [
+    → first (remove_entry (is_at (compare (place Delay a i))) es) ≡ first es
+    → first (remove_entry (is_at (compare (place Delay a i))) ((place u b j, tt) ∷ es)) ≡ first ((place u b j, tt) ∷ es)
+delay_beside a i Delay b j es k =
+    elim (cases_Bool (is_at (compare (place Delay a i)) (place Delay b j))) [
       | inl here ↦ rw here refl
       | inr other ↦ rw other k
     ]
-delay_beside a i Lease b j es k = lease_first b j (remove_entry (is_at (compare (place Due a i))) es) ∙ sym (lease_first b j es)
+delay_beside a i Lease b j es k = lease_first b j (remove_entry (is_at (compare (place Delay a i))) es) ∙ sym (lease_first b j es)
 
-delay_left : (a i : ℕ) (es : List (ShelfPlace Timer × Unit {0})) → first (remove_entry (is_at (compare (place Due a i))) es) ≡ first es
+delay_left : (a i : ℕ) (es : List (ShelfPlace Timer × Unit {0})) → first (remove_entry (is_at (compare (place Delay a i))) es) ≡ first es
 delay_left a i [] = refl
 delay_left a i (e ∷ es) = delay_beside a i e.0.group e.0.at e.0.id es (delay_left a i es)
 
@@ -151,7 +152,7 @@ other_beside : (a i : ℕ) (u : Timer) (b j : ℕ) (es : List (ShelfPlace Timer 
     → (first ((place u b j, tt) ∷ es) ≡ Some (a, i) → ⊥)
     → ((first es ≡ Some (a, i) → ⊥) → first (remove_entry (is_at (compare (place Lease a i))) es) ≡ first es)
     → first (remove_entry (is_at (compare (place Lease a i))) ((place u b j, tt) ∷ es)) ≡ first ((place u b j, tt) ∷ es)
-other_beside a i Due b j es m k = k m
+other_beside a i Delay b j es m k = k m
 other_beside a i Lease b j es m k =
     elim (cases_Bool (is_at (compare (place Lease a i)) (place Lease b j))) [
       | inl here ↦ absurd (m (lease_first b j es ∙ same_rank a i b j here))
@@ -179,8 +180,8 @@ ranks_apart a i b j other g =
 
 left_at : (t : Timer) (a i : ℕ) (lease : FirstLease) (es : List (ShelfPlace Timer × Unit {0})) → IsFirstLease timer_cmp lease es
     → IsFirstLease timer_cmp (lease_without t (a, i) lease) (remove_entry (is_at (compare (place t a i))) es)
-left_at Due a i Unknown es h = tt
-left_at Due a i (Known known) es h = h ∙ sym (delay_left a i es)
+left_at Delay a i Unknown es h = tt
+left_at Delay a i (Known known) es h = h ∙ sym (delay_left a i es)
 left_at Lease a i Unknown es h = tt
 left_at Lease a i (Known None) es h = h ∙ sym (other_left a i es (λ e. let g = h ∙ e in absurd cc))
 left_at Lease a i (Known (Some (b, j))) es h =

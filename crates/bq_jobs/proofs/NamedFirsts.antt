@@ -8,7 +8,7 @@ use Rattle.bq_job.specs.machine.Changes.{better_of, first_of, is_held_by, is_pai
 use Rattle.bq_jobs.specs.declared.places.JobList.{JobList}
 use Rattle.bq_jobs.specs.declared.places.Timer.{Timer}
 use Rattle.bq_jobs.specs.declared.places.Timer.TheVariants as timers
-use Rattle.bq_jobs.specs.Kept.{ranked}
+use Rattle.bq_jobs.specs.JobsSeen.{ranked}
 use Rattle.bq_jobs.specs.Leases.{deadline_of, is_lease_before}
 use Rattle.bq_jobs.specs.Names.{number_in}
 use Rattle.bq_jobs.specs.Numbering.{AreNumbered, AreRegistered, IsPaired, Numbering, named, number_of}
@@ -71,7 +71,7 @@ seat_told k seat rows = search (first_told, all_alike)
 pub timed_told : (k : Numbering) (t : Timer) (rows : List Job)
     → option_map (ranked (moment_of t)) (first_by (is_timed t) (moment_of t) (map (named k) rows)) ≡ first_timed t rows
 unfolding first_timed
-timed_told k timers.Due rows = search (first_told, all_alike)
+timed_told k timers.Delay rows = search (first_told, all_alike)
 timed_told k timers.Lease rows = search (first_told, all_alike)
 
 -- A tube that is not registered has no first job.

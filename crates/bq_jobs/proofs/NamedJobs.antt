@@ -16,16 +16,16 @@ use Rattle.bq_job.specs.reading.TubeName.{is_same_name}
 use Rattle.bq_job.specs.beside.Lawful.{AreIdsWithin}
 use Rattle.bq_job.proofs.KeptLemmas.{ids_of_map}
 use Rattle.bq_job.proofs.LookupLemmas.{job_in_map}
-use Rattle.bq_jobs.specs.Kept.{ComparesAtMost, Kept, with_added, without}
+use Rattle.bq_jobs.specs.JobsSeen.{ComparesAtMost, JobsSeen, with_added, without}
 use Rattle.bq_jobs.specs.Changed.{IgnoresTube, moved_by, numbered_move, numbered_removal, with_changed}
-use Rattle.bq_jobs.specs.Numbering.{AreNumbered, AreRegistered, Extends, HasNumber, IsNumbered, IsPaired, Numbering, kept_named}
+use Rattle.bq_jobs.specs.Numbering.{AreNumbered, AreRegistered, Extends, HasNumber, IsNumbered, IsPaired, Numbering, seen_named}
 use Rattle.bq_jobs.specs.Numbering.{name_of, named, number_of}
 use Rattle.bq_jobs.specs.Names.{number_in}
 use Rattle.bq_jobs.specs.Searching.{FindsById}
 use Rattle.bq_jobs.specs.Told.{moved_told, removed_told, shared_told}
 use Rattle.bq_jobs.specs.Seen.{IsBodyOf, IsTubeOf, but_for_tube}
 use Rattle.bq_jobs.specs.Sharing.{ChangesShared, SharesAndChanges}
-use Rattle.bq_jobs.specs.declared.job_orders.Moved.{Moved}
+use Rattle.bq_jobs.specs.declared.job_orders.JobMove.{JobMove}
 use Rattle.bq_jobs.specs.declared.job_orders.NumberedMove.{NumberedMove}
 use Rattle.bq_jobs.proofs.Changes.{stays_in}
 use Rattle.bq_jobs.proofs.NumberingLemmas.{name_kept, number_other, same_names}
@@ -231,7 +231,7 @@ pub same_looks : (r : Option (Bor Job)) → option_map (λ row. but_for_tube row
 same_looks r = grind arith
 
 -- A bound on the comparisons for records is a bound for their jobs.
-pub counted_as : (n : ℕ) (k : Numbering) (rows old new : Kept) → kept_named rows k ≡ old → ComparesAtMost n rows new
+pub counted_as : (n : ℕ) (k : Numbering) (rows old new : JobsSeen) → seen_named rows k ≡ old → ComparesAtMost n rows new
     → ComparesAtMost n old new
 counted_as n k rows old new is few = grind (arith, common_steps)
 
@@ -249,9 +249,9 @@ some_named : (k : Numbering) (id : ℕ) (rows : List Job) → is_some (job_with 
 some_named k id rows = grind (arith, job_named)
 
 -- What a search does to records, it does to their jobs.
-module _ {A B : Type 0} (k : Numbering) (id : ℕ) (rows new old : Kept) (row : Option A) (told : Option B) (is : kept_named rows k ≡ old)
+module _ {A B : Type 0} (k : Numbering) (id : ℕ) (rows new old : JobsSeen) (row : Option A) (told : Option B) (is : seen_named rows k ≡ old)
     (same : is_some told ≡ is_some row) where
-  pub finds_named : FindsById id row rows new → FindsById id told old (kept_named new k)
+  pub finds_named : FindsById id row rows new → FindsById id told old (seen_named new k)
   finds_named f = grind (arith, common_steps, some_named)
 
 pub no_name : (k l : Numbering) (id : ℕ) (rows : List Job) → AreRegistered k rows → IsPaired l → l.numbers ≡ k.numbers → (n : List ℕ)
@@ -279,29 +279,29 @@ body_told k id rows (Ok body) is = body_is k id rows body is
 body_told k id rows (Err e) is = tt
 
 -- A change of a record that also returns its body is the same change of its job.
-module _ (k : Numbering) (id : ℕ) (f : Job → Job) (ignores : IgnoresTube f) (rows new old : Kept) (is : kept_named rows k ≡ old)
+module _ (k : Numbering) (id : ℕ) (f : Job → Job) (ignores : IgnoresTube f) (rows new old : JobsSeen) (is : seen_named rows k ≡ old)
     (h : AreRegistered k rows.jobs) where
   abbrev IsReported : NumberedMove → Type 0
   IsReported m = Some m ≡ option_map (numbered_move f) (job_with id rows.jobs)
 
-  named_shared : (body : List ℕ) → ChangesShared id f body rows new → ChangesShared id f body old (kept_named new k)
-  named_shared body c = subst (λ i. ChangesShared id f body i (kept_named new k)) is (record {
+  named_shared : (body : List ℕ) → ChangesShared id f body rows new → ChangesShared id f body old (seen_named new k)
+  named_shared body c = subst (λ i. ChangesShared id f body i (seen_named new k)) is (record {
     body_is = body_is k id rows.jobs body c.body_is;
     jobs = ap (map (named k)) c.jobs ∙ sym (changed_named k id f ignores rows.jobs);
     ordered = ids_named k 0 (2 ^ 64) rows.jobs c.ordered;
     tubes = refl;
     room = c.room;
-    comparisons = counted_as 7 k rows (kept_named rows k) new refl c.comparisons;
+    comparisons = counted_as 7 k rows (seen_named rows k) new refl c.comparisons;
   })
 
-  abbrev IsReportedOf : List ℕ × Moved → Type 0
+  abbrev IsReportedOf : List ℕ × JobMove → Type 0
   IsReportedOf r = (Some r.1 ≡ option_map (moved_by f) (job_with id old.jobs)) × HasNumber r.1.tube r.0 old.tubes
 
   named_report : (m : NumberedMove) → IsReported m → IsReportedOf (moved_told k m)
   named_report m told = grind (arith, told_moved k id f ignores rows.jobs, number_moved k f id rows.jobs h)
 
   pub shares_named : {E : Type 0} (r : Option (Result (NumberedMove × List ℕ) E)) → SharesAndChanges IsReported id f r rows new
-      → SharesAndChanges IsReportedOf id f (shared_told k r) old (kept_named new k)
+      → SharesAndChanges IsReportedOf id f (shared_told k r) old (seen_named new k)
   shares_named None c = let none : Option NumberedMove = None in finds_named k id rows new old none none is refl c
   shares_named (Some (Err e)) c = finds_named k id rows new old (Some e) (Some e) is refl c
   shares_named (Some (Ok s)) c = (named_report s.0 c.0, named_shared s.1 c.1)

@@ -17,7 +17,7 @@ use Rattle.bq_job.specs.machine.Changes.{job_with}
 use Rattle.bq_job.specs.beside.Lawful.{AreIdsWithin}
 use Rattle.bq_jobs.specs.declared.places.ShelfPlace.{ShelfPlace}
 use Rattle.bq_jobs.specs.Inside.{IsOrderOf, Order, has_place}
-use Rattle.bq_jobs.specs.Kept.{with_added, without}
+use Rattle.bq_jobs.specs.JobsSeen.{with_added, without}
 use Rattle.bq_jobs.specs.Moves.{CanMove}
 use Rattle.bq_jobs.specs.PlaceOrder.{place_cmp, place_total, holds_place, with_place, without_place}
 use Rattle.bq_jobs.proofs.Changes.{count_added, count_without, found_among_added, found_id}

@@ -17,8 +17,8 @@ use Rattle.bq_jobs.specs.contracts.places.GroupOrd.TheImpl.Laws as group_laws
 use Rattle.bq_jobs.specs.contracts.places.TimerOrd.TheImpl.Laws as timer_laws
 use Rattle.bq_jobs.specs.declared.job_orders.JobOrders.TheInside.{Inside as Parts}
 use Rattle.bq_jobs.specs.Changed.{KeepsId, with_changed}
-use Rattle.bq_jobs.specs.Inside.{ById, IsOrderOf, IsShelved, jobs_of, kept_in, with_id}
-use Rattle.bq_jobs.specs.Kept.{Kept, search_bound, with_added, without}
+use Rattle.bq_jobs.specs.Inside.{ById, IsOrderOf, IsShelved, jobs_of, seen_in, with_id}
+use Rattle.bq_jobs.specs.JobsSeen.{JobsSeen, search_bound, with_added, without}
 use Rattle.bq_jobs.specs.PlaceOrder.{with_place, without_place}
 use Rattle.bq_jobs.specs.Places.{timer_place, group_place}
 use Rattle.bq_index.specs.Removed.{removed_if}
@@ -104,7 +104,7 @@ shelved_added j s n h l free a =
     })
 
 -- after a removal
-pub record Removed (id : ℕ) (j : Job) (s n : Parts) : Type 0 where
+pub record JobRemoval (id : ℕ) (j : Job) (s n : Parts) : Type 0 where
   pub by_id : n.by_id.entries ≡ remove_entry (is_at (nat_cmp id)) s.by_id.entries
   pub room : n.by_id.spare ≡ s.by_id.spare + 1
   pub groups : n.groups.entries ≡ without_place group_cmp (group_place j) s.groups.entries
@@ -113,7 +113,7 @@ pub record Removed (id : ℕ) (j : Job) (s n : Parts) : Type 0 where
   pub timer_spare : n.timers.spare ≡ s.timers.spare + cond (is_some (timer_place j)) 1 0
 
 pub shelved_removed : (id : ℕ) (j : Job) (s n : Parts) → AreShelved s → job_with id (jobs_of s.by_id.entries) ≡ Some j
-    → Removed id j s n → AreShelved n
+    → JobRemoval id j s n → AreShelved n
 shelved_removed id j s n h found a =
     let jobs = jobs_of s.by_id.entries in
     shelved_from n (without id jobs) (record {
@@ -158,24 +158,24 @@ shelved_same id s by_id h none entries =
     shelved_kept s by_id h (entries ∙ entries_removed id s h ∙ ap (map with_id) same ∙ sym h.by_own_id)
 
 -- what a removal does
-pub removes : {A : Type 0} (id : ℕ) (s n : Parts) (old : Kept) (removed : Option A) → AreShelved s
-    → kept_in s.by_id s.groups s.timers ≡ old → n.by_id.entries ≡ remove_entry (is_at (nat_cmp id)) s.by_id.entries
+pub removes : {A : Type 0} (id : ℕ) (s n : Parts) (old : JobsSeen) (removed : Option A) → AreShelved s
+    → seen_in s.by_id s.groups s.timers ≡ old → n.by_id.entries ≡ remove_entry (is_at (nat_cmp id)) s.by_id.entries
     → n.by_id.spare ≡ s.by_id.spare + cond (is_some removed) 1 0 → compared s ≤ compared n
-    → compared n ≤ compared s + 4 * search_bound (jobs_of s.by_id.entries) → Removes id removed old (kept_in n.by_id n.groups n.timers)
+    → compared n ≤ compared s + 4 * search_bound (jobs_of s.by_id.entries) → Removes id removed old (seen_in n.by_id n.groups n.timers)
 removes id s n old removed h is entries spare l u =
     let jobs : jobs_of n.by_id.entries ≡ without id (jobs_of s.by_id.entries) = ap jobs_of entries ∙ jobs_removed id s h in
-    let seen = kept_in s.by_id s.groups s.timers in
-    subst (λ m. Removes id removed m (kept_in n.by_id n.groups n.timers)) is
+    let seen = seen_in s.by_id s.groups s.timers in
+    subst (λ m. Removes id removed m (seen_in n.by_id n.groups n.timers)) is
     (jobs, spare, ap (job_with id) jobs ∙ not_there id (jobs_of s.by_id.entries), few_more 4 seen seen _ _ refl refl l u)
 
 -- what a removal does that asks a test first
-pub removes_if : (id : ℕ) (s n : Parts) (old : Kept) (removed : Option Job) → AreShelved s
-    → kept_in s.by_id s.groups s.timers ≡ old → n.by_id.entries ≡ removed_if (is_at (nat_cmp id)) removed s.by_id.entries
+pub removes_if : (id : ℕ) (s n : Parts) (old : JobsSeen) (removed : Option Job) → AreShelved s
+    → seen_in s.by_id s.groups s.timers ≡ old → n.by_id.entries ≡ removed_if (is_at (nat_cmp id)) removed s.by_id.entries
     → n.by_id.spare ≡ s.by_id.spare + cond (is_some removed) 1 0 → compared s ≤ compared n
-    → compared n ≤ compared s + 4 * search_bound (jobs_of s.by_id.entries) → RemovesIf id removed old (kept_in n.by_id n.groups n.timers)
+    → compared n ≤ compared s + 4 * search_bound (jobs_of s.by_id.entries) → RemovesIf id removed old (seen_in n.by_id n.groups n.timers)
 removes_if id s n old removed h is entries spare l u =
-    let seen = kept_in s.by_id s.groups s.timers in
-    subst (λ m. RemovesIf id removed m (kept_in n.by_id n.groups n.timers)) is
+    let seen = seen_in s.by_id s.groups s.timers in
+    subst (λ m. RemovesIf id removed m (seen_in n.by_id n.groups n.timers)) is
     (ap jobs_of entries ∙ of removed, spare, few_more 4 seen seen _ _ refl refl l u)
   where
     of : (o : Option Job) → jobs_of (removed_if (is_at (nat_cmp id)) o s.by_id.entries)

@@ -8,8 +8,8 @@ use Rattle.bq_index.specs.Removed.{passing}
 use Rattle.bq_job.specs.declared.job.Job.{Job}
 use Rattle.bq_job.specs.machine.Changes.{job_with}
 use Rattle.bq_jobs.specs.Changed.{AsksNoTube, entry_at, removed_from, numbered_removal}
-use Rattle.bq_jobs.specs.Kept.{Kept, without}
-use Rattle.bq_jobs.specs.Numbering.{AreRegistered, HasNumber, IsNumbered, Numbering, kept_named, named}
+use Rattle.bq_jobs.specs.JobsSeen.{JobsSeen, without}
+use Rattle.bq_jobs.specs.Numbering.{AreRegistered, HasNumber, IsNumbered, Numbering, named, seen_named}
 use Rattle.bq_jobs.specs.Room.{RemovesIf}
 use Rattle.bq_jobs.specs.Told.{removed_told}
 use Rattle.bq_jobs.specs.declared.job_orders.JobOrders.TheInside.{Inside as Parts}
@@ -75,15 +75,15 @@ named_if : (k : Numbering) (id : ℕ) (rows : List Job) (b : Bool)
 named_if k id rows true = sym (without_named k id rows)
 named_if k id rows false = refl
 
-module _ {A B : Type 0} (k : Numbering) (id : ℕ) (rows new old : Kept) (row : Option A) (told : Option B) (is : kept_named rows k ≡ old)
+module _ {A B : Type 0} (k : Numbering) (id : ℕ) (rows new old : JobsSeen) (row : Option A) (told : Option B) (is : seen_named rows k ≡ old)
     (same : is_some told ≡ is_some row) where
-  pub removes_named_if : RemovesIf id row rows new → RemovesIf id told old (kept_named new k)
+  pub removes_named_if : RemovesIf id row rows new → RemovesIf id told old (seen_named new k)
   removes_named_if r =
-      subst (λ m. RemovesIf id told m (kept_named new k)) is (
+      subst (λ m. RemovesIf id told m (seen_named new k)) is (
         ap (map (named k)) r.0 ∙ named_if k id rows.jobs (is_some row)
             ∙ ap (λ b. if b then without id (map (named k) rows.jobs) else map (named k) rows.jobs) (sym same),
         r.1 ∙ ap (λ b. rows.room + (if b then 1 else 0)) (sym same),
-        counted_as 4 k rows (kept_named rows k) new refl r.2,
+        counted_as 4 k rows (seen_named rows k) new refl r.2,
       )
 
 -- what the search takes for a removal that asks a test

@@ -16,8 +16,8 @@ use Rattle.bq_jobs.specs.declared.job_orders.JobOrders.TheInside.{Inside as Part
 use Rattle.bq_jobs.specs.declared.places.Holder.{Holder}
 use Rattle.bq_jobs.specs.declared.places.ShelfPlace.{ShelfPlace}
 use Rattle.bq_jobs.specs.declared.places.Timer.{Timer}
-use Rattle.bq_jobs.specs.Inside.{ById, IsShelved, Order, jobs_of, kept_in}
-use Rattle.bq_jobs.specs.Kept.{ComparesAtMost, Kept, search_bound, with_added}
+use Rattle.bq_jobs.specs.Inside.{ById, IsShelved, Order, jobs_of, seen_in}
+use Rattle.bq_jobs.specs.JobsSeen.{ComparesAtMost, JobsSeen, search_bound, with_added}
 use Rattle.bq_jobs.specs.Lent.{IsCounted}
 use Rattle.bq_jobs.specs.PlaceOrder.{ComparesTwice, first_rank, holds_place, with_place, without_place}
 use Rattle.bq_jobs.specs.Places.{timer_place, group_place}
@@ -63,29 +63,34 @@ module _ (by_id : ById) (groups : Order Holder) (timers : Order Timer) (h : IsSh
       λ p e. held_place timer_laws.total-law timer_place timer_own id j (jobs_of by_id.entries) by_id.spare timers h.in_timers found p
       (sym is ∙ e)
 
-  module _ (old : Kept) (is : kept_in by_id groups timers ≡ old) where
+  module _ (old : JobsSeen) (is : seen_in by_id groups timers ≡ old) where
     -- the first place of a group is that of the first job,
     pub first_in_group : (g : Holder) → first_rank group_cmp g groups.entries ≡ first_held g old.jobs
-    first_in_group g = group_first s h g ∙ ap (λ (m : Kept). first_held g m.jobs) is
+    first_in_group g = group_first s h g ∙ ap (λ (m : JobsSeen). first_held g m.jobs) is
 
     pub first_in_timers : (t : Timer) → first_rank timer_cmp t timers.entries ≡ first_timed t old.jobs
-    first_in_timers t = timer_first s h t ∙ ap (λ (m : Kept). first_timed t m.jobs) is
+    first_in_timers t = timer_first s h t ∙ ap (λ (m : JobsSeen). first_timed t m.jobs) is
 
     -- and a search for it changes nothing.
-    pub groups_searched : (new : Order Holder) → ComparesFew groups new → Searches 1 old (kept_in by_id new timers)
+    pub groups_searched : (new : Order Holder) → ComparesFew groups new → Searches 1 old (seen_in by_id new timers)
     groups_searched new few =
-        searched 1 (kept_in by_id groups timers) old _ _ is refl (omega (arith, few)) (omega (arith, few, group_search s h))
+        searched 1 (seen_in by_id groups timers) old _ _ is refl (omega (arith, few)) (omega (arith, few, group_search s h))
 
-    pub timers_searched : (new : Order Timer) → ComparesFew timers new → Searches 1 old (kept_in by_id groups new)
+    pub timers_searched : (new : Order Timer) → ComparesFew timers new → Searches 1 old (seen_in by_id groups new)
     timers_searched new few =
-        searched 1 (kept_in by_id groups timers) old _ _ is refl (omega (arith, few)) (omega (arith, few, timer_search s h))
+        searched 1 (seen_in by_id groups timers) old _ _ is refl (omega (arith, few)) (omega (arith, few, timer_search s h))
 
     -- Neither does a search for an id.
     pub id_searched : (new : ById) → new.entries ≡ by_id.entries → new.spare ≡ by_id.spare → ComparesFew by_id new
-        → IsCounted old (kept_in new groups timers)
+        → IsCounted old (seen_in new groups timers)
     id_searched new entries spare few =
-        let count = few_more 1 (kept_in by_id groups timers) old _ _ is refl (omega (arith, few)) (omega (arith, few, id_search by_id)) in
-        (ap jobs_of entries ∙ ap (λ (m : Kept). m.jobs) is, spare ∙ ap (λ (m : Kept). m.room) is, ap (λ (m : Kept). m.tubes) is, count)
+        let count = few_more 1 (seen_in by_id groups timers) old _ _ is refl (omega (arith, few)) (omega (arith, few, id_search by_id)) in (
+          ap jobs_of entries ∙ ap (λ (m : JobsSeen). m.jobs) is,
+          spare
+              ∙ ap (λ (m : JobsSeen). m.room) is,
+          ap (λ (m : JobsSeen). m.tubes) is,
+          count,
+        )
 
     -- After an addition
     pub shelved_with : (id : ℕ) (j : Job) (ids : ById) (gs : Order Holder) (ts : Order Timer) (p : Option (ShelfPlace Holder))
@@ -95,7 +100,7 @@ module _ (by_id : ById) (groups : Order Holder) (timers : Order Timer) (h : IsSh
         → q ≡ timer_place j → ts.entries ≡ with_place timer_cmp q timers.entries → ts.spare + cond (is_some q) 1 0 ≡ timers.spare
         → IsShelved group_cmp timer_cmp ids gs ts
     shelved_with id j ids gs ts p q own few free entries room p_is g g_spare q_is t t_spare =
-        shelved_added j s (parts_of ids gs ts) h (omega (arith, own, few)) (ap (λ (m : Kept). job_with j.id m.jobs) is ∙ free) (record {
+        shelved_added j s (parts_of ids gs ts) h (omega (arith, own, few)) (ap (λ (m : JobsSeen). job_with j.id m.jobs) is ∙ free) (record {
           by_id = entries ∙ ap (λ i. insert_entry nat_cmp by_id.entries i j) own;
           room = room;
           groups = g ∙ ap (λ p. with_place group_cmp p groups.entries) p_is;
@@ -113,29 +118,29 @@ module _ (by_id : ById) (groups : Order Holder) (timers : Order Timer) (h : IsSh
       at_most : compared (parts_of ids gs ts) ≤ compared s + 3 * search_bound (jobs_of by_id.entries)
       at_most = omega (arith, few, few_gs, few_ts, id_search by_id, group_search s h, timer_search s h)
 
-      pub each_searched : ComparesAtMost 4 old (kept_in ids gs ts)
-      each_searched = few_more 4 (kept_in by_id groups timers) old _ _ is refl not_fewer (omega (arith, at_most))
+      pub each_searched : ComparesAtMost 4 old (seen_in ids gs ts)
+      each_searched = few_more 4 (seen_in by_id groups timers) old _ _ is refl not_fewer (omega (arith, at_most))
 
       pub removal : (id : ℕ) (removed result : Option Job) → removed ≡ result
           → ids.entries ≡ remove_entry (is_at (nat_cmp id)) by_id.entries → ids.spare ≡ by_id.spare + cond (is_some removed) 1 0
-          → Removes id result old (kept_in ids gs ts)
+          → Removes id result old (seen_in ids gs ts)
       removal id removed result same entries spare =
-          subst (λ o. Removes id o old (kept_in ids gs ts)) same
+          subst (λ o. Removes id o old (seen_in ids gs ts)) same
           (removes id s (parts_of ids gs ts) old removed h is entries spare not_fewer (omega (arith, at_most)))
 
       -- if a test let the job go
       pub removal_if : (id : ℕ) (removed result : Option Job) → removed ≡ result
           → ids.entries ≡ removed_if (is_at (nat_cmp id)) removed by_id.entries → ids.spare ≡ by_id.spare + cond (is_some removed) 1 0
-          → RemovesIf id result old (kept_in ids gs ts)
+          → RemovesIf id result old (seen_in ids gs ts)
       removal_if id removed result same entries spare =
-          subst (λ o. RemovesIf id o old (kept_in ids gs ts)) same
+          subst (λ o. RemovesIf id o old (seen_in ids gs ts)) same
           (removes_if id s (parts_of ids gs ts) old removed h is entries spare not_fewer (omega (arith, at_most)))
 
     -- One search for an id and two in each order are at most seven in all.
     pub each_moved : (ids : ById) (gs : Order Holder) (ts : Order Timer) → ComparesFew by_id ids → ComparesTwice groups gs
-        → ComparesTwice timers ts → ComparesAtMost 7 old (kept_in ids gs ts)
+        → ComparesTwice timers ts → ComparesAtMost 7 old (seen_in ids gs ts)
     each_moved ids gs ts few few_gs few_ts =
-        few_more 7 (kept_in by_id groups timers) old _ _ is refl (omega (arith, few, few_gs, few_ts))
+        few_more 7 (seen_in by_id groups timers) old _ _ is refl (omega (arith, few, few_gs, few_ts))
         (omega (arith, few, few_gs, few_ts, id_search by_id, group_search s h, timer_search s h))
 
   -- after a removal that found a job, and after one that found none

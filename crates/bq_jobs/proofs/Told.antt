@@ -17,8 +17,8 @@ use Rattle.bq_jobs.specs.contracts.places.TimerOrd.TheImpl.Laws as timer_laws
 use Rattle.bq_jobs.specs.declared.job_orders.NumberedMove.{NumberedMove}
 use Rattle.bq_jobs.specs.declared.job_orders.JobOrders.TheInside.{Inside as Parts}
 use Rattle.bq_jobs.specs.Changed.{IgnoresTube, KeepsId, entry_at, numbered_move, with_changed, with_edited}
-use Rattle.bq_jobs.specs.Inside.{ById, jobs_of, kept_in}
-use Rattle.bq_jobs.specs.Kept.{Kept}
+use Rattle.bq_jobs.specs.Inside.{ById, jobs_of, seen_in}
+use Rattle.bq_jobs.specs.JobsSeen.{JobsSeen}
 use Rattle.bq_jobs.specs.Moves.{CanMove, CanMoveIf, Moves, MovesIf, group_at, timer_at}
 use Rattle.bq_jobs.specs.PlaceOrder.{with_place, without_place}
 use Rattle.bq_jobs.specs.Places.{in_timers_at, in_groups_at, timer_place, group_place}
@@ -169,22 +169,23 @@ kept_if id es (Some j) there = value_kept (is_at (nat_cmp id)) es j there
 entries_kept : (id : ℕ) (es : List (ℕ × Job)) → with_edited id (λ j. j) (entry_at id es) es ≡ es
 entries_kept id es = kept_if id es (entry_at id es) refl
 
-module _ (id : ℕ) (s : Parts) (h : AreShelved s) (old : Kept) (is : kept_in s.by_id s.groups s.timers ≡ old) where
+module _ (id : ℕ) (s : Parts) (h : AreShelved s) (old : JobsSeen) (is : seen_in s.by_id s.groups s.timers ≡ old) where
   found_old : entry_at id s.by_id.entries ≡ job_with id old.jobs
-  found_old = found_in id s h ∙ ap (λ (m : Kept). job_with id m.jobs) is
+  found_old = found_in id s h ∙ ap (λ (m : JobsSeen). job_with id m.jobs) is
 
   -- The jobs were searched, and are kept as they were.
   abbrev IsSearched : Parts → Type 0
-  IsSearched n = AreShelved n × Searches 1 old (kept_in n.by_id n.groups n.timers)
+  IsSearched n = AreShelved n × Searches 1 old (seen_in n.by_id n.groups n.timers)
 
   searched_only : (by_id : ById) → by_id.entries ≡ with_edited id (λ j. j) (entry_at id s.by_id.entries) s.by_id.entries
       → by_id.spare ≡ s.by_id.spare → ComparesFew s.by_id by_id → IsSearched (record s { by_id = by_id })
   searched_only by_id made spare few =
       let same = made ∙ entries_kept id s.by_id.entries in
-      let seen = kept_in s.by_id s.groups s.timers in
+      let seen = seen_in s.by_id s.groups s.timers in
       let count = by_id.comparisons + s.groups.comparisons + s.timers.comparisons in
       let asked = searched 1 seen old (compared s) count is refl (omega (arith, few)) (omega (arith, few, id_search s.by_id)) in
-      let kept : List Job → ℕ → Kept = λ jobs room. record { jobs = jobs; room = room; comparisons = min count greatest; tubes = [] } in (
+      let kept : List Job → ℕ → JobsSeen = λ jobs room. record
+      { jobs = jobs; room = room; comparisons = min count greatest; tubes = [] } in (
         shelved_kept s by_id h same spare,
         subst (λ js. Searches 1 old (kept js by_id.spare)) (sym (ap jobs_of same))
             (subst (λ room. Searches 1 old (kept (jobs_of s.by_id.entries) room)) (sym spare) asked),
@@ -202,7 +203,7 @@ module _ (id : ℕ) (s : Parts) (h : AreShelved s) (old : Kept) (is : kept_in s.
     -- After its moves, if it was changed, this is kept.
     abbrev IsKept : {E : Type 0} → Option (Result (NumberedMove × List ℕ) E) → Parts → Type 0
     IsKept r n = AreShelved n × SharesAndChanges (λ m. Some m ≡ option_map (numbered_move f) (job_with id old.jobs)) id f r old
-        (kept_in n.by_id n.groups n.timers)
+        (seen_in n.by_id n.groups n.timers)
 
     pub shared_then : {E : Type 0} (r : Option (Result (NumberedMove × List ℕ) E)) (n : Parts) → Told f (entry_at id s.by_id.entries) r
         → n.by_id.entries ≡ with_edited id (edited_by (if_shared f) r) (entry_at id s.by_id.entries) s.by_id.entries
@@ -227,11 +228,11 @@ module _ (id : ℕ) (s : Parts) (h : AreShelved s) (old : Kept) (is : kept_in s.
             sym report ∙ ap (option_map (numbered_move f)) found_old,
             record {
               body_is = subst (λ o. IsBodyOf o t.1) found_old (shared_body E f (entry_at id s.by_id.entries) t told);
-              jobs = jobs_then id f keeps ignores s h t.0 report n made ∙ ap (λ (k : Kept). with_changed id f k.jobs) is;
-              ordered = subst (λ (k : Kept). AreIdsWithin 0 k.jobs (2 ^ 64)) is h.ids;
-              tubes = ap (λ (k : Kept). k.tubes) is;
-              room = spare ∙ ap (λ (k : Kept). k.room) is;
-              comparisons = few_more 7 (kept_in s.by_id s.groups s.timers) old (compared s) (compared n) is refl
+              jobs = jobs_then id f keeps ignores s h t.0 report n made ∙ ap (λ (k : JobsSeen). with_changed id f k.jobs) is;
+              ordered = subst (λ (k : JobsSeen). AreIdsWithin 0 k.jobs (2 ^ 64)) is h.ids;
+              tubes = ap (λ (k : JobsSeen). k.tubes) is;
+              room = spare ∙ ap (λ (k : JobsSeen). k.room) is;
+              comparisons = few_more 7 (seen_in s.by_id s.groups s.timers) old (compared s) (compared n) is refl
                   (omega (arith, few, groups, timers))
                   (omega (arith, few, groups, timers, id_search s.by_id, group_search s h, timer_search s h));
             },

@@ -5,33 +5,33 @@ use Rattle.std.specs.Map.{lookup, set_value}
 use Rattle.std.specs.BTreeMap.{is_at}
 use Rattle.bq_job.specs.declared.job.Job.{Job}
 use Rattle.bq_index.specs.Edited.{edited_if}
-use Rattle.bq_jobs.specs.declared.job_orders.Moved.{Moved}
+use Rattle.bq_jobs.specs.declared.job_orders.JobMove.{JobMove}
 use Rattle.bq_jobs.specs.declared.job_orders.NumberedMove.{NumberedMove}
-use Rattle.bq_jobs.specs.declared.job_orders.Removed.{Removed}
-use Rattle.bq_jobs.specs.declared.job_orders.Standing.{Standing}
+use Rattle.bq_jobs.specs.declared.job_orders.JobRemoval.{JobRemoval}
+use Rattle.bq_jobs.specs.declared.job_orders.PriAndState.{PriAndState}
 
-abbrev pub standing : Job → Standing
-standing j = record { pri = j.pri; state = j.state }
+abbrev pub pri_and_state : Job → PriAndState
+pri_and_state j = record { pri = j.pri; state = j.state }
 
 -- the jobs, with the one with this id changed by f
 abbrev pub with_changed : ℕ → (Job → Job) → List Job → List Job
 with_changed id f jobs = map (λ k. if k.id == id then f k else k) jobs
 
 -- the report about a job that f changed
-abbrev pub moved_by : (Job → Job) → Job → Moved
-moved_by f j = record { tube = j.tube; from = standing j; to = standing (f j) }
+abbrev pub moved_by : (Job → Job) → Job → JobMove
+moved_by f j = record { tube = j.tube; from = pri_and_state j; to = pri_and_state (f j) }
 
 -- the same for a record
 abbrev pub numbered_move : (Job → Job) → Job → NumberedMove
-numbered_move f j = record { tube = j.tube; from = standing j; to = standing (f j) }
+numbered_move f j = record { tube = j.tube; from = pri_and_state j; to = pri_and_state (f j) }
 
--- the tube and the standing of a record that was removed
-abbrev pub numbered_removal : Job → List ℕ × Standing
-numbered_removal j = (j.tube, standing j)
+-- the tube, the priority and the state of a record that was removed
+abbrev pub numbered_removal : Job → List ℕ × PriAndState
+numbered_removal j = (j.tube, pri_and_state j)
 
 -- the report about a job that was removed
-abbrev pub removed_from : Job → Removed
-removed_from j = record { tube = j.tube; at = standing j }
+abbrev pub removed_from : Job → JobRemoval
+removed_from j = record { tube = j.tube; at = pri_and_state j }
 
 abbrev pub KeepsId : (Job → Job) → Type 0
 KeepsId f = (j : Job) → (f j).id ≡ j.id

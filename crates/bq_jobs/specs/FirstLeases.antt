@@ -4,7 +4,7 @@ use Rattle.std.specs.declared.cmp.Ordering.{Ordering}
 use Rattle.bq_job.specs.machine.Changes.{is_pair_before}
 use Rattle.bq_jobs.specs.declared.places.ShelfPlace.{ShelfPlace}
 use Rattle.bq_jobs.specs.declared.places.Timer.{Timer}
-use Rattle.bq_jobs.specs.declared.places.Timer.TheVariants.{Due, Lease}
+use Rattle.bq_jobs.specs.declared.places.Timer.TheVariants.{Delay, Lease}
 use Rattle.bq_jobs.specs.declared.timers.FirstLease.{FirstLease}
 use Rattle.bq_jobs.specs.declared.timers.FirstLease.TheVariants.{Unknown, Known}
 use Rattle.bq_jobs.specs.PlaceOrder.{first_rank}
@@ -16,7 +16,7 @@ IsFirstLease compare (Known first) es = first ≡ first_rank compare Lease es
 
 -- whether a place that is added is the first lease, as far as the first lease was known
 abbrev pub is_new_first : Timer → ℕ × ℕ → FirstLease → Bool
-is_new_first Due rank lease = false
+is_new_first Delay rank lease = false
 is_new_first Lease rank Unknown = false
 is_new_first Lease rank (Known None) = true
 is_new_first Lease rank (Known (Some first)) = is_pair_before rank.0 rank.1 first.0 first.1
@@ -27,7 +27,7 @@ lease_with timer rank lease = if is_new_first timer rank lease then Known (Some 
 
 -- whether a place is the first lease, as far as that is known
 abbrev pub is_known_first : Timer → ℕ × ℕ → FirstLease → Bool
-is_known_first Due rank lease = false
+is_known_first Delay rank lease = false
 is_known_first Lease rank Unknown = false
 is_known_first Lease rank (Known None) = false
 is_known_first Lease rank (Known (Some first)) = first.0 == rank.0 && first.1 == rank.1

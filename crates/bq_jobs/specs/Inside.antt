@@ -11,7 +11,7 @@ use Rattle.bq_job.specs.machine.Limits.{greatest}
 use Rattle.bq_jobs.specs.declared.places.Holder.{Holder}
 use Rattle.bq_jobs.specs.declared.places.ShelfPlace.{ShelfPlace}
 use Rattle.bq_jobs.specs.declared.places.Timer.{Timer}
-use Rattle.bq_jobs.specs.Kept.{Kept}
+use Rattle.bq_jobs.specs.JobsSeen.{JobsSeen}
 use Rattle.bq_jobs.specs.PlaceOrder.{place_cmp, holds_place}
 use Rattle.bq_jobs.specs.Places.{group_place, timer_place}
 
@@ -27,8 +27,8 @@ jobs_of es = map (λ e. e.1) es
 abbrev pub with_id : Job → ℕ × Job
 with_id j = (j.id, j)
 
-abbrev pub kept_in : ById → Order Holder → Order Timer → Kept
-kept_in by_id groups timers = record {
+abbrev pub seen_in : ById → Order Holder → Order Timer → JobsSeen
+seen_in by_id groups timers = record {
   jobs = jobs_of by_id.entries;
   room = by_id.spare;
   comparisons = min (by_id.comparisons + groups.comparisons + timers.comparisons) greatest;

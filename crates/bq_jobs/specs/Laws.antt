@@ -3,7 +3,7 @@ use Rattle.std.specs.Prelude.{◌≡◌, ℕ, ◌++◌, ◌∷◌, [], Bool, Lis
 use Rattle.bq_job.specs.declared.job.Job.{Job}
 use Rattle.bq_job.specs.machine.Changes.{first_of, job_with}
 use Rattle.bq_job.specs.beside.Lawful.{AreIdsWithin}
-use Rattle.bq_jobs.specs.Kept.{with_added}
+use Rattle.bq_jobs.specs.JobsSeen.{with_added}
 
 -- A job with an id above all others is added at the end.
 abbrev pub AddsAtTheEnd : Type 0

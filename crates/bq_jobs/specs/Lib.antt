@@ -4,7 +4,7 @@ pub mod FreeNumbers
 pub mod Groups
 pub mod Halves
 pub mod Inside
-pub mod Kept
+pub mod JobsSeen
 pub mod Laws
 pub mod Leases
 pub mod Lent

@@ -5,16 +5,16 @@ use Rattle.bq_jobs.specs.declared.places.Holder.{Holder}
 use Rattle.bq_jobs.specs.declared.places.ShelfPlace.{ShelfPlace}
 use Rattle.bq_jobs.specs.declared.places.Timer.{Timer}
 use Rattle.bq_jobs.specs.declared.job_orders.NumberedMove.{NumberedMove}
-use Rattle.bq_jobs.specs.declared.job_orders.Standing.{Standing}
+use Rattle.bq_jobs.specs.declared.job_orders.PriAndState.{PriAndState}
 use Rattle.bq_jobs.specs.Inside.{Order}
 use Rattle.bq_jobs.specs.PlaceOrder.{ComparesTwice, holds_place, with_place, without_place}
 use Rattle.bq_jobs.specs.Places.{in_groups_at, in_timers_at}
 
--- the places of a job with this id and standing, in a tube
-abbrev pub group_at : ℕ → List ℕ → Standing → Option (ShelfPlace Holder)
+-- the places of a job with this id, priority and state, in a tube
+abbrev pub group_at : ℕ → List ℕ → PriAndState → Option (ShelfPlace Holder)
 group_at id tube at = in_groups_at at.state at.pri tube id
 
-abbrev pub timer_at : ℕ → Standing → Option (ShelfPlace Timer)
+abbrev pub timer_at : ℕ → PriAndState → Option (ShelfPlace Timer)
 timer_at id at = in_timers_at at.state id
 
 -- What a move from one place to another needs: the first place is taken, there is a box for the

@@ -8,7 +8,7 @@ use Rattle.std.specs.Map.{lookup, remove_entry}
 use Rattle.std.specs.Ordering.{nat_cmp}
 use Rattle.bq_index.specs.Order.{InOrder}
 use Rattle.bq_job.specs.declared.job.Job.{Job}
-use Rattle.bq_jobs.specs.Kept.{Kept}
+use Rattle.bq_jobs.specs.JobsSeen.{JobsSeen}
 use Rattle.bq_jobs.specs.Names.{number_in}
 
 -- the number of each tube by its name, and the name of each number, if it has one
@@ -76,8 +76,8 @@ pub record AreRegistered (k : Numbering) (rows : List Job) : Type 0 where
   pub numbered : AreNumbered k rows
 
 -- what is kept, as a contract sees it with the names of the tubes
-abbrev pub kept_named : Kept → Numbering → Kept
-kept_named rows k = record { jobs = map (named k) rows.jobs; room = rows.room; comparisons = rows.comparisons; tubes = k.numbers }
+abbrev pub seen_named : JobsSeen → Numbering → JobsSeen
+seen_named rows k = record { jobs = map (named k) rows.jobs; room = rows.room; comparisons = rows.comparisons; tubes = k.numbers }
 
 -- the tube of this name is registered under this number
 abbrev pub HasNumber : List ℕ → List ℕ → List (List ℕ × ℕ) → Type 0

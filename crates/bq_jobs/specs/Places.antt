@@ -35,7 +35,7 @@ group_place j = in_groups j.state j
 
 -- its place among the delays or the leases
 abbrev pub in_timers_at : JobState → ℕ → Option (ShelfPlace Timer)
-in_timers_at (states.Delayed due) id = placed timers.Due due id
+in_timers_at (states.Delayed due) id = placed timers.Delay due id
 in_timers_at (states.Reserved seat deadline) id = placed timers.Lease deadline id
 in_timers_at _ id = None
 

@@ -12,7 +12,7 @@ use Rattle.bq_jobs.specs.declared.places.JobList.{JobList}
 use Rattle.bq_jobs.specs.declared.places.JobList.TheVariants as lists
 use Rattle.bq_jobs.specs.declared.places.Timer.{Timer}
 use Rattle.bq_jobs.specs.declared.places.Timer.TheVariants as timers
-use Rattle.bq_jobs.specs.Kept.{ranked}
+use Rattle.bq_jobs.specs.JobsSeen.{ranked}
 use Rattle.bq_jobs.specs.Leases.{deadline_of}
 
 -- the state of the jobs of a list, and the number that orders them
@@ -43,11 +43,11 @@ rank_of (holders.Listed l) j = list_rank l.list j
 
 -- and for delays and leases
 abbrev pub is_timed : Timer → Job → Bool
-is_timed timers.Due j = is_delayed j.state
+is_timed timers.Delay j = is_delayed j.state
 is_timed timers.Lease j = is_reserved j.state
 
 abbrev pub moment_of : Timer → Job → ℕ
-moment_of timers.Due j = due_of j.state
+moment_of timers.Delay j = due_of j.state
 moment_of timers.Lease j = deadline_of j.state
 
 -- the order of jobs by a number, then by id

@@ -4,7 +4,7 @@ use Rattle.bq_job.specs.beside.Lawful.{AreIdsWithin}
 use Rattle.bq_job.specs.declared.job.Job.{Job}
 use Rattle.bq_job.specs.machine.Changes.{job_with}
 use Rattle.bq_jobs.specs.Changed.{numbered_move, with_changed}
-use Rattle.bq_jobs.specs.Kept.{ComparesAtMost, Kept}
+use Rattle.bq_jobs.specs.JobsSeen.{ComparesAtMost, JobsSeen}
 use Rattle.bq_jobs.specs.Searching.{Searches}
 use Rattle.bq_jobs.specs.Seen.{IsBodyOf}
 use Rattle.bq_jobs.specs.declared.job_orders.NumberedMove.{NumberedMove}
@@ -19,7 +19,7 @@ if_shared f (Ok s) j = f j
 if_shared f (Err e) j = j
 
 -- the job with this id was changed, and this is its body
-pub record ChangesShared (id : ℕ) (f : Job → Job) (body : List ℕ) (old new : Kept) : Type 0 where
+pub record ChangesShared (id : ℕ) (f : Job → Job) (body : List ℕ) (old new : JobsSeen) : Type 0 where
   pub body_is : IsBodyOf (job_with id old.jobs) body
   pub jobs : new.jobs ≡ with_changed id f old.jobs
   pub ordered : AreIdsWithin 0 old.jobs (2 ^ 64)
@@ -29,7 +29,8 @@ pub record ChangesShared (id : ℕ) (f : Job → Job) (body : List ℕ) (old new
 
 -- The job with this id was changed, and `told` has the report about that and the body. If there is
 -- no such job, or the reference was refused, nothing was changed.
-abbrev pub SharesAndChanges : {M E : Type 0} → (M → Type 0) → ℕ → (Job → Job) → Option (Result (M × List ℕ) E) → Kept → Kept → Type 0
+abbrev pub SharesAndChanges : {M E : Type 0} → (M → Type 0) → ℕ → (Job → Job) → Option (Result (M × List ℕ) E) → JobsSeen
+    → JobsSeen → Type 0
 SharesAndChanges Reports id f None old new = (false ≡ is_some (job_with id old.jobs)) × Searches 1 old new
 SharesAndChanges Reports id f (Some (Err e)) old new = (true ≡ is_some (job_with id old.jobs)) × Searches 1 old new
 SharesAndChanges Reports id f (Some (Ok s)) old new = Reports s.0 × ChangesShared id f s.1 old new

@@ -10,8 +10,8 @@ ghost use Rattle.std.specs.Ordering.{nat_cmp};
 ghost use Rattle.bq_index.specs.Edited.{MayReturn, edited_by};
 ghost use Rattle.bq_index.specs.Removed.{passing, removed_if};
 ghost use Rattle.bq_index.specs.Shelf.{ComparesFew};
-ghost use Rattle.bq_jobs.specs.Changed.{IgnoresTube, KeepsId, entry_at, numbered_move, numbered_removal, standing, with_changed, with_edited};
-ghost use Rattle.bq_jobs.specs.Kept.{ComparesAtMost, with_added};
+ghost use Rattle.bq_jobs.specs.Changed.{IgnoresTube, KeepsId, entry_at, numbered_move, numbered_removal, pri_and_state, with_changed, with_edited};
+ghost use Rattle.bq_jobs.specs.JobsSeen.{ComparesAtMost, with_added};
 ghost use Rattle.bq_jobs.specs.Moves.{CanMove, CanMoveIf, Moves, MovesIf, group_at, timer_at};
 ghost use Rattle.bq_jobs.specs.Ranks.{first_held, first_timed};
 ghost use Rattle.bq_jobs.specs.Room.{MakesRoom, RemovesIf};
@@ -162,56 +162,56 @@ pub(crate) fn packed(job: Job, number: TubeNumber) -> PackedJob
 
 /// What gives a job's place in each order, besides its id and its tube.
 #[derive(Clone, Copy)]
-pub struct Standing {
+pub struct PriAndState {
     pub pri: Pri,
     pub state: JobState,
 }
 
-impl Standing {
-    /// Returns the standing of a job.
-    pub fn of(job: &Job) -> Standing
-        ensures { result ≡ standing job.now }
+impl PriAndState {
+    /// Returns the priority and the state of a job.
+    pub fn of(job: &Job) -> PriAndState
+        ensures { result ≡ pri_and_state job.now }
     {
-        Standing {
+        PriAndState {
             pri: job.pri,
             state: job.state,
         }
     }
 
-    /// Returns the standing of a record's job.
-    pub(crate) fn of_packed(row: &PackedJob) -> Standing
-        ensures { result ≡ standing row.now }
+    /// Returns the priority and the state of a record's job.
+    pub(crate) fn of_packed(row: &PackedJob) -> PriAndState
+        ensures { result ≡ pri_and_state row.now }
     {
-        Standing {
+        PriAndState {
             pri: row.pri,
             state: row.state(),
         }
     }
 }
 
-/// The report about a changed job: the name of its tube, for contracts only, and its standing before
-/// and after the change. The number of the tube comes with it.
+/// The report about a changed job: the name of its tube, for contracts only, and its priority and
+/// state before and after the change. The number of the tube comes with it.
 #[derive(Drop)]
-pub struct Moved {
+pub struct JobMove {
     pub tube: GhostName,
-    pub from: Standing,
-    pub to: Standing,
+    pub from: PriAndState,
+    pub to: PriAndState,
 }
 
-/// The report about a removed job: the name of its tube, for contracts only, and its standing when
-/// it was removed. The number of the tube comes with it.
+/// The report about a removed job: the name of its tube, for contracts only, and its priority and
+/// state when it was removed. The number of the tube comes with it.
 #[derive(Drop)]
-pub struct Removed {
+pub struct JobRemoval {
     pub tube: GhostName,
-    pub at: Standing,
+    pub at: PriAndState,
 }
 
 /// The report about a changed record, in which the tube is a number.
 #[derive(Clone, Copy)]
 pub(crate) struct NumberedMove {
     pub(crate) tube: TubeNumber,
-    pub(crate) from: Standing,
-    pub(crate) to: Standing,
+    pub(crate) from: PriAndState,
+    pub(crate) to: PriAndState,
 }
 
 /// A change of a job.
@@ -249,12 +249,12 @@ pub(crate) struct JobOrders {
 }
 
 impl Model for JobOrders {
-    ghost use Rattle.bq_jobs.specs.Inside.{kept_in, IsShelved};
-    ghost use Rattle.bq_jobs.specs.Kept.{Kept};
+    ghost use Rattle.bq_jobs.specs.Inside.{seen_in, IsShelved};
+    ghost use Rattle.bq_jobs.specs.JobsSeen.{JobsSeen};
 
-    ghost Value = { Kept };
+    ghost Value = { JobsSeen };
 
-    ghost view = { λ s. kept_in s.by_id s.groups s.timers };
+    ghost view = { λ s. seen_in s.by_id s.groups s.timers };
 
     ghost invariant = { λ s. IsShelved ⟦<Group as Ord>⟧.cmp ⟦<Timer as Ord>⟧.cmp s.by_id s.groups s.timers };
 }
@@ -367,18 +367,18 @@ impl JobOrders {
     }
 
     /// Removes the job with this id, if there is one and it passes a test, and drops its record.
-    /// Returns the number of its tube and its standing. Its room is free again.
+    /// Returns the number of its tube, and its priority and state. Its room is free again.
     pub(crate) fn discard_if<T: PackedTest>(
         &mut self,
         id: JobId,
         test: &T,
-    ) -> Option<(TubeNumber, Standing)>
+    ) -> Option<(TubeNumber, PriAndState)>
         ensures removed { result
             ≡ option_map numbered_removal (passing (T.passed test.now) (job_with id self.old.jobs)) }
         ensures left { RemovesIf id result self.old self.new }
     {
         let row = self.remove_if(id, test)?;
-        Some((row.tube, Standing::of_packed(&row)))
+        Some((row.tube, PriAndState::of_packed(&row)))
     }
 
     /// Changes the job with this id, if there is one, and moves it to its new place in each order.
@@ -504,12 +504,12 @@ fn report_change<E: JobEdit>(edit: &E, job: &mut PackedJob) -> NumberedMove
     ensures job { job.new ≡ E.edited edit.now job.old }
     ensures report { result ≡ numbered_move (E.edited edit.now) job.old }
 {
-    let (tube, from) = (job.tube, Standing::of_packed(job));
+    let (tube, from) = (job.tube, PriAndState::of_packed(job));
     edit.edit(job);
     NumberedMove {
         tube,
         from,
-        to: Standing::of_packed(job),
+        to: PriAndState::of_packed(job),
     }
 }
 
@@ -571,8 +571,8 @@ fn shift_places(
     timers: &mut Timers,
     id: JobId,
     tube: TubeNumber,
-    from: Standing,
-    to: Standing,
+    from: PriAndState,
+    to: PriAndState,
 )
     requires groups { CanMove ⟦<Group as Ord>⟧.cmp (group_at id tube from) (group_at id tube to) groups.old }
     requires timers { CanMove ⟦<Timer as Ord>⟧.cmp (timer_at id from) (timer_at id to) timers.old }

@@ -17,7 +17,7 @@ ghost use Rattle.bq_jobs.specs.Names.{number_in};
 ghost use Rattle.bq_jobs.specs.Numbering.{Extends, HasNumber, IsPaired, name_of, number_of};
 ghost use Rattle.bq_jobs.specs.Seen.{IsBodyOf, IsTubeOf, but_for_tube};
 ghost use Rattle.bq_jobs.specs.Told.{moved_told, removed_told, shared_told};
-ghost use Rattle.bq_jobs.specs.Kept.{ComparesAtMost, ranked, with_added};
+ghost use Rattle.bq_jobs.specs.JobsSeen.{ComparesAtMost, ranked, with_added};
 ghost use Rattle.bq_jobs.specs.Laws.{AddsAtTheEnd, ChosenHasItsId, NextIsFree};
 ghost use Rattle.bq_jobs.specs.Leases.{deadline_of, is_lease_before};
 ghost use Rattle.bq_jobs.specs.Ranks.{first_by, first_in, is_timed, list_rank, moment_of};
@@ -27,7 +27,7 @@ ghost use Rattle.bq_jobs.specs.Sharing.{SharesAndChanges};
 
 use super::ghost_name::GhostName;
 use super::job_orders::{
-    self, JobEdit, JobOrders, Moved, NumberedMove, PackedJob, PackedTest, Removed, Standing,
+    self, JobEdit, JobMove, JobOrders, JobRemoval, NumberedMove, PackedJob, PackedTest, PriAndState,
 };
 use super::places::{Group, JobList, Timer};
 use super::tube::Tube;
@@ -56,12 +56,12 @@ pub struct NumberedJobs {
 }
 
 impl Model for NumberedJobs {
-    ghost use Rattle.bq_jobs.specs.Kept.{Kept};
-    ghost use Rattle.bq_jobs.specs.Numbering.{AreRegistered, kept_named};
+    ghost use Rattle.bq_jobs.specs.JobsSeen.{JobsSeen};
+    ghost use Rattle.bq_jobs.specs.Numbering.{AreRegistered, seen_named};
 
-    ghost Value = { Kept };
+    ghost Value = { JobsSeen };
 
-    ghost view = { λ s. kept_named s.orders s.tubes.value };
+    ghost view = { λ s. seen_named s.orders s.tubes.value };
 
     ghost invariant = { λ s. AreRegistered s.tubes.value s.orders.jobs };
 }
@@ -164,7 +164,7 @@ impl NumberedJobs {
         &mut self,
         id: JobId,
         test: &T,
-    ) -> Option<(TubeNumber, Removed)>
+    ) -> Option<(TubeNumber, JobRemoval)>
         requires tube { AsksNoTube (T.passed test.now) }
         ensures removed { option_map (λ r. r.1) result
             ≡ option_map removed_from (passing (T.passed test.now) (job_with id self.old.jobs)) }
@@ -180,7 +180,7 @@ impl NumberedJobs {
     /// The record itself does not move, and nothing is allocated. Returns the number of its tube,
     /// and the report about it.
     #[tactic(auto, using(crate::proofs::NamedJobs::changes))]
-    pub fn change<E: JobEdit>(&mut self, id: JobId, edit: &E) -> Option<(TubeNumber, Moved)>
+    pub fn change<E: JobEdit>(&mut self, id: JobId, edit: &E) -> Option<(TubeNumber, JobMove)>
         requires id { KeepsId (E.edited edit.now) }
         requires tube { IgnoresTube (E.edited edit.now) }
         ensures moved { option_map (λ r. r.1) result
@@ -203,7 +203,7 @@ impl NumberedJobs {
         &mut self,
         id: JobId,
         edit: &E,
-    ) -> Option<Result<((TubeNumber, Moved), Body), NoMemory>>
+    ) -> Option<Result<((TubeNumber, JobMove), Body), NoMemory>>
         requires id { KeepsId (E.edited edit.now) }
         requires tube { IgnoresTube (E.edited edit.now) }
         ensures { SharesAndChanges
@@ -355,20 +355,20 @@ fn tube_at(tubes: &NumberedTubes, number: TubeNumber) -> Option<Tube>
 // Returns the number of the tube of a removed record, and the report about its job.
 fn removed_of(
     tubes: &Snapshot<NumberedTubes>,
-    removed: Option<(TubeNumber, Standing)>,
-) -> Option<(TubeNumber, Removed)>
+    removed: Option<(TubeNumber, PriAndState)>,
+) -> Option<(TubeNumber, JobRemoval)>
     ensures { result ≡ option_map (removed_told tubes.now.value) removed }
 {
     let (number, at) = removed?;
     let tube = GhostName::of(tubes, number);
-    Some((number, Removed { tube, at }))
+    Some((number, JobRemoval { tube, at }))
 }
 
 // Returns the number of the tube of a changed record, and the report about its job.
 fn told_of(
     tubes: &Snapshot<NumberedTubes>,
     moved: Option<NumberedMove>,
-) -> Option<(TubeNumber, Moved)>
+) -> Option<(TubeNumber, JobMove)>
     ensures { result ≡ option_map (moved_told tubes.now.value) moved }
 {
     let moved = moved?;
@@ -376,13 +376,13 @@ fn told_of(
 }
 
 // Returns the same for a record that was found.
-fn report_of(tubes: &Snapshot<NumberedTubes>, moved: NumberedMove) -> (TubeNumber, Moved)
+fn report_of(tubes: &Snapshot<NumberedTubes>, moved: NumberedMove) -> (TubeNumber, JobMove)
     ensures { result ≡ moved_told tubes.now.value moved }
 {
     let tube = GhostName::of(tubes, moved.tube);
     (
         moved.tube,
-        Moved {
+        JobMove {
             tube,
             from: moved.from,
             to: moved.to,
@@ -395,7 +395,7 @@ fn report_of(tubes: &Snapshot<NumberedTubes>, moved: NumberedMove) -> (TubeNumbe
 fn shared_of(
     tubes: &Snapshot<NumberedTubes>,
     shared: Option<Result<(NumberedMove, Body), NoMemory>>,
-) -> Option<Result<((TubeNumber, Moved), Body), NoMemory>>
+) -> Option<Result<((TubeNumber, JobMove), Body), NoMemory>>
     ensures { result ≡ shared_told tubes.now.value shared }
 {
     match shared {

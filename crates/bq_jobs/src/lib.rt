@@ -21,7 +21,7 @@
 #![tactic(auto)]
 
 pub use ghost_name::GhostName;
-pub use job_orders::{JobEdit, Moved, PackedJob, PackedTest, Removed, Standing};
+pub use job_orders::{JobEdit, JobMove, JobRemoval, PackedJob, PackedTest, PriAndState};
 pub use jobs::{NumberedJobs, adds_at_the_end, chosen_has_its_id, next_is_free};
 pub use named_jobs::Jobs;
 pub use places::{JobList, Timer};

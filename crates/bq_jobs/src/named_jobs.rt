@@ -8,7 +8,7 @@ ghost use Rattle.bq_job.specs.machine.JobCommands.{is_buried_in, is_delayed_in};
 ghost use Rattle.bq_job.specs.machine.JobStates.{is_buried_before, is_delayed, is_due_before, is_reserved};
 ghost use Rattle.bq_job.specs.beside.Lawful.{AreIdsWithin};
 ghost use Rattle.bq_job.specs.machine.TubeCommands.{is_ready_in};
-ghost use Rattle.bq_jobs.specs.Kept.{ComparesAtMost, with_added};
+ghost use Rattle.bq_jobs.specs.JobsSeen.{ComparesAtMost, with_added};
 ghost use Rattle.bq_jobs.specs.Leases.{is_lease_before};
 ghost use Rattle.bq_jobs.specs.Ranks.{first_held, first_timed, id_in};
 ghost use Rattle.bq_jobs.specs.Room.{MakesRoom, Removes};
@@ -34,12 +34,12 @@ pub struct Jobs {
 }
 
 impl Model for Jobs {
-    ghost use Rattle.bq_jobs.specs.Inside.{kept_in, IsShelved};
-    ghost use Rattle.bq_jobs.specs.Kept.{Kept};
+    ghost use Rattle.bq_jobs.specs.Inside.{seen_in, IsShelved};
+    ghost use Rattle.bq_jobs.specs.JobsSeen.{JobsSeen};
 
-    ghost Value = { Kept };
+    ghost Value = { JobsSeen };
 
-    ghost view = { λ s. kept_in s.by_id s.groups s.timers };
+    ghost view = { λ s. seen_in s.by_id s.groups s.timers };
 
     ghost invariant = { λ s. IsShelved ⟦<NamedGroup as Ord>⟧.cmp ⟦<Timer as Ord>⟧.cmp s.by_id s.groups s.timers };
 }
@@ -189,7 +189,7 @@ impl Jobs {
             (first_of (λ j. is_delayed j.state) is_due_before self.old.jobs) }
         ensures kept { Searches 1 self.old self.new }
     {
-        id_in(self.first_of_timer(Timer::Due))
+        id_in(self.first_of_timer(Timer::Delay))
     }
 
     /// Returns the id of the reserved job whose time to run ends first, among those of all clients:

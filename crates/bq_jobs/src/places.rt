@@ -10,7 +10,7 @@ ghost use Rattle.bq_index.specs.Shelf.{ComparesFew};
 ghost use Rattle.bq_jobs.specs.PlaceOrder.{first_rank, holds_place, with_place, without_place};
 ghost use Rattle.std.specs.Option.{ForSome};
 
-use super::job_orders::{PackedJob, Standing};
+use super::job_orders::{PackedJob, PriAndState};
 use super::tubes::TubeNumber;
 use bq_index::{BoxSource, Parted, Shelf};
 use bq_job::{JobId, JobState, NoMemory, Seat};
@@ -138,12 +138,12 @@ impl Ord for Group {
 /// A number as two halves, which needs an alignment of only four bytes. So a place with a group of
 /// one byte takes 20 bytes, and in a box it uses the space after the tag.
 #[derive(Clone, Copy)]
-pub struct Halves {
+pub struct SplitU64 {
     low: u32,
     high: u32,
 }
 
-impl Model for Halves {
+impl Model for SplitU64 {
     ghost use Rattle.std.specs.Prelude.{◌≡◌, ℕ};
     ghost use Rattle.bq_jobs.specs.Halves.{high_half, low_half, of_halves};
 
@@ -158,14 +158,14 @@ impl Model for Halves {
     ghost inverse_ok = { λ n h. λ i. record { low = h.0 i; high = h.1 i } };
 }
 
-impl Halves {
+impl SplitU64 {
     ghost use Rattle.std.specs.Prelude.{◌≡◌};
 
     /// Splits a number.
-    fn of(number: u64) -> Halves
+    fn of(number: u64) -> SplitU64
         ensures { result ≡ number }
     {
-        Halves {
+        SplitU64 {
             low: (number % 0x1_0000_0000) as u32,
             high: (number / 0x1_0000_0000) as u32,
         }
@@ -183,9 +183,9 @@ impl Halves {
 #[derive(Clone, Copy)]
 pub struct ShelfPlace<G> {
     /// The number that orders the places of a group: a priority, a moment or a burial number.
-    pub at: Halves,
+    pub at: SplitU64,
     /// The id of the job.
-    pub id: Halves,
+    pub id: SplitU64,
     pub group: G,
 }
 
@@ -269,7 +269,7 @@ fn is_above<G: Ord>(group: &G, other: &G) -> bool
 #[derive(Clone, Copy, PartialEq, Eq, PartialOrd, Ord)]
 pub enum Timer {
     /// The delay of a delayed job.
-    Due,
+    Delay,
     /// The time to run of a reserved job.
     Lease,
 }
@@ -294,8 +294,8 @@ impl<G> ShelfPlace<G> {
         ensures { result ≡ record { at = at; id = id; group = group } }
     {
         ShelfPlace {
-            at: Halves::of(at),
-            id: Halves::of(id),
+            at: SplitU64::of(at),
+            id: SplitU64::of(id),
             group,
         }
     }
@@ -327,7 +327,7 @@ pub(crate) fn group_place(id: JobId, job: &PackedJob) -> Option<ShelfPlace<Group
     requires { job.now.id ≡ id }
     ensures { result ≡ group_place job.now }
 {
-    place_in_groups(id, job.tube, Standing::of_packed(job))
+    place_in_groups(id, job.tube, PriAndState::of_packed(job))
 }
 
 /// Returns the place of the job with this id among all delays and leases, if it has one.
@@ -335,15 +335,15 @@ pub(crate) fn timer_place(id: JobId, job: &PackedJob) -> Option<ShelfPlace<Timer
     requires { job.now.id ≡ id }
     ensures { result ≡ timer_place job.now }
 {
-    place_in_timers(id, Standing::of_packed(job))
+    place_in_timers(id, PriAndState::of_packed(job))
 }
 
-/// Returns the place that a job with this id, tube and standing has in its tube's list or among the
+/// Returns the place that a job with this id, tube, priority and state has in its tube's list or among the
 /// jobs of its holder. Each job has one.
 pub(crate) fn place_in_groups(
     id: JobId,
     tube: TubeNumber,
-    at: Standing,
+    at: PriAndState,
 ) -> Option<ShelfPlace<Group>>
     ensures { result ≡ in_groups_at at.state at.pri tube id }
 {
@@ -356,13 +356,13 @@ pub(crate) fn place_in_groups(
     Some(ShelfPlace::of(group, number, id))
 }
 
-/// Returns the place that a job with this id and standing has among all delays and leases, if it
+/// Returns the place that a job with this id and state has among all delays and leases, if it
 /// has one.
-pub(crate) fn place_in_timers(id: JobId, at: Standing) -> Option<ShelfPlace<Timer>>
+pub(crate) fn place_in_timers(id: JobId, at: PriAndState) -> Option<ShelfPlace<Timer>>
     ensures { result ≡ in_timers_at at.state id }
 {
     match at.state {
-        JobState::Delayed(due) => Some(ShelfPlace::of(Timer::Due, due, id)),
+        JobState::Delayed(due) => Some(ShelfPlace::of(Timer::Delay, due, id)),
         JobState::Reserved(_, deadline) => Some(ShelfPlace::of(Timer::Lease, deadline, id)),
         JobState::Ready | JobState::Buried(_) => None,
     }

@@ -167,7 +167,7 @@ impl Timers {
         ensures comparisons { ComparesFew self.old self.new }
     {
         match timer {
-            Timer::Due => places::first_rank(&mut self.places, Timer::Due),
+            Timer::Delay => places::first_rank(&mut self.places, Timer::Delay),
             Timer::Lease => self.first_lease(),
         }
     }
@@ -202,7 +202,7 @@ fn is_new_first(lease: &FirstLease, place: &ShelfPlace<Timer>) -> bool
     ensures { result ≡ is_new_first place.now.group (rank_of place.now) lease.now }
 {
     match place.group {
-        Timer::Due => false,
+        Timer::Delay => false,
         Timer::Lease => match lease {
             FirstLease::Unknown => false,
             FirstLease::Known(None) => true,
@@ -232,7 +232,7 @@ fn is_known_first(lease: &FirstLease, place: &ShelfPlace<Timer>) -> bool
     ensures { result ≡ is_known_first place.now.group (rank_of place.now) lease.now }
 {
     match place.group {
-        Timer::Due => false,
+        Timer::Delay => false,
         Timer::Lease => match lease {
             FirstLease::Unknown | FirstLease::Known(None) => false,
             FirstLease::Known(Some(first)) => is_same(place.rank(), *first),

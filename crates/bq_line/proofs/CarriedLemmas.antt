@@ -17,21 +17,21 @@ use Rattle.bq_line.specs.Writing.{BreaksOff, with_begun, with_written}
 use Rattle.bq_line.specs.Links.{Calls, as_submitted}
 use Rattle.bq_line.specs.Submitting.{HasSubmittedOn, TakesOrWaits}
 use Rattle.bq_line.specs.Tending.{MayEndAt, Uses}
-use Rattle.bq_line.specs.declared.attendant.LinePlace.{LinePlace}
-use Rattle.bq_line.specs.declared.attendant.LinePlace.TheVariants as places
+use Rattle.bq_line.specs.declared.attendant.SeatPhase.{SeatPhase}
+use Rattle.bq_line.specs.declared.attendant.SeatPhase.TheVariants as phases
 use Rattle.bq_job.specs.declared.line_end.LineEnd.{LineEnd}
 
 abbrev pub Comes : {K : Type 0} → (K → List Step → List Answer → K → Type 0) → Progress → SeatMachine → LineSeen → K → SeatMachine
     → LineSeen → K → Action → Action → Type 0
-Comes went result old seen link new later after next action =
-    (submitted : List Step) × (taken : List Answer) × HasGone went link action submitted taken after
+Comes trace result old seen link new later after next action =
+    (submitted : List Step) × (taken : List Answer) × HasGone trace link action submitted taken after
     × Carried result old seen action new later next submitted taken
 
 -- the same by parts
 abbrev pub ComesOn : {K : Type 0} → (K → List Step → List Answer → K → Type 0) → Progress → SeatMachine → LineSeen → ℕ → K → SeatMachine
     → LineSeen → ℕ → K → Action → Action → Type 0
-ComesOn went result old seen sent link new later now after next action =
-    (submitted : List Step) × (taken : List Answer) × HasGone went link action submitted taken after
+ComesOn trace result old seen sent link new later now after next action =
+    (submitted : List Step) × (taken : List Answer) × HasGone trace link action submitted taken after
     × CarriedPart result old seen action sent new later next now submitted taken
 
 -- Nothing of an answer is written yet.
@@ -39,19 +39,19 @@ pub none_begun : (action : Action) (line : LineSeen) → line ≡ with_part acti
 none_begun action line = grind (arith, common_steps)
 
 -- An action that writes no answer was carried out at once.
-pub at_once : {K : Type 0} (went : K → List Step → List Answer → K → Type 0) (result : Progress) (old : SeatMachine) (seen : LineSeen)
+pub at_once : {K : Type 0} (trace : K → List Step → List Answer → K → Type 0) (result : Progress) (old : SeatMachine) (seen : LineSeen)
     (sent : ℕ) (link : K) (new : SeatMachine) (later : LineSeen) (after : K) (next action : Action)
-    → ((answer : Answer) → action ≡ actions.Write answer → ⊥) → Comes went result old seen link new later after next action
-    → ComesOn went result old seen sent link new later 0 after next action
-at_once went result old seen sent link new later after next action other c = grind (arith, none_begun)
+    → ((answer : Answer) → action ≡ actions.Write answer → ⊥) → Comes trace result old seen link new later after next action
+    → ComesOn trace result old seen sent link new later 0 after next action
+at_once trace result old seen sent link new later after next action other c = grind (arith, none_begun)
 
-module _ {K : Type 0} (went : K → List Step → List Answer → K → Type 0) (old : SeatMachine) (seen later : LineSeen) (sent : ℕ) (link : K)
+module _ {K : Type 0} (trace : K → List Step → List Answer → K → Type 0) (old : SeatMachine) (seen later : LineSeen) (sent : ℕ) (link : K)
     {action : Action} {answer : Answer} (is : action ≡ actions.Write answer) where
   -- Nothing is submitted or taken while an answer is written.
   wrote_as : (result : Progress) (new : SeatMachine) (next : Action) (now : ℕ) → CanEnd result (actions.Write answer)
       → ((first : LineSeen) → seen ≡ with_begun (answer_text answer) sent first
       → (last : LineSeen) × (later ≡ with_part next now last) × IsWrittenAs result old first answer new last next)
-      → ComesOn went result old seen sent link new later now link next action
+      → ComesOn trace result old seen sent link new later now link next action
   wrote_as result new next now can wrote = rw is (
     [],
     [],
@@ -66,42 +66,42 @@ module _ {K : Type 0} (went : K → List Step → List Answer → K → Type 0) 
   -- The rest of the answer was written: all of it, as far as there was room, or it was cut off.
   pub wrote_whole : {new : SeatMachine} {next : Action}
       → ((first : LineSeen) → seen ≡ with_begun (answer_text answer) sent first → later ≡ with_written (answer_text answer) first)
-      → IsMove old events.WriteDone next new → ComesOn went results.Moved old seen sent link new later 0 link next action
+      → IsMove old events.WriteDone next new → ComesOn trace results.Moved old seen sent link new later 0 link next action
   wrote_whole {new = new} {next = next} w move = grind (arith, wrote_as, none_begun next later)
 
   pub broke_off : {new : SeatMachine} {next : Action}
       → ((first : LineSeen) → seen ≡ with_begun (answer_text answer) sent first → BreaksOff (answer_text answer) first later)
-      → IsMove old events.WriteFault next new → ComesOn went results.Moved old seen sent link new later 0 link next action
+      → IsMove old events.WriteFault next new → ComesOn trace results.Moved old seen sent link new later 0 link next action
   broke_off {new = new} {next = next} w move = grind (arith, wrote_as, none_begun)
 
   pub not_yet : (now : ℕ)
       → ((first : LineSeen) → seen ≡ with_begun (answer_text answer) sent first → later ≡ with_begun (answer_text answer) now first)
-      → ComesOn went results.NoRoom old seen sent link old later now link (actions.Write answer) action
+      → ComesOn trace results.NoRoom old seen sent link old later now link (actions.Write answer) action
   not_yet now w = grind (arith, wrote_as)
 
   pub wrote_part : (now : ℕ)
       → ((first : LineSeen) → seen ≡ with_begun (answer_text answer) sent first → later ≡ with_begun (answer_text answer) now first)
-      → ComesOn went results.Part old seen sent link old later now link (actions.Write answer) action
+      → ComesOn trace results.Part old seen sent link old later now link (actions.Write answer) action
   wrote_part now w = grind (arith, wrote_as)
 
 -- what a link did in an action: what it records of its calls, or nothing if it was not used
-pub gone : {K : Type 0} (went : K → List Step → List Answer → K → Type 0) (P : List Step → List Answer → Type 0) (first last : K)
+pub gone : {K : Type 0} (trace : K → List Step → List Answer → K → Type 0) (P : List Step → List Answer → Type 0) (first last : K)
     (action : Action) (submitted : List Step) (taken : List Answer)
-    → ((submitted : List Step) (taken : List Answer) → went first submitted taken last → P submitted taken) → (last ≡ first → P [] [])
-    → HasGone went first action submitted taken last → MayCall action submitted taken → P submitted taken
-gone went P first last action submitted taken h7 h8 h9 h10 = grind arith
+    → ((submitted : List Step) (taken : List Answer) → trace first submitted taken last → P submitted taken) → (last ≡ first → P [] [])
+    → HasGone trace first action submitted taken last → MayCall action submitted taken → P submitted taken
+gone trace P first last action submitted taken h7 h8 h9 h10 = grind arith
 
-pub ends_on : {L : Type 0} (result : Progress) (place : LinePlace L) (line : L) (action : Action) (sent : ℕ)
-    → place ≡ places.On line action sent → ((end : LineEnd) → action ≡ actions.LineOver end → ⊥) → CanEnd result action
-    → MayEndAt result place
-ends_on result place line action sent e other c = grind arith
+pub ends_on : {L : Type 0} (result : Progress) (phase : SeatPhase L) (line : L) (action : Action) (sent : ℕ)
+    → phase ≡ phases.On line action sent → ((end : LineEnd) → action ≡ actions.LineOver end → ⊥) → CanEnd result action
+    → MayEndAt result phase
+ends_on result phase line action sent e other c = grind arith
 
 -- Unless something moved, the link submitted nothing and took nothing.
-pub rests : {K : Type 0} (went : K → List Step → List Answer → K → Type 0) (result : Progress) (first last : K) (action : Action)
+pub rests : {K : Type 0} (trace : K → List Step → List Answer → K → Type 0) (result : Progress) (first last : K) (action : Action)
     (submitted : List Step) (taken : List Answer)
-    → HasGone went first action submitted taken last → MayCall action submitted taken → EndsAs result action submitted taken
-    → (result ≡ results.Moved → ⊥) → Calls went first [] [] last
-rests went result first last action submitted taken h c ends moved = grind arith
+    → HasGone trace first action submitted taken last → MayCall action submitted taken → EndsAs result action submitted taken
+    → (result ≡ results.Moved → ⊥) → Calls trace first [] [] last
+rests trace result first last action submitted taken h c ends moved = grind arith
 
 -- The answer that the place for the next action lends is the one that the action writes.
 pub writes_this : {action : Action} {lent : Answer} (writes : (answer : Answer) × (action ≡ actions.Write answer))
@@ -109,24 +109,24 @@ pub writes_this : {action : Action} {lent : Answer} (writes : (answer : Answer) 
 writes_this writes same = writes.1 ∙ ap actions.Write (sym (same writes.0 writes.1))
 
 -- A step was submitted, and then the seat waits for its answer or took it.
-pub submits_on : {K : Type 0} (went : K → List Step → List Answer → K → Type 0) (first middle last : K) (old new : SeatMachine)
-    (step : Step) (next : Action) → went first (as_submitted step) [] middle → TakesOrWaits went middle last old new next
-    → HasSubmittedOn went first last results.Moved old step new next
-submits_on went first middle last old new step next submits (inl waits) = grind arith
-submits_on went first middle last old new step next submits (inr took) = grind arith
+pub submits_on : {K : Type 0} (trace : K → List Step → List Answer → K → Type 0) (first middle last : K) (old new : SeatMachine)
+    (step : Step) (next : Action) → trace first (as_submitted step) [] middle → TakesOrWaits trace middle last old new next
+    → HasSubmittedOn trace first last results.Moved old step new next
+submits_on trace first middle last old new step next submits (inl waits) = grind arith
+submits_on trace first middle last old new step next submits (inr took) = grind arith
 
 -- What a seat did over its link if something moved.
-module _ {K : Type 0} (went : K → List Step → List Answer → K → Type 0) (first last : K) where
+module _ {K : Type 0} (trace : K → List Step → List Answer → K → Type 0) (first last : K) where
   pub uses_carried : (result : Progress) (old : SeatMachine) (seen : LineSeen) (action : Action) (sent : ℕ) (new : SeatMachine)
       (later : LineSeen) (next : Action) (now : ℕ) (submitted : List Step) (taken : List Answer)
-      → HasGone went first action submitted taken last → CarriedPart result old seen action sent new later next now submitted taken
-      → Uses went result first action last
+      → HasGone trace first action submitted taken last → CarriedPart result old seen action sent new later next now submitted taken
+      → Uses trace result first action last
   uses_carried results.Moved old seen (actions.Submit step) sent new later next now submitted taken g c =
       let h = (c.2 seen refl).2 in
-      (taken, subst (λ (s : List Step). went first s taken last) h.2.0 g)
+      (taken, subst (λ (s : List Step). trace first s taken last) h.2.0 g)
   uses_carried results.Moved old seen actions.PollMail sent new later next now submitted taken g c =
       let h = (c.2 seen refl).2 in (
         h.2.0,
-        subst (λ (t : List Answer). went first [] t last) h.2.1 (subst (λ (s : List Step). went first s taken last) h.1 g),
+        subst (λ (t : List Answer). trace first [] t last) h.2.1 (subst (λ (s : List Step). trace first s taken last) h.1 g),
       )
   uses_carried _ old seen action sent new later next now submitted taken g c = tt

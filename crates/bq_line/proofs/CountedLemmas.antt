@@ -20,8 +20,8 @@ use Rattle.bq_line.specs.Attending.{IsAt, IsOnLine}
 use Rattle.bq_line.specs.Carried.{Carried}
 use Rattle.bq_line.specs.Tending.{DoorSeen, IsCounted, IsTended, ended_lines, is_polling, over_by, over_now, polls_by}
 use Rattle.bq_line.specs.declared.attendant.Attendant.{Attendant}
-use Rattle.bq_line.specs.declared.attendant.LinePlace.{LinePlace}
-use Rattle.bq_line.specs.declared.attendant.LinePlace.TheVariants as places
+use Rattle.bq_line.specs.declared.attendant.SeatPhase.{SeatPhase}
+use Rattle.bq_line.specs.declared.attendant.SeatPhase.TheVariants as phases
 use Rattle.bq_line.specs.declared.attendant.Progress.{Progress}
 
 -- ---- what an action counts
@@ -74,14 +74,14 @@ on_closes size machine seen (actions.LineOver end) submitted taken o =
 on_closes size machine seen _ submitted taken o = omega arith
 
 module _ {L : Type 0} (seen : L → LineSeen) (size : ℕ) where
-  at_closings : (machine : SeatMachine) (place : LinePlace L) (submitted : List Step) (taken : List Answer)
-      → IsAt seen size machine place submitted taken → is_polling place ≡ false → closings submitted ≤ over_now place
-  at_closings machine (places.On line action sent) submitted taken at p = on_closings size machine at.0 action submitted taken at.2 p
+  at_closings : (machine : SeatMachine) (phase : SeatPhase L) (submitted : List Step) (taken : List Answer)
+      → IsAt seen size machine phase submitted taken → is_polling phase ≡ false → closings submitted ≤ over_now phase
+  at_closings machine (phases.On line action sent) submitted taken at p = on_closings size machine at.0 action submitted taken at.2 p
   at_closings machine _ submitted taken at p = let e = ap closings at.0 in omega arith
 
-  at_closes : (machine : SeatMachine) (place : LinePlace L) (submitted : List Step) (taken : List Answer)
-      → IsAt seen size machine place submitted taken → over_now place ≤ closes taken
-  at_closes machine (places.On line action sent) submitted taken at = on_closes size machine at.0 action submitted taken at.2
+  at_closes : (machine : SeatMachine) (phase : SeatPhase L) (submitted : List Step) (taken : List Answer)
+      → IsAt seen size machine phase submitted taken → over_now phase ≤ closes taken
+  at_closes machine (phases.On line action sent) submitted taken at = on_closes size machine at.0 action submitted taken at.2
   at_closes machine _ submitted taken at = omega arith
 
   -- The seat took at most one `Closed` for each connection that has ended, and went on. The core

@@ -23,8 +23,8 @@ use Rattle.bq_line.specs.Submitting.{IsSubmittedOn}
 use Rattle.bq_line.specs.Tending.{DoorSeen, GoesOn, IsCounted, IsNewDoor, IsNewSeat, IsPlaced, IsTended, Tends}
 use Rattle.bq_line.specs.Tending.{attendant, ended_lines, over_by, over_now}
 use Rattle.bq_line.specs.declared.attendant.Attendant.{Attendant}
-use Rattle.bq_line.specs.declared.attendant.LinePlace.{LinePlace}
-use Rattle.bq_line.specs.declared.attendant.LinePlace.TheVariants as places
+use Rattle.bq_line.specs.declared.attendant.SeatPhase.{SeatPhase}
+use Rattle.bq_line.specs.declared.attendant.SeatPhase.TheVariants as phases
 use Rattle.bq_job.proofs.JoinLemmas.{lines_more}
 use Rattle.bq_line.proofs.CarriedLemmas.{gone, none_begun}
 use Rattle.bq_line.proofs.CountedLemmas.{carried_counted}
@@ -42,22 +42,22 @@ none_taken : {L : Type 0} (seen : L → LineSeen) (size : ℕ) (old new : Attend
 none_taken seen size old new door next before got grows h =
     (none_more seen size new next before got h, record { grows = grows; unclosed = λ p. refl })
 
--- The seat moved to another place, with what was submitted and taken for its open connection so far.
-moves_to : {L : Type 0} (seen : L → LineSeen) (size : ℕ) (old : Attendant L) (new : SeatMachine) (place : LinePlace L)
+-- The seat moved to another phase, with what was submitted and taken for its open connection so far.
+moves_to : {L : Type 0} (seen : L → LineSeen) (size : ℕ) (old : Attendant L) (new : SeatMachine) (phase : SeatPhase L)
     (door next : DoorSeen) (before : List Step) (got : List Answer) → (t : IsTended seen size old door before got)
-    → next.lines_over ≡ door.lines_over → over_now old.place ≤ over_now place
-    → IsAt seen size new place t.attends.now t.attends.getting → IsPlaced place next
-    → IsTended seen size (attendant new place) next (before ++ []) (got ++ []) × IsCounted old door [] (attendant new place) next
-moves_to seen size old new place door next before got t over grows at placed =
+    → next.lines_over ≡ door.lines_over → over_now old.phase ≤ over_now phase
+    → IsAt seen size new phase t.attends.now t.attends.getting → IsPlaced phase next
+    → IsTended seen size (attendant new phase) next (before ++ []) (got ++ []) × IsCounted old door [] (attendant new phase) next
+moves_to seen size old new phase door next before got t over grows at placed =
     let a = t.attends in
-    none_taken seen size old (attendant new place) door next before got (let e = ap length over in omega arith) (record {
+    none_taken seen size old (attendant new phase) door next before got (let e = ap length over in omega arith) (record {
       attends = record {
         before = a.before;
         now = a.now;
         got = a.got;
         getting = a.getting;
         of_lines = rw over a.of_lines;
-        at_place = at;
+        at_phase = at;
         submitted_is = a.submitted_is;
         taken_is = a.taken_is;
       };
@@ -71,23 +71,23 @@ tends_still seen a door size before got h = none_taken seen size a a door door b
 pub tends_opened : {L : Type 0} (seen : L → LineSeen) (old new : SeatMachine) (line : L) (action : Action) (door next : DoorSeen)
     → IsMove old events.Opened action new → next.lines_over ≡ door.lines_over → next.is_out ≡ true → next.is_at_end ≡ false
     → seen line ≡ new_line
-    → Tends seen (attendant old places.Between) door [] [] (attendant new (places.On line action 0)) next
+    → Tends seen (attendant old phases.Between) door [] [] (attendant new (phases.On line action 0)) next
 tends_opened seen old new line action door next move over out more fresh size before got t =
-    let at = t.attends.at_place in
-    moves_to seen size (attendant old places.Between) new (places.On line action 0) door next before got t over (omega arith)
+    let at = t.attends.at_phase in
+    moves_to seen size (attendant old phases.Between) new (phases.On line action 0) door next before got t over (omega arith)
     (seen line, none_begun action (seen line), rw (at.0, at.1) (opened_on size old new action (seen line) at.2 at.3 move fresh)) (out, more)
 
 -- A connection that has ended was shut.
 pub tends_shut : {L : Type 0} (seen : L → LineSeen) (machine : SeatMachine) (line : L) (end : LineEnd) (sent : ℕ) (door next : DoorSeen)
     → next.lines_over ≡ door.lines_over ++ record { seen = seen line; over = end } ∷ [] → next.is_out ≡ false
     → next.is_at_end ≡ door.is_at_end
-    → Tends seen (attendant machine (places.On line (actions.LineOver end) sent)) door [] [] (attendant machine places.Between) next
+    → Tends seen (attendant machine (phases.On line (actions.LineOver end) sent)) door [] [] (attendant machine phases.Between) next
 tends_shut seen machine line end sent door next left inside still size before got t =
     let a = t.attends in
     let over : LineOver = record { seen = seen line; over = end } in
-    let on : IsOnLine size machine (seen line) (actions.LineOver end) a.now a.getting = rw a.at_place.1 a.at_place.2 in
+    let on : IsOnLine size machine (seen line) (actions.LineOver end) a.now a.getting = rw a.at_phase.1 a.at_phase.2 in
     let waits : awaited machine ≡ Awaited.ALine = let e = on.awaits in cc in
-    none_taken seen size (attendant machine (places.On line (actions.LineOver end) sent)) (attendant machine places.Between) door next
+    none_taken seen size (attendant machine (phases.On line (actions.LineOver end) sent)) (attendant machine phases.Between) door next
     before got (let e = ap length left ∙ length-append door.lines_over (over ∷ []) in omega arith) (record {
       attends = record {
         before = a.before ++ a.now;
@@ -97,7 +97,7 @@ tends_shut seen machine line end sent door next left inside still size before go
         of_lines =
             rw left (lines_more size door.lines_over over a.before a.now a.got a.getting a.of_lines
             (line_served size machine (seen line) end a.now a.getting on));
-        at_place = (refl, refl, waits, on.limit_is);
+        at_phase = (refl, refl, waits, on.limit_is);
         submitted_is = a.submitted_is ∙ sym (append-nil (a.before ++ a.now));
         taken_is = a.taken_is ∙ sym (append-nil (a.got ++ a.getting));
       };
@@ -108,10 +108,10 @@ tends_shut seen machine line end sent door next left inside still size before go
 tends_carried : {L : Type 0} (result : Progress) (seen : L → LineSeen) (old new : SeatMachine) (line later : L)
     (action next : Action) (sent now : ℕ) (submitted : List Step) (taken : List Answer) (door : DoorSeen)
     → CarriesOn result old (seen line) action sent new (seen later) next now submitted taken
-    → Tends seen (attendant old (places.On line action sent)) door submitted taken (attendant new (places.On later next now)) door
+    → Tends seen (attendant old (phases.On line action sent)) door submitted taken (attendant new (phases.On later next now)) door
 tends_carried result seen old new line later action next sent now submitted taken door carries size before got t =
     let a = t.attends in
-    let at = a.at_place in
+    let at = a.at_phase in
     let c = carries at.0 at.1 in
     let counted = carried_counted result size old new at.0 c.0 action next a.now submitted a.getting taken c.2 at.2 in (
       record {
@@ -121,7 +121,7 @@ tends_carried result seen old new line later action next sent now submitted take
           got = a.got;
           getting = a.getting ++ taken;
           of_lines = a.of_lines;
-          at_place = (c.0, c.1, carried_on result size old new at.0 c.0 action next a.now submitted a.getting taken c.2 at.2);
+          at_phase = (c.0, c.1, carried_on result size old new at.0 c.0 action next a.now submitted a.getting taken c.2 at.2);
           submitted_is = ap (λ (xs : List Step). xs ++ submitted) a.submitted_is ∙ append_assoc a.before a.now submitted;
           taken_is = ap (λ (xs : List Answer). xs ++ taken) a.taken_is ∙ append_assoc a.got a.getting taken;
         };
@@ -134,8 +134,8 @@ tends_carried result seen old new line later action next sent now submitted take
 pub tends_submitted : {L : Type 0} (result : Progress) (seen : L → LineSeen) (old new : SeatMachine) (line : L) (step : Step)
     (next : Action) (sent now : ℕ) (submitted : List Step) (taken : List Answer) (door : DoorSeen) → now ≡ 0
     → IsSubmittedOn result old step new next submitted taken
-    → Tends seen (attendant old (places.On line (actions.Submit step) sent)) door submitted taken
-    (attendant new (places.On line next now)) door
+    → Tends seen (attendant old (phases.On line (actions.Submit step) sent)) door submitted taken
+    (attendant new (phases.On line next now)) door
 tends_submitted result seen old new line step next sent now submitted taken door none (inl s) =
     rw none (tends_carried result seen old new line line (actions.Submit step) next sent 0 submitted taken door
     (λ first e. (seen line, none_begun next (seen line), (e, s.0, s.1))))
@@ -152,16 +152,16 @@ tends_submitted result seen old new line step next sent now submitted taken door
     )
 
 -- the same with the link's calls
-pub tends_acted : {K L : Type 0} (went : K → List Step → List Answer → K → Type 0) (result : Progress) (first last : K)
+pub tends_acted : {K L : Type 0} (trace : K → List Step → List Answer → K → Type 0) (result : Progress) (first last : K)
     (seen : L → LineSeen) (old new : SeatMachine) (line later : L) (action next : Action) (sent now : ℕ)
     (submitted : List Step) (taken : List Answer)
-    → HasGone went first action submitted taken last
+    → HasGone trace first action submitted taken last
     → CarriedPart result old (seen line) action sent new (seen later) next now submitted taken
-    → (Calls went first submitted taken last)
-    × ((door : DoorSeen) → Tends seen (attendant old (places.On line action sent)) door submitted taken
-    (attendant new (places.On later next now)) door)
-tends_acted went result first last seen old new line later action next sent now submitted taken h carried = (
-  gone went (λ s t. Calls went first s t last) first last action submitted taken (λ s t w. inl w) (λ e. inr (e, refl, refl)) h carried.1,
+    → (Calls trace first submitted taken last)
+    × ((door : DoorSeen) → Tends seen (attendant old (phases.On line action sent)) door submitted taken
+    (attendant new (phases.On later next now)) door)
+tends_acted trace result first last seen old new line later action next sent now submitted taken h carried = (
+  gone trace (λ s t. Calls trace first s t last) first last action submitted taken (λ s t w. inl w) (λ e. inr (e, refl, refl)) h carried.1,
   λ door. tends_carried result seen old new line later action next sent now submitted taken door carried.2,
 )
 
@@ -169,48 +169,48 @@ tends_acted went result first last seen old new line later action next sent now 
 pub tended_new : {L : Type 0} (seen : L → LineSeen) (size : ℕ) (a : Attendant L) (door : DoorSeen) → IsNewSeat size a → IsNewDoor door
     → IsTended seen size a door [] []
 tended_new {L} seen size a door seat new =
-    subst (λ (q : LinePlace L). IsTended seen size (attendant a.machine q) door [] []) (sym seat.place) (record {
+    subst (λ (q : SeatPhase L). IsTended seen size (attendant a.machine q) door [] []) (sym seat.phase) (record {
       attends = record {
         before = [];
         now = [];
         got = [];
         getting = [];
         of_lines = rw new.none_over (refl, refl);
-        at_place = (refl, refl, seat.awaits, seat.limit);
+        at_phase = (refl, refl, seat.awaits, seat.limit);
         submitted_is = refl;
         taken_is = refl;
       };
       placed = (new.inside, new.more);
     })
 
--- a place with an action that is known by an equation
-pub on_action : {L : Type 0} {place : LinePlace L} {line : L} {action same : Action} {sent : ℕ} → place ≡ places.On line action sent
-    → action ≡ same → place ≡ places.On line same sent
-on_action {line = line} {sent = sent} at is = at ∙ ap (λ a. places.On line a sent) is
+-- a phase with an action that is known by an equation
+pub on_action : {L : Type 0} {phase : SeatPhase L} {line : L} {action same : Action} {sent : ℕ} → phase ≡ phases.On line action sent
+    → action ≡ same → phase ≡ phases.On line same sent
+on_action {line = line} {sent = sent} at is = at ∙ ap (λ a. phases.On line a sent) is
 
--- the place where a seat starts, by an equation
-pub from_place : {K L : Type 0} (went : K → List Step → List Answer → K → Type 0) (first last : K) {seen : L → LineSeen}
-    {machine new : SeatMachine} {place same later : LinePlace L} {door next : DoorSeen}
-    → place ≡ same → GoesOn went first last seen (attendant machine same) door (attendant new later) next
-    → GoesOn went first last seen (attendant machine place) door (attendant new later) next
-from_place went first last is h = rw is h
+-- the phase in which a seat starts, by an equation
+pub from_phase : {K L : Type 0} (trace : K → List Step → List Answer → K → Type 0) (first last : K) {seen : L → LineSeen}
+    {machine new : SeatMachine} {phase same later : SeatPhase L} {door next : DoorSeen}
+    → phase ≡ same → GoesOn trace first last seen (attendant machine same) door (attendant new later) next
+    → GoesOn trace first last seen (attendant machine phase) door (attendant new later) next
+from_phase trace first last is h = rw is h
 
 -- The same by an equation, if the link is not used.
-pub tends_from : {L : Type 0} {seen : L → LineSeen} {machine : SeatMachine} {place same : LinePlace L} {door next : DoorSeen}
+pub tends_from : {L : Type 0} {seen : L → LineSeen} {machine : SeatMachine} {phase same : SeatPhase L} {door next : DoorSeen}
     {later : Attendant L}
-    → place ≡ same → Tends seen (attendant machine same) door [] [] later next → Tends seen (attendant machine place) door [] [] later next
+    → phase ≡ same → Tends seen (attendant machine same) door [] [] later next → Tends seen (attendant machine phase) door [] [] later next
 tends_from is h = rw is h
 
 still_open : {L : Type 0} (seen : L → LineSeen) (machine : SeatMachine) (line later : L) (action : Action) (sent : ℕ) (door : DoorSeen)
-    → seen later ≡ seen line → Tends seen (attendant machine (places.On line action sent)) door [] []
-    (attendant machine (places.On later action sent)) door
+    → seen later ≡ seen line → Tends seen (attendant machine (phases.On line action sent)) door [] []
+    (attendant machine (phases.On later action sent)) door
 still_open seen machine line later action sent door same size before got t =
-    let at = t.attends.at_place in
-    moves_to seen size (attendant machine (places.On line action sent)) machine (places.On later action sent) door door before got t refl
+    let at = t.attends.at_phase in
+    moves_to seen size (attendant machine (phases.On line action sent)) machine (phases.On later action sent) door door before got t refl
     (omega arith) (at.0, same ∙ at.1, at.2) t.placed
 
 -- The open connection was given a hint, and its record is unchanged.
 pub tends_told : {L : Type 0} (seen : L → LineSeen) (a : Attendant L) (line later : L) (action : Action) (sent : ℕ)
-    → a.place ≡ places.On line action sent → seen later ≡ seen line
-    → (door : DoorSeen) → Tends seen a door [] [] (attendant a.machine (places.On later action sent)) door
+    → a.phase ≡ phases.On line action sent → seen later ≡ seen line
+    → (door : DoorSeen) → Tends seen a door [] [] (attendant a.machine (phases.On later action sent)) door
 tends_told seen a line later action sent is same door = tends_from is (still_open seen a.machine line later action sent door same)

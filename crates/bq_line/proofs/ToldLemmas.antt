@@ -139,22 +139,22 @@ pub told_all : {I : Type 0} {i : Control I} {first : Option (List ℕ)} {may : B
     → c.stage ≡ stages.Over → HasTold i first may c told → IsToldSo i first may c told
 told_all {I} {i} {first} {may} {c} {told} over h = grind arith
 
-module _ {I K : Type 0} {i : Control I} {went : K → List Step → K → Type 0} where
+module _ {I K : Type 0} {i : Control I} {trace : K → List Step → K → Type 0} where
   -- There was no room for the step.
   pub none_submitted : {old new : K} {steps : ControlSteps I}
-      → ((link : K) (before : List Step) → went link before old → went link before new) → HasSubmitted i went old steps new steps
+      → ((link : K) (before : List Step) → trace link before old → trace link before new) → HasSubmitted i trace old steps new steps
   none_submitted {new = new} w = grind (arith, common_steps)
 
 -- From a link on, the steps of a control line were submitted that was new then.
-pub record Submitted {I K : Type 0} (i : Control I) (first : Option (List ℕ)) (may : Bool) (went : K → List Step → K → Type 0)
+pub record Submitted {I K : Type 0} (i : Control I) (first : Option (List ℕ)) (may : Bool) (trace : K → List Step → K → Type 0)
     (old new : K) (steps : ControlSteps I) : Type 0 where
   pub told : List Step
   pub tells : HasTold i first may steps told
-  pub over_link : (link : K) (before : List Step) → went link before old → went link (before ++ told) new
+  pub over_link : (link : K) (before : List Step) → trace link before old → trace link (before ++ told) new
 
-module _ {I K : Type 0} {i : Control I} {first : Option (List ℕ)} {may : Bool} {went : K → List Step → K → Type 0} where
-  pub submitted_on : {old mid new : K} {steps later : ControlSteps I} → Submitted i first may went old mid steps
-      → HasSubmitted i went mid steps new later → Submitted i first may went old new later
+module _ {I K : Type 0} {i : Control I} {first : Option (List ℕ)} {may : Bool} {trace : K → List Step → K → Type 0} where
+  pub submitted_on : {old mid new : K} {steps later : ControlSteps I} → Submitted i first may trace old mid steps
+      → HasSubmitted i trace mid steps new later → Submitted i first may trace old new later
   submitted_on {new = new} s m = record {
     told = s.told ++ m.told;
     tells = m.tells.on first may s.told s.tells;

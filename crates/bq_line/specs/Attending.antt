@@ -15,8 +15,8 @@ use Rattle.bq_seat.specs.Served.{seen_line}
 use Rattle.bq_seat.specs.declared.machine.Action.{Action}
 use Rattle.bq_seat.specs.declared.machine.SeatMachine.{SeatMachine}
 use Rattle.bq_line.specs.Carried.{with_part}
-use Rattle.bq_line.specs.declared.attendant.LinePlace.{LinePlace}
-use Rattle.bq_line.specs.declared.attendant.LinePlace.TheVariants as places
+use Rattle.bq_line.specs.declared.attendant.SeatPhase.{SeatPhase}
+use Rattle.bq_line.specs.declared.attendant.SeatPhase.TheVariants as phases
 
 -- what was written of the answers that were given for writing: all of it, except after a write
 -- fault
@@ -41,22 +41,22 @@ pub record IsOnLine (max_job_size : ℕ) (machine : SeatMachine) (seen : LineSee
   pub limit_is : machine.reader.max_job_size ≡ max_job_size
 
 -- what was done for the open connection
-abbrev pub IsAt : {L : Type 0} → (L → LineSeen) → ℕ → SeatMachine → LinePlace L → List Step → List Answer → Type 0
-IsAt seen max_job_size machine places.Between submitted taken =
+abbrev pub IsAt : {L : Type 0} → (L → LineSeen) → ℕ → SeatMachine → SeatPhase L → List Step → List Answer → Type 0
+IsAt seen max_job_size machine phases.Between submitted taken =
     (submitted ≡ []) × (taken ≡ []) × (awaited machine ≡ Awaited.ALine) × (machine.reader.max_job_size ≡ max_job_size)
-IsAt seen max_job_size machine (places.On line action sent) submitted taken =
+IsAt seen max_job_size machine (phases.On line action sent) submitted taken =
     (first : LineSeen) × (seen line ≡ with_part action sent first) × IsOnLine max_job_size machine first action submitted taken
-IsAt seen max_job_size machine places.Leaving submitted taken = (submitted ≡ []) × (taken ≡ [])
-IsAt seen max_job_size machine places.Done submitted taken = (submitted ≡ Gone ∷ []) × (taken ≡ [])
+IsAt seen max_job_size machine phases.Leaving submitted taken = (submitted ≡ []) × (taken ≡ [])
+IsAt seen max_job_size machine phases.Done submitted taken = (submitted ≡ Gone ∷ []) × (taken ≡ [])
 
 -- What a seat did: the connections that have ended, and then the open one.
-pub record IsAttending {L : Type 0} (seen : L → LineSeen) (max_job_size : ℕ) (machine : SeatMachine) (place : LinePlace L)
+pub record IsAttending {L : Type 0} (seen : L → LineSeen) (max_job_size : ℕ) (machine : SeatMachine) (phase : SeatPhase L)
     (lines : List LineOver) (submitted : List Step) (taken : List Answer) : Type 0 where
   pub before : List Step
   pub now : List Step
   pub got : List Answer
   pub getting : List Answer
   pub of_lines : AreLinesServed max_job_size lines before got
-  pub at_place : IsAt seen max_job_size machine place now getting
+  pub at_phase : IsAt seen max_job_size machine phase now getting
   pub submitted_is : submitted ≡ before ++ now
   pub taken_is : taken ≡ got ++ getting

@@ -125,6 +125,6 @@ CarriedPart result old seen action sent new later next now submitted taken =
 
 -- Only a submission and a check of the mail use the link; otherwise it is unchanged.
 abbrev pub HasGone : {K : Type 0} → (K → List Step → List Answer → K → Type 0) → K → Action → List Step → List Answer → K → Type 0
-HasGone went old (actions.Submit step) submitted taken new = went old submitted taken new
-HasGone went old actions.PollMail submitted taken new = went old submitted taken new
-HasGone went old _ submitted taken new = new ≡ old
+HasGone trace old (actions.Submit step) submitted taken new = trace old submitted taken new
+HasGone trace old actions.PollMail submitted taken new = trace old submitted taken new
+HasGone trace old _ submitted taken new = new ≡ old

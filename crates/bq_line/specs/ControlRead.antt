@@ -26,5 +26,5 @@ HasRead kept bytes false new = (rest : List ℕ) (failed : Bool) → drains_from
 
 -- The step was submitted after the earlier ones, or it was returned and nothing was submitted.
 abbrev pub SubmitsOn : {K : Type 0} → (K → List Step → K → Type 0) → K → List Step → Step → Result (Unit {0}) Step → K → Type 0
-SubmitsOn went first before step (Ok done) new = went first (before ++ as_submitted step) new
-SubmitsOn went first before step (Err back) new = went first before new
+SubmitsOn trace first before step (Ok done) new = trace first (before ++ as_submitted step) new
+SubmitsOn trace first before step (Err back) new = trace first before new

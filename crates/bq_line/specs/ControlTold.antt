@@ -55,8 +55,8 @@ pub record TellsOn {I : Type 0} (i : Control I) (old : ControlSteps I) (more : L
       → HasTold i first may new (before ++ more)
 
 -- Whatever was submitted over a link before, these steps of the control line were submitted after it.
-pub record HasSubmitted {I K : Type 0} (i : Control I) (went : K → List Step → K → Type 0) (old : K) (steps : ControlSteps I)
+pub record HasSubmitted {I K : Type 0} (i : Control I) (trace : K → List Step → K → Type 0) (old : K) (steps : ControlSteps I)
     (new : K) (later : ControlSteps I) : Type 0 where
   pub told : List Step
   pub tells : TellsOn i steps told later
-  pub over_link : (first : K) (before : List Step) → went first before old → went first (before ++ told) new
+  pub over_link : (first : K) (before : List Step) → trace first before old → trace first (before ++ told) new

@@ -16,12 +16,12 @@ IsOpened seen is_out is_at_end (Ok None) = (is_out ≡ false) × (is_at_end ≡ 
 IsOpened seen is_out is_at_end (Err e) = (is_out ≡ false) × (is_at_end ≡ true)
 
 -- The same without waiting, where possibly no client has connected yet.
-abbrev pub IsLookedFor : {L E : Type 0} → (L → LineSeen) → Bool → Bool → Result (Opening L) E → Type 0
-IsLookedFor seen is_out is_at_end (Ok (openings.Line line)) = (is_out ≡ true) × (is_at_end ≡ false) × (seen line ≡ new_line)
-IsLookedFor seen is_out is_at_end (Ok openings.NotYet) = (is_out ≡ false) × (is_at_end ≡ false)
-IsLookedFor seen is_out is_at_end (Ok openings.Later) = (is_out ≡ false) × (is_at_end ≡ false)
-IsLookedFor seen is_out is_at_end (Ok openings.NoMore) = (is_out ≡ false) × (is_at_end ≡ true)
-IsLookedFor seen is_out is_at_end (Err e) = (is_out ≡ false) × (is_at_end ≡ true)
+abbrev pub IsTryOpened : {L E : Type 0} → (L → LineSeen) → Bool → Bool → Result (Opening L) E → Type 0
+IsTryOpened seen is_out is_at_end (Ok (openings.Line line)) = (is_out ≡ true) × (is_at_end ≡ false) × (seen line ≡ new_line)
+IsTryOpened seen is_out is_at_end (Ok openings.NotYet) = (is_out ≡ false) × (is_at_end ≡ false)
+IsTryOpened seen is_out is_at_end (Ok openings.Later) = (is_out ≡ false) × (is_at_end ≡ false)
+IsTryOpened seen is_out is_at_end (Ok openings.NoMore) = (is_out ≡ false) × (is_at_end ≡ true)
+IsTryOpened seen is_out is_at_end (Err e) = (is_out ≡ false) × (is_at_end ≡ true)
 
 -- If a connection was opened, this holds of it.
 abbrev pub IfOpened : {L E : Type 0} → Result (Option L) E → (L → Type 0) → Type 0

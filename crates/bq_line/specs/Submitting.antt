@@ -15,14 +15,14 @@ use Rattle.bq_seat.specs.declared.machine.SeatMachine.{SeatMachine}
 -- The step was submitted or was not accepted, and no answer was taken.
 abbrev pub HasSubmitted : {K : Type 0} → (K → List Step → List Answer → K → Type 0) → K → K → Progress → SeatMachine → Step → SeatMachine
     → Action → Type 0
-HasSubmitted went first last result old step new next =
-    (submitted : List Step) × went first submitted [] last × IsSubmittedAs result old step new next submitted
+HasSubmitted trace first last result old step new next =
+    (submitted : List Step) × trace first submitted [] last × IsSubmittedAs result old step new next submitted
 
 -- The step was submitted, and the seat waits for the answer if there will be one. Or the answer to a request was taken at once.
 abbrev pub TakesOrWaits : {K : Type 0} → (K → List Step → List Answer → K → Type 0) → K → K → SeatMachine → SeatMachine → Action → Type 0
-TakesOrWaits went first last old new next =
-    (IsMove old events.Submitted next new × TakesNone went first last)
-    ⊎ ((answer : Answer) × IsAnswered old answer next new × TakesOne went first answer last)
+TakesOrWaits trace first last old new next =
+    (IsMove old events.Submitted next new × TakesNone trace first last)
+    ⊎ ((answer : Answer) × IsAnswered old answer next new × TakesOne trace first answer last)
 
 -- The step was submitted or was not accepted. Or it was submitted, and then the answer was taken.
 abbrev pub IsSubmittedOn : Progress → SeatMachine → Step → SeatMachine → Action → List Step → List Answer → Type 0
@@ -33,6 +33,6 @@ IsSubmittedOn result old step new next submitted taken =
 
 abbrev pub HasSubmittedOn : {K : Type 0} → (K → List Step → List Answer → K → Type 0) → K → K → Progress → SeatMachine → Step
     → SeatMachine → Action → Type 0
-HasSubmittedOn went first last result old step new next =
-    (submitted : List Step) × (taken : List Answer) × went first submitted taken last
+HasSubmittedOn trace first last result old step new next =
+    (submitted : List Step) × (taken : List Answer) × trace first submitted taken last
     × IsSubmittedOn result old step new next submitted taken

@@ -33,7 +33,7 @@ pub trait Link {
 
     /// From the first link, the seat submitted these steps and took these answers, and the second
     /// link is what remained.
-    ghost went: { Self → List Step → List Answer → Self → Type 0 };
+    ghost trace: { Self → List Step → List Answer → Self → Type 0 };
 
     /// The first link did not accept this step, and the second link is what remained.
     ghost refused: { Self → Step → Self → Type 0 } = { λ _ _ _. Unit {0} };
@@ -46,24 +46,24 @@ pub trait Link {
     fn submit(&mut self, step: &mut Step) -> bool
         requires ready { is_ready self.old }
         ensures ready { is_ready self.new }
-        ensures went { SubmitsInPlace went self.old step.old result step.new self.new }
+        ensures trace { SubmitsInPlace trace self.old step.old result step.new self.new }
         ensures refused { result ≡ false → refused self.old step.old self.new };
 
-    /// Takes the oldest waiting answer, puts it into `place` as an action that writes it, and
-    /// returns true. If there is none, leaves `place` as it was and returns false. A link between
+    /// Takes the oldest waiting answer, makes `action` one that writes it, and returns true. If
+    /// there is none, leaves `action` as it was and returns false. A link between
     /// threads may sleep here for up to a second, until an answer comes.
-    fn mail(&mut self, place: &mut NextAction) -> bool
+    fn mail(&mut self, action: &mut NextAction) -> bool
         requires ready { is_ready self.old }
         ensures ready { is_ready self.new }
-        ensures went { TakesInPlace went self.old place.old result place.new self.new }
+        ensures trace { TakesInPlace trace self.old action.old result action.new self.new }
         ensures none { result ≡ false → had_none self.old self.new };
 
     /// Takes the oldest waiting answer as `mail` does, but never sleeps. By default it takes none:
     /// the seat then calls `mail` for it.
-    fn mail_at_once(&mut self, place: &mut NextAction) -> bool
+    fn mail_at_once(&mut self, action: &mut NextAction) -> bool
         requires ready { is_ready self.old }
         ensures ready { is_ready self.new }
-        ensures went { TakesFurther went self.old place.old result place.new self.new }
+        ensures trace { TakesFurther trace self.old action.old result action.new self.new }
     {
         false
     }
@@ -99,9 +99,9 @@ impl Progress {
     }
 }
 
-/// Where a seat is with its door.
+/// The phase of a seat: between two connections, at one, or done.
 #[derive(Drop)]
-pub enum LinePlace<L> {
+pub enum SeatPhase<L> {
     /// The next connection has to be opened.
     Between,
     /// This connection is open, and the action is its next one. If the action writes an answer, the
@@ -115,7 +115,7 @@ pub enum LinePlace<L> {
 
 /// The result of opening the next connection without waiting.
 #[derive(Clone, Copy, PartialEq, Eq)]
-pub enum Looked {
+pub enum TryOpened {
     /// A connection was opened.
     Opened,
     /// No client has connected yet. The system reports when one has.
@@ -126,11 +126,11 @@ pub enum Looked {
     NoMore,
 }
 
-/// A seat, and where it is with its door.
+/// A seat, and its phase at its door.
 #[derive(Drop)]
 pub struct Attendant<L> {
     pub machine: SeatMachine,
-    pub place: LinePlace<L>,
+    pub phase: SeatPhase<L>,
 }
 
 impl<L: Line + Drop> Attendant<L> {
@@ -138,30 +138,30 @@ impl<L: Line + Drop> Attendant<L> {
     /// Everything except bodies is allocated here; returns `NoMemory` if that fails.
     pub fn new(alloc: Global, max_job_size: u32) -> Result<Attendant<L>, NoMemory>
         requires { (1 ≤ max_job_size) × (max_job_size ≤ LARGEST_BODY) }
-        ensures place { IfOk result (λ a. a.place ≡ LinePlace.Between) }
+        ensures phase { IfOk result (λ a. a.phase ≡ SeatPhase.Between) }
         ensures awaits { IfOk result (λ a. awaited a.machine ≡ Awaited.ALine) }
         ensures limit { IfOk result (λ a. a.machine.reader.max_job_size ≡ max_job_size) }
     {
         let machine = SeatMachine::new(alloc, max_job_size)?;
         Ok(Attendant {
             machine,
-            place: LinePlace::Between,
+            phase: SeatPhase::Between,
         })
     }
 
     /// Returns true if its door has ended and that was submitted.
     pub fn is_done(&self) -> bool
-        ensures { IsTrue result ↔ (self.now.place ≡ LinePlace.Done) }
+        ensures { IsTrue result ↔ (self.now.phase ≡ SeatPhase.Done) }
     {
-        matches!(self.place, LinePlace::Done)
+        matches!(self.phase, SeatPhase::Done)
     }
 
     /// Returns true if the seat is blocked on input: it wants to read and has no outstanding
     /// answer.
     pub fn awaits_line(&self) -> bool
         ensures reads { IsTrue result
-            → (line : L) × (sent : ℕ) × (self.now.place ≡ LinePlace.On line Action.Read sent) }
-        ensures outstanding { (line : L) (sent : ℕ) → self.now.place ≡ LinePlace.On line Action.Read sent
+            → (line : L) × (sent : ℕ) × (self.now.phase ≡ SeatPhase.On line Action.Read sent) }
+        ensures outstanding { (line : L) (sent : ℕ) → self.now.phase ≡ SeatPhase.On line Action.Read sent
             → ReadsWith (not result) self.now.machine }
     {
         self.reads() && !self.machine.has_outstanding()
@@ -170,8 +170,8 @@ impl<L: Line + Drop> Attendant<L> {
     /// Returns true if it wants to read while an answer is outstanding.
     pub fn reads_on(&self) -> bool
         ensures reads { IsTrue result
-            → (line : L) × (sent : ℕ) × (self.now.place ≡ LinePlace.On line Action.Read sent) }
-        ensures outstanding { (line : L) (sent : ℕ) → self.now.place ≡ LinePlace.On line Action.Read sent
+            → (line : L) × (sent : ℕ) × (self.now.phase ≡ SeatPhase.On line Action.Read sent) }
+        ensures outstanding { (line : L) (sent : ℕ) → self.now.phase ≡ SeatPhase.On line Action.Read sent
             → ReadsWith result self.now.machine }
     {
         self.reads() && self.machine.has_outstanding()
@@ -179,60 +179,60 @@ impl<L: Line + Drop> Attendant<L> {
 
     /// Returns true if it wants to read its connection.
     pub fn reads(&self) -> bool
-        ensures { IsTrue result ↔ ((line : L) × (sent : ℕ) × (self.now.place ≡ LinePlace.On line Action.Read sent)) }
+        ensures { IsTrue result ↔ ((line : L) × (sent : ℕ) × (self.now.phase ≡ SeatPhase.On line Action.Read sent)) }
     {
-        match &self.place {
-            LinePlace::On(_, next, _) => next.is_read(),
+        match &self.phase {
+            SeatPhase::On(_, next, _) => next.is_read(),
             _ => false,
         }
     }
 
     /// Returns true if it wants to submit a step, possibly again.
     pub fn submits(&self) -> bool
-        ensures { result ≡ is_submitting self.now.place }
+        ensures { result ≡ is_submitting self.now.phase }
     {
-        match &self.place {
-            LinePlace::On(_, next, _) => matches!(next.does(), Does::Submit),
-            LinePlace::Leaving => true,
+        match &self.phase {
+            SeatPhase::On(_, next, _) => matches!(next.does(), Does::Submit),
+            SeatPhase::Leaving => true,
             _ => false,
         }
     }
 
     /// Returns true if it wants to check its mail for an answer.
     pub fn polls_mail(&self) -> bool
-        ensures { result ≡ is_polling self.now.place }
+        ensures { result ≡ is_polling self.now.phase }
     {
-        match &self.place {
-            LinePlace::On(_, next, _) => matches!(next.does(), Does::PollMail),
+        match &self.phase {
+            SeatPhase::On(_, next, _) => matches!(next.does(), Does::PollMail),
             _ => false,
         }
     }
 
     /// Returns true if it wants to write an answer.
     pub fn writes(&self) -> bool
-        ensures { result ≡ is_writing self.now.place }
+        ensures { result ≡ is_writing self.now.phase }
     {
-        match &self.place {
-            LinePlace::On(_, next, _) => matches!(next.does(), Does::Write),
+        match &self.phase {
+            SeatPhase::On(_, next, _) => matches!(next.does(), Does::Write),
             _ => false,
         }
     }
 
     /// Returns true if its next connection has to be opened.
     pub fn is_between(&self) -> bool
-        ensures { IsTrue result ↔ (self.now.place ≡ LinePlace.Between) }
+        ensures { IsTrue result ↔ (self.now.phase ≡ SeatPhase.Between) }
     {
-        matches!(self.place, LinePlace::Between)
+        matches!(self.phase, SeatPhase::Between)
     }
 
     /// Records what the system reported about the connection's readiness. A seat between two
     /// connections stays as it is.
     #[tactic(auto, using(crate::proofs::TendingLemmas::tends_told))]
     pub fn note_ready(&mut self, ready: Readiness)
-        ensures went { (door : DoorSeen) → Tends L.seen self.old door [] [] self.new door }
-        ensures between { self.old.place ≡ LinePlace.Between → self.new.place ≡ LinePlace.Between }
+        ensures trace { (door : DoorSeen) → Tends L.seen self.old door [] [] self.new door }
+        ensures between { self.old.phase ≡ SeatPhase.Between → self.new.phase ≡ SeatPhase.Between }
     {
-        if let LinePlace::On(line, _, _) = &mut self.place {
+        if let SeatPhase::On(line, _, _) = &mut self.phase {
             line.note_ready(ready);
         }
     }
@@ -242,7 +242,7 @@ impl<L: Line + Drop> Attendant<L> {
     pub fn exchange(&mut self, buffer: &mut ReadBuffer)
         ensures { (door : DoorSeen) → Tends L.seen self.old door [] [] self.new door }
     {
-        if let LinePlace::On(line, _, _) = &mut self.place {
+        if let SeatPhase::On(line, _, _) = &mut self.phase {
             line.exchange(buffer);
         }
     }
@@ -252,44 +252,44 @@ impl<L: Line + Drop> Attendant<L> {
     pub fn hand_on(&mut self)
         ensures { (door : DoorSeen) → Tends L.seen self.old door [] [] self.new door }
     {
-        if let LinePlace::On(line, _, _) = &mut self.place {
+        if let SeatPhase::On(line, _, _) = &mut self.phase {
             line.expect_more(false);
         }
     }
 
     /// Opens the next connection without waiting for it, and has it watched. `may_have_come` is
     /// false if no client can have connected since the last call.
-    pub fn look<D: Door<Line = L>, W: Watcher>(
+    pub fn try_open<D: Door<Line = L>, W: Watcher>(
         &mut self,
         alloc: Global,
         door: &mut D,
         may_have_come: bool,
         watcher: &W,
-    ) -> Looked
-        requires between { self.old.place ≡ LinePlace.Between }
+    ) -> TryOpened
+        requires between { self.old.phase ≡ SeatPhase.Between }
         requires more { MayOpen (D.is_out door.old) (D.is_at_end door.old) }
-        ensures went { let at = door_seen D.Door in
+        ensures trace { let at = door_seen D.Door in
             Tends L.seen self.old (at door.old) [] [] self.new (at door.new) }
         ensures same { (first : D) → D.same first door.old → D.same first door.new }
-        ensures sure { StaysSure L.lies_over D.lines_over D.may_fail self.old.place door.old self.new.place door.new }
+        ensures sure { StaysSure L.lies_over D.lines_over D.may_fail self.old.phase door.old self.new.phase door.new }
         // Without a connection it is still between two connections.
-        ensures none { (result ≡ Looked.NotYet) ⊎ (result ≡ Looked.Later) → self.new.place ≡ LinePlace.Between }
+        ensures none { (result ≡ TryOpened.NotYet) ⊎ (result ≡ TryOpened.Later) → self.new.phase ≡ SeatPhase.Between }
     {
-        match door.look(may_have_come, watcher) {
+        match door.try_open(may_have_come, watcher) {
             Ok(Opening::Line(line)) => {
                 let action = self.machine.open();
-                put_place(&mut self.place, LinePlace::On(line, action, 0));
-                Looked::Opened
+                set_phase(&mut self.phase, SeatPhase::On(line, action, 0));
+                TryOpened::Opened
             }
-            Ok(Opening::NotYet) => Looked::NotYet,
-            Ok(Opening::Later) => Looked::Later,
+            Ok(Opening::NotYet) => TryOpened::NotYet,
+            Ok(Opening::Later) => TryOpened::Later,
             Ok(Opening::NoMore) => {
-                put_place(&mut self.place, LinePlace::Leaving);
-                Looked::NoMore
+                set_phase(&mut self.phase, SeatPhase::Leaving);
+                TryOpened::NoMore
             }
             Err(_) => {
-                put_place(&mut self.place, LinePlace::Leaving);
-                Looked::NoMore
+                set_phase(&mut self.phase, SeatPhase::Leaving);
+                TryOpened::NoMore
             }
         }
     }
@@ -304,36 +304,36 @@ impl<L: Line + Drop> Attendant<L> {
         link: &mut K,
         buffers: &mut Buffers,
     ) -> Progress
-        requires placed { IsPlaced self.old.place
+        requires placed { IsPlaced self.old.phase
             (door_seen D.Door door.old) }
         requires ready { K.is_ready link.old }
         ensures ready { K.is_ready link.new }
-        // The result is one that this place can have. Unless something moved, the seat submitted
+        // The result is one that this phase can have. Unless something moved, the seat submitted
         // nothing and took nothing.
-        ensures progress { MayEndAt result self.old.place }
-        ensures still { (result ≡ Progress.Moved → ⊥) → Calls K.went link.old [] [] link.new }
+        ensures progress { MayEndAt result self.old.phase }
+        ensures still { (result ≡ Progress.Moved → ⊥) → Calls K.trace link.old [] [] link.new }
         // It reports a step that was not accepted, or that no answer has come, only if the link did so
         // in this call.
-        ensures lacks { LacksAt K.refused K.had_none result link.old self.old.place link.new }
+        ensures lacks { LacksAt K.refused K.had_none result link.old self.old.phase link.new }
         // If a connection was to be opened or shut, or no more were to come, that was done.
-        ensures moves { MovesAt result self.old.place self.new.place }
+        ensures moves { MovesAt result self.old.phase self.new.phase }
         // If a step was to be submitted or an answer to be taken, and it says so, that was done.
-        ensures uses { UsesAt K.went result link.old self.old.place link.new }
+        ensures uses { UsesAt K.trace result link.old self.old.phase link.new }
         // Whatever it did before, it continued with the steps that it submitted and the answers
         // that it took.
-        ensures went { let at = door_seen D.Door in
-            GoesOn K.went link.old link.new L.seen self.old (at door.old) self.new (at door.new) }
-        ensures stays { StaysOpenOver L.lies_over self.old.place self.new.place }
+        ensures trace { let at = door_seen D.Door in
+            GoesOn K.trace link.old link.new L.seen self.old (at door.old) self.new (at door.new) }
+        ensures stays { StaysOpenOver L.lies_over self.old.phase self.new.phase }
         // No connection of a door whose streams may not fail meets a fault.
-        ensures sure { StaysSure L.lies_over D.lines_over D.may_fail self.old.place door.old self.new.place door.new }
+        ensures sure { StaysSure L.lies_over D.lines_over D.may_fail self.old.phase door.old self.new.phase door.new }
         // The door is still the same.
         ensures same { (first : D) → D.same first door.old → D.same first door.new }
     {
         // An open connection stays in place until it ends.
-        match &mut self.place {
-            LinePlace::On(line, action, sent) => match action.does() {
+        match &mut self.phase {
+            SeatPhase::On(line, action, sent) => match action.does() {
                 Does::LineOver(end) => {
-                    shut_line(&mut self.place, door, end);
+                    shut_line(&mut self.phase, door, end);
                     Progress::Moved
                 }
                 Does::Submit => submit_and_take(alloc, &mut self.machine, action, sent, link),
@@ -351,107 +351,107 @@ impl<L: Line + Drop> Attendant<L> {
         door: &mut D,
         link: &mut K,
     ) -> Progress
-        requires placed { IsPlaced self.old.place
+        requires placed { IsPlaced self.old.phase
             (door_seen D.Door door.old) }
         requires ready { K.is_ready link.old }
-        requires without { (line : L) (action : Action) (sent : ℕ) → self.old.place ≡ LinePlace.On line action sent → ⊥ }
+        requires without { (line : L) (action : Action) (sent : ℕ) → self.old.phase ≡ SeatPhase.On line action sent → ⊥ }
         ensures ready { K.is_ready link.new }
-        ensures progress { MayEndAt result self.old.place }
-        ensures still { (result ≡ Progress.Moved → ⊥) → Calls K.went link.old [] [] link.new }
-        ensures lacks { LacksAt K.refused K.had_none result link.old self.old.place link.new }
-        ensures moves { MovesAt result self.old.place self.new.place }
-        ensures uses { UsesAt K.went result link.old self.old.place link.new }
-        ensures went { let at = door_seen D.Door in
-            GoesOn K.went link.old link.new L.seen self.old (at door.old) self.new (at door.new) }
-        ensures sure { StaysSure L.lies_over D.lines_over D.may_fail self.old.place door.old self.new.place door.new }
+        ensures progress { MayEndAt result self.old.phase }
+        ensures still { (result ≡ Progress.Moved → ⊥) → Calls K.trace link.old [] [] link.new }
+        ensures lacks { LacksAt K.refused K.had_none result link.old self.old.phase link.new }
+        ensures moves { MovesAt result self.old.phase self.new.phase }
+        ensures uses { UsesAt K.trace result link.old self.old.phase link.new }
+        ensures trace { let at = door_seen D.Door in
+            GoesOn K.trace link.old link.new L.seen self.old (at door.old) self.new (at door.new) }
+        ensures sure { StaysSure L.lies_over D.lines_over D.may_fail self.old.phase door.old self.new.phase door.new }
         ensures same { (first : D) → D.same first door.old → D.same first door.new }
     {
-        match &mut self.place {
-            LinePlace::Between => {
-                open_in_place(alloc, &mut self.machine, &mut self.place, door);
+        match &mut self.phase {
+            SeatPhase::Between => {
+                open_in_place(alloc, &mut self.machine, &mut self.phase, door);
                 Progress::Moved
             }
-            LinePlace::Leaving => leave(&mut self.place, link),
-            LinePlace::Done => Progress::NothingToDo,
-            LinePlace::On(..) => Progress::NothingToDo,
+            SeatPhase::Leaving => leave(&mut self.phase, link),
+            SeatPhase::Done => Progress::NothingToDo,
+            SeatPhase::On(..) => Progress::NothingToDo,
         }
     }
 }
 
-// Opens the next connection in its place, or learns that no more come. A separate function, because
+// Opens the next connection in the phase, or learns that no more come. A separate function, because
 // its caller would otherwise reserve and initialize room for a connection on every path.
 #[inline(never)]
 fn open_in_place<L: Line + Drop, D: Door<Line = L>>(
     alloc: Global,
     machine: &mut SeatMachine,
-    place: &mut LinePlace<L>,
+    phase: &mut SeatPhase<L>,
     door: &mut D,
 )
     requires more { MayOpen (D.is_out door.old) (D.is_at_end door.old) }
-    ensures opened { place.new ≡ LinePlace.Between → ⊥ }
-    ensures went { let at = door_seen D.Door in
-        Tends L.seen (attendant machine.old LinePlace.Between) (at door.old) [] [] (attendant machine.new place.new) (at door.new) }
-    ensures sure { StaysSure L.lies_over D.lines_over D.may_fail LinePlace.Between door.old place.new door.new }
+    ensures opened { phase.new ≡ SeatPhase.Between → ⊥ }
+    ensures trace { let at = door_seen D.Door in
+        Tends L.seen (attendant machine.old SeatPhase.Between) (at door.old) [] [] (attendant machine.new phase.new) (at door.new) }
+    ensures sure { StaysSure L.lies_over D.lines_over D.may_fail SeatPhase.Between door.old phase.new door.new }
     ensures same { (first : D) → D.same first door.old → D.same first door.new }
 {
     match door.open() {
         Ok(Some(line)) => {
             let action = machine.open();
-            put_place(place, LinePlace::On(line, action, 0));
+            set_phase(phase, SeatPhase::On(line, action, 0));
         }
-        Ok(None) => put_place(place, LinePlace::Leaving),
-        Err(_) => put_place(place, LinePlace::Leaving),
+        Ok(None) => set_phase(phase, SeatPhase::Leaving),
+        Err(_) => set_phase(phase, SeatPhase::Leaving),
     }
 }
 
-// Replaces the place of a seat. It is a call, so that what drops the last one is proved once.
-fn put_place<L: Line + Drop>(place: &mut LinePlace<L>, next: LinePlace<L>)
-    ensures { place.new ≡ next }
+// Replaces the phase of a seat. It is a call, so that what drops the last one is proved once.
+fn set_phase<L: Line + Drop>(phase: &mut SeatPhase<L>, next: SeatPhase<L>)
+    ensures { phase.new ≡ next }
 {
-    drop(mem::replace(place, next));
+    drop(mem::replace(phase, next));
 }
 
-// Shuts the connection, and frees its place. A separate function, because its caller would
+// Shuts the connection, and ends its phase. A separate function, because its caller would
 // otherwise reserve and initialize room for a connection on every path.
 #[inline(never)]
 fn shut_line<L: Line + Drop, D: Door<Line = L>>(
-    place: &mut LinePlace<L>,
+    phase: &mut SeatPhase<L>,
     door: &mut D,
     end: LineEnd,
 )
-    requires over { (line : L) × (sent : ℕ) × (place.old ≡ LinePlace.On line (Action.LineOver end) sent) }
-    requires placed { IsPlaced place.old (door_seen D.Door door.old) }
-    ensures shut { place.new ≡ LinePlace.Between }
-    ensures went { let at = door_seen D.Door in
-        (machine : SeatMachine) → Tends L.seen (attendant machine place.old) (at door.old) [] [] (attendant machine place.new) (at door.new) }
-    ensures sure { StaysSure L.lies_over D.lines_over D.may_fail place.old door.old place.new door.new }
+    requires over { (line : L) × (sent : ℕ) × (phase.old ≡ SeatPhase.On line (Action.LineOver end) sent) }
+    requires placed { IsPlaced phase.old (door_seen D.Door door.old) }
+    ensures shut { phase.new ≡ SeatPhase.Between }
+    ensures trace { let at = door_seen D.Door in
+        (machine : SeatMachine) → Tends L.seen (attendant machine phase.old) (at door.old) [] [] (attendant machine phase.new) (at door.new) }
+    ensures sure { StaysSure L.lies_over D.lines_over D.may_fail phase.old door.old phase.new door.new }
     ensures same { (first : D) → D.same first door.old → D.same first door.new }
 {
-    if let LinePlace::On(line, action, _) = mem::replace(place, LinePlace::Between) {
+    if let SeatPhase::On(line, action, _) = mem::replace(phase, SeatPhase::Between) {
         drop(action);
         door.shut(line, end);
     }
 }
 
 // Submits that no more connections come.
-fn leave<L: Line + Drop, K: Link>(place: &mut LinePlace<L>, link: &mut K) -> Progress
-    requires leaving { place.old ≡ LinePlace.Leaving }
+fn leave<L: Line + Drop, K: Link>(phase: &mut SeatPhase<L>, link: &mut K) -> Progress
+    requires leaving { phase.old ≡ SeatPhase.Leaving }
     requires ready { K.is_ready link.old }
     ensures ready { K.is_ready link.new }
-    ensures progress { MayEndAt result place.old }
-    ensures left { (place.new ≡ LinePlace.Leaving) ⊎ (place.new ≡ LinePlace.Done) }
-    ensures moves { MovesAt result place.old place.new }
-    ensures uses { Uses K.went result link.old (Action.Submit Step.Gone) link.new }
-    ensures still { (result ≡ Progress.Moved → ⊥) → K.went link.old [] [] link.new }
+    ensures progress { MayEndAt result phase.old }
+    ensures left { (phase.new ≡ SeatPhase.Leaving) ⊎ (phase.new ≡ SeatPhase.Done) }
+    ensures moves { MovesAt result phase.old phase.new }
+    ensures uses { Uses K.trace result link.old (Action.Submit Step.Gone) link.new }
+    ensures still { (result ≡ Progress.Moved → ⊥) → K.trace link.old [] [] link.new }
     ensures lacks { Lacks K.refused K.had_none result link.old (Action.Submit Step.Gone) link.new }
-    ensures went { (machine : SeatMachine) (door : DoorSeen)
-        → GoesOn K.went link.old link.new L.seen (attendant machine place.old) door (attendant machine place.new) door }
+    ensures trace { (machine : SeatMachine) (door : DoorSeen)
+        → GoesOn K.trace link.old link.new L.seen (attendant machine phase.old) door (attendant machine phase.new) door }
 {
     let mut step = Step::Gone;
     let is_submitted = link.submit(&mut step);
     drop(step);
     if is_submitted {
-        put_place(place, LinePlace::Done);
+        set_phase(phase, SeatPhase::Done);
         Progress::Moved
     } else {
         Progress::NotAccepted
@@ -479,7 +479,7 @@ pub fn carry_out<L: Line, K: Link>(
 ) -> Progress
     requires ready { K.is_ready link.old }
     ensures ready { K.is_ready link.new }
-    ensures carried { (submitted : List Step) × (taken : List Answer) × HasGone K.went link.old action.old submitted taken link.new
+    ensures carried { (submitted : List Step) × (taken : List Answer) × HasGone K.trace link.old action.old submitted taken link.new
         × CarriedPart result machine.old (L.seen line.old) action.old sent.old machine.new (L.seen line.new) action.new sent.new submitted taken }
     ensures lacks { Lacks K.refused K.had_none result link.old action.old link.new }
     ensures stays { StaysOver L.lies_over line.old line.new }
@@ -520,7 +520,7 @@ fn act<L: Line, K: Link>(
 ) -> Progress
     requires ready { K.is_ready link.old }
     ensures ready { K.is_ready link.new }
-    ensures carried { (submitted : List Step) × (taken : List Answer) × HasGone K.went link.old action.old submitted taken link.new ×
+    ensures carried { (submitted : List Step) × (taken : List Answer) × HasGone K.trace link.old action.old submitted taken link.new ×
         Carried result machine.old (L.seen line.old) action.old machine.new (L.seen line.new) action.new submitted taken }
     ensures lacks { Lacks K.refused K.had_none result link.old action.old link.new }
     ensures stays { StaysOver L.lies_over line.old line.new }
@@ -555,7 +555,7 @@ fn submit<K: Link>(
     requires ready { K.is_ready link.old }
     ensures ready { K.is_ready link.new }
     ensures submitted { (step : Step) → action.old ≡ Action.Submit step
-        → HasSubmitted K.went link.old link.new result machine.old step machine.new action.new }
+        → HasSubmitted K.trace link.old link.new result machine.old step machine.new action.new }
     ensures lacks { Lacks K.refused K.had_none result link.old action.old link.new }
 {
     match action.does() {
@@ -584,7 +584,7 @@ fn submit_and_take<K: Link>(
     ensures ready { K.is_ready link.new }
     ensures none_sent { sent.new ≡ 0 }
     ensures submitted { (step : Step) → action.old ≡ Action.Submit step
-        → HasSubmittedOn K.went link.old link.new result machine.old step machine.new action.new }
+        → HasSubmittedOn K.trace link.old link.new result machine.old step machine.new action.new }
     ensures lacks { Lacks K.refused K.had_none result link.old action.old link.new }
 {
     *sent = 0;
@@ -610,7 +610,7 @@ fn take_or_wait<K: Link>(
 )
     requires ready { K.is_ready link.old }
     ensures ready { K.is_ready link.new }
-    ensures took { TakesOrWaits K.went link.old link.new machine.old machine.new action.new }
+    ensures took { TakesOrWaits K.trace link.old link.new machine.old machine.new action.new }
 {
     if machine.is_asking() && link.mail_at_once(action) {
         machine.answered(action);

@@ -27,15 +27,15 @@ pub trait ControlLink {
     ghost is_ready: { Self → Type 0 };
 
     /// From the first link, these steps were submitted, and the second link is what remained.
-    ghost went: { Self → List Step → Self → Type 0 };
+    ghost trace: { Self → List Step → Self → Type 0 };
 
     /// Submits a step, or returns it if there is no room for it now.
     fn submit(&mut self, step: Step) -> Result<(), Step>
         requires ready { is_ready self.old }
         ensures ready { is_ready self.new }
         ensures back { IfErr result (λ back. back ≡ step) }
-        ensures went { (first : Self) (before : List Step) → went first before self.old →
-            SubmitsOn went first before step result self.new };
+        ensures trace { (first : Self) (before : List Step) → trace first before self.old →
+            SubmitsOn trace first before step result self.new };
 }
 
 /// Reads a control line, of which nothing was read, until it ends or fails. Submits a drain for each
@@ -51,7 +51,7 @@ pub fn submit_control<R: Wait, I: ControlInput, K: ControlLink>(rt: &R, input: I
     // It failed only if a read of it may fail.
     ensures fault { (I.seen result).failed ≡ true → I.may_fail input ≡ true }
     ensures done { (submitted : List Step) × IsControlDone (I.seen result).text (I.seen result).failed submitted
-        × ((first : K) (before : List Step) → K.went first before link.old → K.went first (before ++ submitted) link.new) }
+        × ((first : K) (before : List Step) → K.trace first before link.old → K.trace first (before ++ submitted) link.new) }
 {
     let mut steps = ControlSteps::new(input);
     for _ in rt.forever() {
@@ -77,7 +77,7 @@ fn submit_owed<R: Wait, I: ControlInput, K: ControlLink>(
     requires owed { owed_by steps.old.owes_drain steps.old.stage ≡ Some step }
     requires ready { K.is_ready link.old }
     ensures ready { K.is_ready link.new }
-    ensures went { HasSubmitted I.ControlInput K.went link.old steps.old link.new steps.new }
+    ensures trace { HasSubmitted I.ControlInput K.trace link.old steps.old link.new steps.new }
 {
     match link.submit(step) {
         Ok(()) => steps.note_submitted(),

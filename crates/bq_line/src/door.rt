@@ -1,7 +1,7 @@
 //! Doors, at which clients connect one after another.
 ghost use Rattle.std.specs.Prelude.{◌≡◌, Bool, List, [], ◌∷◌, ◌++◌, true, false};
 ghost use Rattle.bq_job.specs.promise.History.{LineOver};
-ghost use Rattle.bq_line.specs.Doors.{IfLine, IfOpened, IsLookedFor, IsOpened, MayOpen};
+ghost use Rattle.bq_line.specs.Doors.{IfLine, IfOpened, IsOpened, IsTryOpened, MayOpen};
 ghost use Rattle.bq_line.specs.Streams.{IsSureLine};
 
 pub use free_doors::FreeDoors;
@@ -92,13 +92,13 @@ pub trait Door {
     /// Opens the next connection without waiting for it. `may_have_come` is false if no client can
     /// have connected since the last call, so that no system call is needed. The connection is
     /// watched by `watcher`, or it is not opened. After an error no more connections come.
-    fn look<W: Watcher>(
+    fn try_open<W: Watcher>(
         &mut self,
         may_have_come: bool,
         watcher: &W,
     ) -> Result<Opening<Self::Line>, DoorFault>
         requires more { MayOpen (is_out self.old) (is_at_end self.old) }
-        ensures opened { IsLookedFor Self.Line.seen (is_out self.new) (is_at_end self.new) result }
+        ensures opened { IsTryOpened Self.Line.seen (is_out self.new) (is_at_end self.new) result }
         ensures sure { may_fail self.old ≡ false → IfLine result (IsSureLine Self.Line.lies_over) }
         ensures over { lines_over self.new ≡ lines_over self.old }
         ensures same { (first : Self) → same first self.old → same first self.new };

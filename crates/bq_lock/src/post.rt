@@ -11,7 +11,7 @@ use crate::shared_desk::{SharedDesk, SharedSeat};
 use bq_host::Member;
 use bq_job::{NoMemory, Seat};
 use bq_line::Door;
-use bq_line::attendant::{Attendant, LinePlace, Progress};
+use bq_line::attendant::{Attendant, Progress, SeatPhase};
 use bq_line::buffers::Buffers;
 use bq_line::control::submit_control;
 use bq_line::control_line::{ControlLine, ControlReader};
@@ -85,7 +85,7 @@ impl<'a, L: Line + Drop, D: Door<Line = L> + Drop, K: SharedDesk> Member<D> for 
         } = self;
         let mut attendant = Attendant {
             machine,
-            place: LinePlace::Between,
+            phase: SeatPhase::Between,
         };
         let mut link = SharedSeat {
             rt,

@@ -114,7 +114,7 @@ impl<'a, R: Wait, K: SharedDesk> SharedSeat<'a, R, K> {
 impl<'a, R: Wait, K: SharedDesk> Link for SharedSeat<'a, R, K> {
     ghost is_ready = { λ l. Unit {0} };
 
-    ghost went = { λ first submitted taken last. Unit {0} };
+    ghost trace = { λ first submitted taken last. Unit {0} };
 
     fn submit(&mut self, step: &mut Step) -> bool {
         self.rests = false;
@@ -127,10 +127,10 @@ impl<'a, R: Wait, K: SharedDesk> Link for SharedSeat<'a, R, K> {
         true
     }
 
-    fn mail(&mut self, place: &mut NextAction) -> bool {
+    fn mail(&mut self, action: &mut NextAction) -> bool {
         match self.next_answer() {
             Some(answer) => {
-                place.write(answer);
+                action.write(answer);
                 true
             }
             None => false,
@@ -141,7 +141,7 @@ impl<'a, R: Wait, K: SharedDesk> Link for SharedSeat<'a, R, K> {
 impl<'a, R: Wait, K: SharedDesk> ControlLink for SharedSeat<'a, R, K> {
     ghost is_ready = { λ l. Unit {0} };
 
-    ghost went = { λ first submitted last. Unit {0} };
+    ghost trace = { λ first submitted last. Unit {0} };
 
     fn submit(&mut self, step: Step) -> Result<(), Step> {
         self.step(step);

@@ -19,8 +19,8 @@ use Rattle.bq_seat.specs.declared.machine.SeatMachine.{SeatMachine}
 use Rattle.bq_line.specs.Attending.{IsOnLine}
 use Rattle.bq_line.specs.Carried.{CarriesOn, with_part}
 use Rattle.bq_line.specs.declared.attendant.Progress.{Progress}
-use Rattle.bq_host.specs.{MailStates.{IsNewMailState, MailState, waiting}, Went.SeatWent}
-use Rattle.bq_host.proofs.WentLemmas.{none_waits, seat_none, seat_on}
+use Rattle.bq_host.specs.{MailStates.{IsNewMailState, MailState, waiting}, Traces.SeatTrace}
+use Rattle.bq_host.proofs.TraceLemmas.{none_waits, seat_none, seat_on}
 use Rattle.bq_line.proofs.CarriedLemmas.{none_begun}
 use Rattle.bq_line.proofs.SeatLemmas.{carried_on, line_served}
 
@@ -31,7 +31,7 @@ pub record IsServingAlone (settings : Settings) (seat : ℕ) (readings : List (O
   pub submitted : List Step
   pub taken : List Answer
   pub new : IsNewMailState settings first
-  pub went : SeatWent seat first readings submitted taken state
+  pub trace : SeatTrace seat first readings submitted taken state
   pub before : LineSeen
   pub part : seen ≡ with_part action sent before
   pub on_line : IsOnLine settings.max_job_size machine before action submitted taken
@@ -45,7 +45,7 @@ begins_alone settings seat state machine seen action new on =
       submitted = [];
       taken = [];
       new = new;
-      went = seat_none state seat;
+      trace = seat_none state seat;
       before = seen;
       part = none_begun action seen;
       on_line = on;
@@ -54,7 +54,7 @@ begins_alone settings seat state machine seen action new on =
 pub goes_on_alone : (result : Progress) (settings : Settings) (seat : ℕ) (readings reads : List (Option ℕ)) (state next : MailState)
     (old new : SeatMachine) (seen later : LineSeen) (action then_action : Action) (sent now : ℕ)
     (submitted : List Step) (taken : List Answer)
-    → IsServingAlone settings seat readings state old seen action sent → SeatWent seat state reads submitted taken next
+    → IsServingAlone settings seat readings state old seen action sent → SeatTrace seat state reads submitted taken next
     → CarriesOn result old seen action sent new later then_action now submitted taken
     → IsServingAlone settings seat (readings ++ reads) next new later then_action now
 goes_on_alone result settings seat readings reads state next old new seen later action then_action sent now submitted taken s w carries =
@@ -63,7 +63,7 @@ goes_on_alone result settings seat readings reads state next old new seen later 
       submitted = s.submitted ++ submitted;
       taken = s.taken ++ taken;
       new = s.new;
-      went = seat_on s.first state next seat readings reads s.submitted submitted s.taken taken s.went w;
+      trace = seat_on s.first state next seat readings reads s.submitted submitted s.taken taken s.trace w;
       before = c.0;
       part = c.1;
       on_line = carried_on result settings.max_job_size old new s.before c.0 action then_action s.submitted submitted s.taken taken
@@ -103,10 +103,10 @@ alone_there seat (e ∷ history) h =
 pub over_alone : (settings : Settings) (seat : ℕ) (readings : List (Option ℕ)) (state : MailState) (machine : SeatMachine) (seen : LineSeen)
     (end : LineEnd) (sent : ℕ) (s : IsServingAlone settings seat readings state machine seen (actions.LineOver end) sent)
     → seat < settings.seats → length s.first.mails ≡ settings.seats
-    → IsLineJoined settings seat (record { seen = seen; over = end }) readings s.went.history s.went.went.given state.core
+    → IsLineJoined settings seat (record { seen = seen; over = end }) readings s.trace.history s.trace.trace.given state.core
 over_alone settings seat readings state machine seen end sent s within many =
-    let w = s.went in
-    let d = w.went in
+    let w = s.trace in
+    let d = w.trace in
     let on : IsOnLine settings.max_job_size machine seen (actions.LineOver end) s.submitted s.taken =
     subst (λ (x : LineSeen). IsOnLine settings.max_job_size machine x (actions.LineOver end) s.submitted s.taken) (sym s.part) s.on_line in
     let line = line_served settings.max_job_size machine seen end s.submitted s.taken on in

@@ -6,7 +6,7 @@ ghost use Rattle.bq_seat.specs.SeatStands.{awaited};
 ghost use Rattle.bq_line.specs.LineCalls.{new_line};
 ghost use Rattle.bq_line.specs.Streams.{StaysOver};
 ghost use Rattle.bq_host.specs.MailStates.{IsNewMailState};
-ghost use Rattle.bq_host.specs.Hubs.{IsInOrderFor, WentAt, state_of};
+ghost use Rattle.bq_host.specs.Hubs.{HubTrace, IsInOrderFor, state_of};
 ghost use Rattle.bq_run_one.specs.RunSettings.{is_lone};
 
 use bq_core::{Config, Core};
@@ -141,7 +141,7 @@ fn into_clock<C: Clock + Drop, K: QueueCore + Drop>(hub: Hub<C, K>) -> C
 fn pass_time_before<C: Clock + Drop, K: QueueCore + Drop>(next: &NextAction, hub: &mut Hub<C, K>)
     requires ready { IsInOrderFor K.QueueCore 0 hub.old }
     ensures ready { IsInOrderFor K.QueueCore 0 hub.new }
-    ensures went { WentAt K.QueueCore C.Clock 0 hub.old [] [] hub.new }
+    ensures trace { HubTrace K.QueueCore C.Clock 0 hub.old [] [] hub.new }
 {
     if matches!(next.does(), Does::PollMail) {
         let _due = hub.pass_time();

@@ -1,5 +1,5 @@
-pub mod LooksLemmas
 pub mod MoveLemmas
+pub mod NextByPastLemmas
 pub mod OpenLemmas
 pub mod OrderlyLemmas
 pub mod PieceLemmas

@@ -21,13 +21,13 @@ use Rattle.bq_seat.specs.declared.machine.Action.{Action}
 use Rattle.bq_seat.specs.declared.machine.Event.{Event}
 use Rattle.bq_seat.specs.declared.machine.SeatMachine.{SeatMachine}
 use Rattle.bq_seat.specs.declared.machine.Stage.{Stage}
-use Rattle.bq_seat.specs.Looks.{GoesFurther, LooksOn, is_read_on}
+use Rattle.bq_seat.specs.NextByPast.{GoesFurther, IsNextAction, is_read_on}
 use Rattle.bq_wire.specs.Standing.{Stands}
 use Rattle.bq_seat.specs.declared.machine.Action.TheVariants as actions
 use Rattle.bq_seat.specs.declared.machine.Event.TheVariants as events
 use Rattle.bq_seat.specs.declared.machine.Stage.TheVariants as stages
 use Rattle.bq_seat.proofs.StepLemmas.{asks_at, closes_at, connects, quits_at, tells_at, none_kept}
-use Rattle.bq_seat.proofs.LooksLemmas.{behind_request, wanted_open, read_on_is}
+use Rattle.bq_seat.proofs.NextByPastLemmas.{behind_request, wanted_open, read_on_is}
 use Rattle.bq_seat.proofs.OpenLemmas.{answered, opened, served_now, still_closing}
 
 -- a connection that is being closed lacks one answer at most
@@ -108,7 +108,7 @@ is_not_stray action what e = grind (arith, common_steps)
 pub turn : {s : Stage} {event : Event} {action other : Action} {old new next : SeatMachine} → old.stage ≡ s → action ≡ other → new ≡ next
     → Turns s event other old next
     → ((p : Past) → StandsInStage s old.reader old.kept old.end_told p → AgreesWith next (with_action other (with_event event p)))
-    → ((p : Past) → StandsInStage s old.reader old.kept old.end_told p → LooksOn (awaited_at s) old.kept event p other)
+    → ((p : Past) → StandsInStage s old.reader old.kept old.end_told p → IsNextAction (awaited_at s) old.kept event p other)
     → IsMove old event action new
 turn {s} {event} {action} {other} {old} {new} {next} at does is t past looks =
     let plain = is_not_stray other (awaited next) t.1 in
@@ -136,7 +136,7 @@ all_three waits told kept e = grind (arith, common_steps, cases_Bool, none_kept)
 pub goes_on : {s : Stage} {event : Event} {action : Action} {old new : SeatMachine} (mid : SeatMachine) → old.stage ≡ s
     → answers event (awaited_at s) ≡ true → OpensLine event action new → mid.reader.max_job_size ≡ old.reader.max_job_size
     → ((p : Past) → StandsInStage s old.reader old.kept old.end_told p → IsOpen mid.reader mid.kept mid.end_told 0 (with_event event p))
-    → ((p : Past) → StandsInStage s old.reader old.kept old.end_told p → LooksOn (awaited_at s) old.kept event p action)
+    → ((p : Past) → StandsInStage s old.reader old.kept old.end_told p → IsNextAction (awaited_at s) old.kept event p action)
     → GoesOn mid action new → IsMove old event action new
 goes_on {event = event} {action = action} mid at answered opened same begins looks g =
     turn at refl refl (answered, g.awaits, g.limit ∙ same, opened, going_not_over action _ g.further)

@@ -2,8 +2,8 @@ pub mod Finds
 pub mod InTurn
 pub mod Lent
 pub mod LentStep
-pub mod Looks
 pub mod NextActions
+pub mod NextByPast
 pub mod Outstanding
 pub mod Past
 pub mod Pieces

@@ -3,7 +3,7 @@ use Rattle.std.specs.Prelude.{◌≡◌, ◌≤◌, true, false, not, length, So
 use Rattle.bq_job.specs.declared.answer.Answer.{Answer}
 use Rattle.bq_job.specs.declared.step.Step.TheVariants as steps
 use Rattle.bq_seat.specs.Finds.{Finds}
-use Rattle.bq_seat.specs.Looks.{LooksOn}
+use Rattle.bq_seat.specs.NextByPast.{IsNextAction}
 use Rattle.bq_seat.specs.Past.{Past, past_after, first_past, is_stray, awaited_by, answers, with_event}
 use Rattle.bq_seat.specs.SeatStands.{StandsFor, awaited, kept_bytes}
 use Rattle.bq_seat.specs.declared.machine.Event.{Event}
@@ -36,7 +36,7 @@ pub record IsMove (old : SeatMachine) (event : Event) (action : Action) (new : S
   -- the past and the event justify the action
   pub finds : is_stray action ≡ false → (p : Past) → StandsFor old p → Finds old.reader.max_job_size action (with_event event p)
   -- what the machine does next
-  pub looks : is_stray action ≡ false → (p : Past) → StandsFor old p → LooksOn (awaited old) (kept_bytes old) event p action
+  pub looks : is_stray action ≡ false → (p : Past) → StandsFor old p → IsNextAction (awaited old) (kept_bytes old) event p action
 
 -- The request was submitted, and then this answer came.
 abbrev pub IsAnswered : SeatMachine → Answer → Action → SeatMachine → Type 0

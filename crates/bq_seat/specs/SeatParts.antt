@@ -6,7 +6,7 @@ use Rattle.bq_job.specs.declared.request.Request.TheVariants.{Quit}
 use Rattle.bq_job.specs.declared.step.Step.TheVariants as steps
 use Rattle.bq_job.specs.reading.Reading.{is_quit}
 use Rattle.bq_job.specs.promise.LineSteps.{is_waiting_request}
-use Rattle.bq_seat.specs.Looks.{GoesFurther, LooksOn}
+use Rattle.bq_seat.specs.NextByPast.{GoesFurther, IsNextAction}
 use Rattle.bq_seat.specs.Past.{Past, answers, awaited_by, first_past, is_stray, past_after, with_action}
 use Rattle.bq_seat.specs.SeatStands.{AgreesWith, IsOpen, awaited}
 use Rattle.bq_seat.specs.Served.{IsServed}
@@ -92,7 +92,7 @@ pub record IsStagedMove (old : SeatMachine) (event : Event) (action : Action) (n
   pub opened : OpensLine event action new
   pub past : (p : Past) → AgreesWith old p → AgreesWith new (past_after event action p)
   pub over : IfLineOver action (ServesAll old event action)
-  pub looks : is_stray action ≡ false → (p : Past) → AgreesWith old p → LooksOn (awaited old) old.kept event p action
+  pub looks : is_stray action ≡ false → (p : Past) → AgreesWith old p → IsNextAction (awaited old) old.kept event p action
 
 -- The reader took these bytes, and this is the request if they complete one.
 pub record IsTaken (old new : ReaderState) (bytes : List ℕ) (taken : Taken) (place : Request) : Type 0 where

@@ -122,7 +122,7 @@ impl SeatMachine {
 
     /// Returns true if a request waits for its answer while the connection is read. A blocking read
     /// would then keep the answer from the client.
-    #[tactic(auto, using(crate::proofs::LooksLemmas::reads_alone, crate::proofs::LooksLemmas::reads_with_one))]
+    #[tactic(auto, using(crate::proofs::NextByPastLemmas::reads_alone, crate::proofs::NextByPastLemmas::reads_with_one))]
     pub fn has_outstanding(&self) -> bool
         ensures steps { ReadsWith result self.now }
         ensures stage { result ≡ reads_beside self.now.stage }

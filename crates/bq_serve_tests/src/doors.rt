@@ -48,13 +48,13 @@ impl<'c> Door for CountedDoor<'c> {
         self.door.open()
     }
 
-    fn look<W: Watcher>(
+    fn try_open<W: Watcher>(
         &mut self,
         may_have_come: bool,
         watcher: &W,
     ) -> Result<Opening<MemLine>, DoorFault> {
         self.opened.fetch_add(1, Ordering::SeqCst);
-        self.door.look(may_have_come, watcher)
+        self.door.try_open(may_have_come, watcher)
     }
 
     fn shut(&mut self, line: MemLine, end: LineEnd) {

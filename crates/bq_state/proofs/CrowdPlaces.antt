@@ -7,7 +7,7 @@ use Rattle.bq_job.specs.reading.TubeName.{is_same_name}
 use Rattle.bq_state.proofs.{ClientLemmas.some_pass, CrowdLemmas.has_seats_of, TallyPlaces.{has_jobs_in, other_name, tally_there}}
 use Rattle.bq_state.proofs.{TallyPlaces.{value_there, values_kept, values_provided}, WaitingLemmas.waiters_in_turn}
 use Rattle.bq_state.specs.Crowds.{AreCrowds, IsSeated, crowd_at, crowd_of, crowds_provided, has_seats, is_waiter, no_crowd}
-use Rattle.bq_state.specs.{Tallies.{has_jobs, tallies_of, tally_at}, WaitingTurns.{AreInTurn, WaitingTurns}}
+use Rattle.bq_state.specs.{Tallies.{has_jobs, tallies_of, tally_at}, WaitingList.{AreInTurn, WaitingList}}
 use Rattle.bq_state.specs.TubeEntries.{AreEntries, HasTubes, has_entry, is_tube_by, is_tube_of, provided}
 use Rattle.bq_state.specs.declared.{known.tally.Tally.Tally, tubes.entry.Crowd.Crowd}
 
@@ -51,11 +51,12 @@ module _ (name : List ℕ) (crowds : List Crowd) (seats : List SeatRecord) (es :
       }
 
 -- A client that waits for jobs of a tube is counted.
-pub waiters_counted : (name : List ℕ) (waiting : WaitingTurns) (crowds : List Crowd) (seats : List SeatRecord) (entries : List TubeRecord)
+pub waiters_counted : (name : List ℕ) (waiting : WaitingList) (crowds : List Crowd) (seats : List SeatRecord) (entries : List TubeRecord)
     → All (HasTubes entries) seats → AreCrowds crowds seats entries → AreInTurn waiting seats
-    → (nat_lt 0 (length waiting.turns) && nat_lt 0 (crowd_at name entries crowds).waiting) ≡ list_any (is_waiter name) seats
-waiters_counted name waiting crowds seats entries of_seats are turns =
-    rw (waiters_in_turn waiting.turns waiting seats refl turns) (grind (arith, crowd_there, some_pass, list_any_not, all_weaker, none_pass))
+    → (nat_lt 0 (length waiting.waiters) && nat_lt 0 (crowd_at name entries crowds).waiting) ≡ list_any (is_waiter name) seats
+waiters_counted name waiting crowds seats entries of_seats are waiters =
+    rw (waiters_in_turn waiting.waiters waiting seats refl waiters)
+    (grind (arith, crowd_there, some_pass, list_any_not, all_weaker, none_pass))
 
 -- The count of a tube's jobs decides whether it has jobs.
 pub jobs_there : (name : List ℕ) (tallies : List Tally) (jobs : List Job) (es : List TubeRecord)

@@ -4,17 +4,17 @@ use Rattle.std.proofs.{Common.{ℕ, ◌&&◌, ◌++◌, ◌∙◌, ◌∷◌, �
 use Rattle.std.{proofs.lemmas.{List.Folds.list_any-append, Map.Views.any-filter_same}, specs.List.list_any}
 use Rattle.bq_job.{proofs.WatchedLemmas.{none_twice_behind, none_twice_filter}, specs.{beside.none_twice, machine.{SeatRecord, TubeRecord}}}
 use Rattle.bq_job.specs.{machine.{greatest, is_waiting, watches, watching}, reading.TubeName.is_same_name}
-use Rattle.bq_state.proofs.{CrowdLemmas.{crowd_changed, share_at}, PartsLemmas.{all_read, all_set, changed_there, seat_read}}
+use Rattle.bq_state.proofs.{CrowdLemmas.{crowd_changed, roles_at}, PartsLemmas.{all_read, all_set, changed_there, seat_read}}
 use Rattle.bq_state.{proofs.{TallyPlaces.{at_named, map_same}, TubeLemmas.same_name}, specs.Crowds.{AreCrowds, crowd_in, crowd_of}}
-use Rattle.bq_state.specs.{Crowds.{crowd_with, crowd_without, crowds_at, share_of_watcher, share_of_watching}, SeatChanges.AreNumbered}
-use Rattle.bq_state.specs.{TubeEntries.AreInOrder, declared.tubes.entry.{Crowd.Crowd, Share.Share}}
+use Rattle.bq_state.specs.{Crowds.{crowd_with, crowd_without, crowds_at, roles_of_watcher, roles_of_watching}, SeatChanges.AreNumbered}
+use Rattle.bq_state.specs.{TubeEntries.AreInOrder, declared.tubes.entry.{Crowd.Crowd, Roles.Roles}}
 
 module _ (name : List ℕ) (i : ℕ) (s : SeatRecord) (crowds : List Crowd) (seats : List SeatRecord) (es : List TubeRecord)
     (found : slice_get seats i ≡ Some s) (h : AreNumbered seats) (fits : length seats ≤ greatest) (order : AreInOrder es) where
   -- A client watches these tubes, which differ from those before in this name only.
   relisted : (names : List (List ℕ)) (step : Crowd → Crowd) → none_twice names ≡ true
       → ((other : List ℕ) → is_same_name name other ≡ false → list_any (is_same_name other) names ≡ watches other s)
-      → ((c : Crowd) → step c ≡ crowd_with (share_of_watching name (watching names s)) (crowd_without (share_of_watching name s) c))
+      → ((c : Crowd) → step c ≡ crowd_with (roles_of_watching name (watching names s)) (crowd_without (roles_of_watching name s) c))
       → AreCrowds crowds seats es → AreCrowds (crowds_at name step es crowds) (set seats i (watching names s)) es
   relisted names step once apart here was =
       record {
@@ -24,8 +24,8 @@ module _ (name : List ℕ) (i : ℕ) (s : SeatRecord) (crowds : List Crowd) (sea
       }
     where
       moved : (b : Bool) (other : List ℕ) → (b ≡ false → list_any (is_same_name other) names ≡ watches other s)
-          → (let what : Share = record { using = false; watching = b; waiting = b } in
-          crowd_with (share_at what (watching names s) other) (crowd_without (share_at what s other) (crowd_of seats other)))
+          → (let what : Roles = record { using = false; watching = b; waiting = b } in
+          crowd_with (roles_at what (watching names s) other) (crowd_without (roles_at what s other) (crowd_of seats other)))
           ≡ crowd_of (set seats i (watching names s)) other
       moved b other same =
           crowd_changed i (watching names) (λ t. refl) (record { using = false; watching = b; waiting = b }) s seats other h fits
@@ -39,8 +39,8 @@ module _ (name : List ℕ) (i : ℕ) (s : SeatRecord) (crowds : List Crowd) (sea
 
   -- A client watches one more tube,
   pub crowds_watching : watches name s ≡ false → AreCrowds crowds seats es
-      → AreCrowds (crowds_at name (crowd_with (share_of_watcher s)) es crowds) (set seats i (watching (s.watched ++ name ∷ []) s)) es
-  crowds_watching none was = relisted (s.watched ++ name ∷ []) (crowd_with (share_of_watcher s))
+      → AreCrowds (crowds_at name (crowd_with (roles_of_watcher s)) es crowds) (set seats i (watching (s.watched ++ name ∷ []) s)) es
+  crowds_watching none was = relisted (s.watched ++ name ∷ []) (crowd_with (roles_of_watcher s))
       (none_twice_behind name s.watched none (all_read _ _ _ _ was.seated found).once)
       (λ other apart. grind (arith, common_steps, list_any-append, nat_list_eq_equiv.symm, or-false))
       (λ c. grind (arith, common_steps, list_any-append, nat_list_eq_equiv.refl)) was
@@ -51,9 +51,9 @@ module _ (name : List ℕ) (i : ℕ) (s : SeatRecord) (crowds : List Crowd) (sea
   ignored other b e = grind (arith, any-filter_same, same_name)
 
   -- or one fewer.
-  pub crowds_ignoring : AreCrowds crowds seats es → AreCrowds (crowds_at name (crowd_without (share_of_watching name s)) es crowds)
+  pub crowds_ignoring : AreCrowds crowds seats es → AreCrowds (crowds_at name (crowd_without (roles_of_watching name s)) es crowds)
       (set seats i (watching (filter (λ other. not (is_same_name name other)) s.watched) s)) es
   crowds_ignoring was =
-      relisted (filter (λ other. not (is_same_name name other)) s.watched) (crowd_without (share_of_watching name s))
+      relisted (filter (λ other. not (is_same_name name other)) s.watched) (crowd_without (roles_of_watching name s))
       (none_twice_filter (λ other. not (is_same_name name other)) _ (all_read _ _ _ _ was.seated found).once)
       (λ other apart. ignored other false apart) (λ c. grind (arith, common_steps, ignored name true (nat_list_eq_equiv.refl name))) was

@@ -6,10 +6,10 @@ use Rattle.bq_job.proofs.{ChoiceLemmas.first_of_is_some, ListLemmas.{all_always,
 use Rattle.bq_job.{proofs.ListLemmas.none_pass, specs.{beside.{dues_of_pause, dues_of_state, earliest, is_before}, declared.job.Job.Job}}
 use Rattle.bq_job.specs.{declared.job.JobState.JobState, machine.{Machine.Machine, SeatRecord, TubeRecord, due_of, first_of, is_delayed}}
 use Rattle.bq_job.specs.machine.{is_held_by, is_holder, is_pair_before, is_reserved, is_waiting}
-use Rattle.bq_jobs.specs.{Kept.ranked, Leases.{deadline_of, is_lease_before}}
+use Rattle.bq_jobs.specs.{JobsSeen.ranked, Leases.{deadline_of, is_lease_before}}
 use Rattle.bq_state.{proofs.{WalkLemmas.walked, WarningLemmas.no_other}, specs.Dues.{earlier_of_both, jobs_due, timers_due, warning_due}}
 use Rattle.bq_state.specs.{Dues.{with_seat_due, with_warning_due}, FirstTimeouts.{IsThere, is_gone_in_wait}, SeatChanges.AreNumbered}
-use Rattle.bq_state.specs.{TubeEntries.{IsFreshUnlessCounted, counted}, WaitingTurns.{at_turn, turns_of}}
+use Rattle.bq_state.specs.{TubeEntries.{IsFreshUnlessCounted, counted}, WaitingList.{at_waiter, waiters_of}}
 use Rattle.bq_job.specs.declared.job.JobState.TheVariants as states
 
 -- every waiting client can still send
@@ -28,11 +28,11 @@ none_held seat jobs none = grind (arith, common_steps, list_any_not, all_weaker,
 
 -- A walk over the waiting clients finds the first timeout, and the first DEADLINE_SOON.
 pub ends_walked : (seats : List SeatRecord) → AreNumbered seats
-    → fold (at_turn with_seat_due seats) None (turns_of seats) ≡ fold with_seat_due None seats
+    → fold (at_waiter with_seat_due seats) None (waiters_of seats) ≡ fold with_seat_due None seats
 ends_walked seats h = grind (arith, walked)
 
 pub warnings_walked : (jobs : List Job) (seats : List SeatRecord) → AreNumbered seats
-    → fold (at_turn (with_warning_due jobs) seats) None (turns_of seats) ≡ fold (with_warning_due jobs) None seats
+    → fold (at_waiter (with_warning_due jobs) seats) None (waiters_of seats) ≡ fold (with_warning_due jobs) None seats
 warnings_walked jobs seats h = grind (arith, common_steps, walked, no_other)
 
 pub earliest_of_both : (xs ys : List ℕ) → earliest (xs ++ ys) ≡ earlier_of_both (earliest xs) (earliest ys)

@@ -8,7 +8,8 @@ use Rattle.bq_job.specs.reading.TubeName.{is_same_name}
 use Rattle.bq_jobs.proofs.{Choice.{from_least, lookup_inserted, lookup_removed, none_below, then_not_greater}, Firsts.name_ties}
 use Rattle.bq_jobs.specs.Table.{Tabled}
 use Rattle.bq_state.{proofs.TubeLemmas.same_itself, specs.Dues.{first_pause_end, is_end_over, with_tube_due}}
-use Rattle.bq_state.specs.{KeptTubes.{KeptTube, KeptTubes, record_at, tubes_kept}, PauseEnds.{AreEnds, Ends, end_cmp, end_total, first_end}}
+use Rattle.bq_state.specs.PauseEnds.{AreEnds, Ends, end_cmp, end_total, first_end}
+use Rattle.bq_state.specs.TubesSeen.{EntrySeen, TubesSeen, record_at, tubes_seen}
 use Rattle.bq_state.specs.PauseEnds.{found_end, has_end, if_over, is_end_in, number_at, with_end, without_end}
 use Rattle.bq_state.specs.declared.tubes.pauses.PauseEnd.{PauseEnd}
 
@@ -82,7 +83,7 @@ first_met : (numbers : List (List ℕ × ℕ)) (ends : Ends) (ts : List TubeReco
 first_met numbers [] ts known = refl
 first_met numbers (x ∷ ends) ts known = sym (known x.0) ∙ first_there x ends
 
-module _ (kept : Tabled KeptTube) (ends : CatalogSeen PauseEnd (Unit {0})) (h : AreEnds kept ends) (s : InOrder end_cmp ends.entries) where
+module _ (kept : Tabled EntrySeen) (ends : CatalogSeen PauseEnd (Unit {0})) (h : AreEnds kept ends) (s : InOrder end_cmp ends.entries) where
   -- The first pause ends at the first of the ends.
   pub first_is : option_map (λ e. e.until) (first_end ends.entries) ≡ first_pause_end (map record_at kept.entries)
   first_is =
@@ -101,6 +102,6 @@ module _ (kept : Tabled KeptTube) (ends : CatalogSeen PauseEnd (Unit {0})) (h : 
   none_over_yet moment none = grind (arith, common_steps, first_is)
 
   -- The first of the ends is the first end of a pause, as contracts see the tubes.
-  pub first_seen : (k : KeptTubes) (r : Option ℕ) → r ≡ option_map (λ e. e.until) (first_end ends.entries)
-      → tubes_kept kept.numbers kept.entries ≡ k → r ≡ first_pause_end k.entries
+  pub first_seen : (k : TubesSeen) (r : Option ℕ) → r ≡ option_map (λ e. e.until) (first_end ends.entries)
+      → tubes_seen kept.numbers kept.entries ≡ k → r ≡ first_pause_end k.entries
   first_seen k r is seen = grind (arith, first_is)

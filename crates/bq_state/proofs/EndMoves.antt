@@ -13,17 +13,17 @@ use Rattle.bq_state.proofs.EndLemmas.{has_entered, has_left, one_over}
 use Rattle.bq_state.proofs.NamedLemmas.{change_kept, edit_change, found_any, found_entry, have_numbers, in_order, ties}
 use Rattle.bq_state.proofs.{NumberLemmas.{number_inserted, number_left, number_read}, PartsLemmas.tube_name_kept}
 use Rattle.bq_state.proofs.TubeLemmas.{before_differs, changed_one, order_kept, same_itself, same_name}
-use Rattle.bq_state.specs.{KeptTubes.{KeptTube, Named, edited, ended, is_named_at, kept_changed, record_at, record_of, records_ended}}
+use Rattle.bq_state.specs.{TubesSeen.{EntrySeen, Named, edited, ended, entry_changed, is_named_at, record_at, record_of, records_ended}}
 use Rattle.bq_state.specs.PauseEnds.{AreEnds, AreTold, Ends, IsTold, end_cmp, end_of, ends_at, first_end, found_end, has_end, if_over}
 use Rattle.bq_state.specs.PauseEnds.{is_end_in, is_paused, number_at, pause_at, pause_in, paused_count, with_end, without_end}
 use Rattle.bq_state.specs.TubeEntries.{AreInOrder, has_entry, tube_changed}
 use Rattle.bq_state.specs.declared.tubes.{entry.TubeChange.{TheVariants.{CountDelete, CountPut}, TubeChange}, pauses.PauseEnd.PauseEnd}
 
-abbrev records : Tabled KeptTube → List TubeRecord
+abbrev records : Tabled EntrySeen → List TubeRecord
 records kept = map record_at kept.entries
 
 -- At most the pause of the tube with this number changes.
-pub record Moves (number : List ℕ) (from to : Option Pause) (kept last : Tabled KeptTube) : Type 0 where
+pub record Moves (number : List ℕ) (from to : Option Pause) (kept last : Tabled EntrySeen) : Type 0 where
   pub was : (until : ℕ) → is_end_in kept.numbers (record { until = until; number = number }) (records kept) ≡ ends_at until from
   pub is : (until : ℕ) → is_end_in last.numbers (record { until = until; number = number }) (records last) ≡ ends_at until to
   pub others : (q : PauseEnd) → is_same_name number q.number ≡ false
@@ -55,20 +55,20 @@ pub pause_is : (name : List ℕ) (es : List Named)
 pause_is name es = ap pause_in (sym (found_entry name es))
 
 -- the end of the pause of a tube that was looked up
-pub no_end : (name : List ℕ) (kept : Tabled KeptTube) (k : Numbering) (r : Option (List ℕ)) → option_map number_in r ≡ number_of name k
+pub no_end : (name : List ℕ) (kept : Tabled EntrySeen) (k : Numbering) (r : Option (List ℕ)) → option_map number_in r ≡ number_of name k
     → k.numbers ≡ kept.numbers → keys_of kept.entries ≡ keys_of kept.numbers → r ≡ None
     → None ≡ end_of (number_at name kept.numbers) (pause_at name (map record_at kept.entries))
 no_end name kept k r is same keys none =
     grind (arith, have_numbers kept.entries kept.numbers keys name, found_any name kept.entries, pause_is name kept.entries)
 
-pub some_end : (name : List ℕ) (kept : Tabled KeptTube) (k : Numbering) (n : List ℕ) (t : KeptTube) (r : Option PauseEnd)
+pub some_end : (name : List ℕ) (kept : Tabled EntrySeen) (k : Numbering) (n : List ℕ) (t : EntrySeen) (r : Option PauseEnd)
     → n ≡ number_in n ∷ [] → Some (number_in n) ≡ number_of name k → k.numbers ≡ kept.numbers
     → Some t ≡ lookup (is_named_at name) kept.entries → r ≡ end_of n t.pause
     → r ≡ end_of (number_at name kept.numbers) (pause_at name (map record_at kept.entries))
 some_end name kept k n t r alone is same found end = grind (arith, number_read, pause_is)
 
 -- The end of a tube's pause is one of the ends.
-pub end_held : (name : List ℕ) (kept : Tabled KeptTube) (ends : CatalogSeen PauseEnd (Unit {0})) (from : Option PauseEnd)
+pub end_held : (name : List ℕ) (kept : Tabled EntrySeen) (ends : CatalogSeen PauseEnd (Unit {0})) (from : Option PauseEnd)
     → AreEnds kept ends → InOrder (slice_cmp nat_cmp) kept.entries → AreTold kept
     → from ≡ end_of (number_at name kept.numbers) (pause_at name (map record_at kept.entries))
     → ForSome from (λ e. has_end e ends.entries ≡ true)
@@ -76,7 +76,7 @@ end_held name kept ends from h order told was e is =
     grind (arith, common_steps, h.known e, named_ends name kept.numbers e.until (records kept) (in_order kept.entries order) (told name))
 
 -- The end of the pause is removed, and that of the new pause is added.
-module _ (number : List ℕ) (old next : Option Pause) (kept new : Tabled KeptTube) (ends mid : CatalogSeen PauseEnd (Unit {0}))
+module _ (number : List ℕ) (old next : Option Pause) (kept new : Tabled EntrySeen) (ends mid : CatalogSeen PauseEnd (Unit {0}))
     (from to : Option PauseEnd) (h : AreEnds kept ends) (m : Moves number old next kept new) (was : from ≡ end_of number old)
     (is : to ≡ end_of number next) (left : mid.entries ≡ without_end from ends.entries)
     (s : ForSome from (λ _. InOrder end_cmp ends.entries)) (spare : mid.spare ≡ ends.spare + cond (is_some from) 1 0) where
@@ -158,7 +158,7 @@ module _ (name : List ℕ) where
   numbers_left numbers = remove_entry (is_named_at name) numbers
 
   none_left : (es : List Named) → InOrder (slice_cmp nat_cmp) es → lookup (is_named_at name) (left es) ≡ None
-  none_left es order = lookup_removed {V = KeptTube} nat_list_cmp_total name name es order
+  none_left es order = lookup_removed {V = EntrySeen} nat_list_cmp_total name name es order
       ∙ ap (λ b. cond b None (lookup (is_named_at name) es)) (ties name name ∙ same_itself name)
 
   no_entry_left : (es : List Named) → InOrder (slice_cmp nat_cmp) es → has_entry name (map record_at (left es)) ≡ false
@@ -197,7 +197,7 @@ module _ (name : List ℕ) where
   fewer_left : (es : List Named) → length (left es) ≤ length es
   fewer_left es = let fewer = length_lost (is_named_at name) es (lookup (is_named_at name) es) refl in omega (arith, fewer)
 
-  pub moves_left : (kept last : Tabled KeptTube) → InOrder (slice_cmp nat_cmp) kept.entries → AreTold kept
+  pub moves_left : (kept last : Tabled EntrySeen) → InOrder (slice_cmp nat_cmp) kept.entries → AreTold kept
       → last.entries ≡ remove_entry (is_named_at name) kept.entries → last.numbers ≡ remove_entry (is_named_at name) kept.numbers
       → Moves (number_at name kept.numbers) (pause_at name (map record_at kept.entries)) None kept last
   moves_left kept last order told e n = record {
@@ -215,7 +215,7 @@ module _ (name : List ℕ) where
   fresh numbers [] h = (λ q. grind (arith, common_steps), refl, refl)
   fresh numbers (t ∷ ts) h = grind (arith, common_steps, fresh numbers ts)
 
-  pub ends_provided : (n : ℕ) (kept new : Tabled KeptTube) (ends last : CatalogSeen PauseEnd (Unit {0})) → AreEnds kept ends
+  pub ends_provided : (n : ℕ) (kept new : Tabled EntrySeen) (ends last : CatalogSeen PauseEnd (Unit {0})) → AreEnds kept ends
       → has_entry name (map record_at kept.entries) ≡ false
       → map record_at new.entries ≡ with_record (fresh_tube name) (map record_at kept.entries)
       → new.numbers ≡ insert_entry (slice_cmp nat_cmp) kept.numbers name n
@@ -225,9 +225,9 @@ module _ (name : List ℕ) where
       grind (arith, length-map, renumbered, number_inserted)
 
 -- A change of what is kept about one tube, as an entry and as a record.
-module _ (name : List ℕ) (f : KeptTube → KeptTube) (g : TubeRecord → TubeRecord)
-    (made : (n : List ℕ) (t : KeptTube) → record_of n (f t) ≡ g (record_of n t)) (keeps : (t : TubeRecord) → (g t).name ≡ t.name)
-    (kept last : Tabled KeptTube) (order : InOrder (slice_cmp nat_cmp) kept.entries) (n : last.numbers ≡ kept.numbers)
+module _ (name : List ℕ) (f : EntrySeen → EntrySeen) (g : TubeRecord → TubeRecord)
+    (made : (n : List ℕ) (t : EntrySeen) → record_of n (f t) ≡ g (record_of n t)) (keeps : (t : TubeRecord) → (g t).name ≡ t.name)
+    (kept last : Tabled EntrySeen) (order : InOrder (slice_cmp nat_cmp) kept.entries) (n : last.numbers ≡ kept.numbers)
     (e : last.entries ≡ edited name f (lookup (is_named_at name) kept.entries) kept.entries) where
   edit_is : map record_at last.entries ≡ map (changed_one name g) (map record_at kept.entries)
   edit_is = ap (map record_at) e ∙ edit_change name f g made kept.entries (in_order kept.entries order)
@@ -254,17 +254,17 @@ module _ (name : List ℕ) (f : KeptTube → KeptTube) (g : TubeRecord → TubeR
   edit_stays paused ends h = grind (arith, edit_is, same_ends, same_count, as_many)
 
 -- How a pause changes, and a count.
-pub change_moves : (name : List ℕ) (what : TubeChange) (kept last : Tabled KeptTube) → InOrder (slice_cmp nat_cmp) kept.entries
-    → last.numbers ≡ kept.numbers → last.entries ≡ edited name (kept_changed what) (lookup (is_named_at name) kept.entries) kept.entries
+pub change_moves : (name : List ℕ) (what : TubeChange) (kept last : Tabled EntrySeen) → InOrder (slice_cmp nat_cmp) kept.entries
+    → last.numbers ≡ kept.numbers → last.entries ≡ edited name (entry_changed what) (lookup (is_named_at name) kept.entries) kept.entries
     → AreTold kept → Moves (number_at name kept.numbers) (pause_at name (map record_at kept.entries))
     (pause_at name (map record_at last.entries)) kept last
-change_moves name what = edit_moves name (kept_changed what) (tube_changed what) (change_kept what) (tube_name_kept what)
+change_moves name what = edit_moves name (entry_changed what) (tube_changed what) (change_kept what) (tube_name_kept what)
 
-pub count_stays : (name : List ℕ) (what : TubeChange) (kept last : Tabled KeptTube) (ends : CatalogSeen PauseEnd (Unit {0}))
+pub count_stays : (name : List ℕ) (what : TubeChange) (kept last : Tabled EntrySeen) (ends : CatalogSeen PauseEnd (Unit {0}))
     → (what ≡ CountPut) ⊎ (what ≡ CountDelete) → InOrder (slice_cmp nat_cmp) kept.entries → last.numbers ≡ kept.numbers
-    → last.entries ≡ edited name (kept_changed what) (lookup (is_named_at name) kept.entries) kept.entries
+    → last.entries ≡ edited name (entry_changed what) (lookup (is_named_at name) kept.entries) kept.entries
     → AreEnds kept ends → AreEnds last ends
-count_stays name what kept last ends counts order n e h = edit_stays name (kept_changed what) (tube_changed what) (change_kept what)
+count_stays name what kept last ends counts order n e h = edit_stays name (entry_changed what) (tube_changed what) (change_kept what)
     (tube_name_kept what) kept last order n e (λ t. grind (arith, common_steps)) ends h
 
 -- A pause that is due ends.
@@ -289,7 +289,7 @@ to_at : (moment : ℕ) (number : List ℕ) (e : PauseEnd) (p : Option Pause) →
 to_at moment number e p is h = grind arith
 
 -- the first end, which is due
-module _ (moment : ℕ) (e : PauseEnd) (name : List ℕ) (kept last : Tabled KeptTube) (ends : CatalogSeen PauseEnd (Unit {0}))
+module _ (moment : ℕ) (e : PauseEnd) (name : List ℕ) (kept last : Tabled EntrySeen) (ends : CatalogSeen PauseEnd (Unit {0}))
     (h : AreEnds kept ends) (order : InOrder (slice_cmp nat_cmp) kept.entries) (told : AreTold kept)
     (come : Some e ≡ if_over moment (first_end ends.entries)) (own : e.number ≡ number_at name kept.numbers)
     (n : last.numbers ≡ kept.numbers)

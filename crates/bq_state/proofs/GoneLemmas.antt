@@ -11,15 +11,15 @@ use Rattle.bq_job.{proofs.ListLemmas.{all_at, all_before_map, found_passes}, spe
 use Rattle.bq_job.specs.{machine.{greatest, raised}, reading.TubeName.is_same_name}
 use Rattle.bq_state.proofs.{CrowdLemmas.has_seats_of, CrowdPlaces.exists_by_counts, MaybeGoneLemmas.all_kept_alive}
 use Rattle.bq_state.proofs.{MaybeGoneLemmas.others_alive, NamedLemmas.ties, TallyPlaces.has_jobs_in, TubeLemmas.same_name}
-use Rattle.bq_state.specs.{Counting.AreCounts, KeptTubes.{KeptTube, Named, is_alive_at, is_from, is_gone_by}}
-use Rattle.bq_state.specs.KeptTubes.{is_gone_from, is_named_at, record_at, tally_kept, tubes_kept, with_alive, without_gone}
+use Rattle.bq_state.specs.{Counting.AreCounts, TubesSeen.{EntrySeen, Named, is_alive_at, is_from, is_gone_by}}
+use Rattle.bq_state.specs.TubesSeen.{entry_tally, is_gone_from, is_named_at, record_at, tubes_seen, with_alive, without_gone}
 use Rattle.bq_state.specs.{MaybeGoneTubes.AreAlive, Tallies.{tallies_of, tally_in}, TubeEntries.{AreInOrder, is_tube_of, names_alive}}
 use Rattle.bq_state.specs.declared.{known.maybe_gone.MaybeGone.TheVariants.Tube, tubes.walks.HowMany.HowMany}
 
 -- The tube of an entry that is dropped has no job.
 module _ (jobs : List Job) where
   abbrev AreTallies : List Named → Type 0
-  AreTallies es = map tally_kept es ≡ tallies_of jobs (map record_at es)
+  AreTallies es = map entry_tally es ≡ tallies_of jobs (map record_at es)
 
   idle : (es : List Named) → AreTallies es → All (λ x. is_alive_at x ≡ false → list_any (λ j. is_same_name x.0 j.tube) jobs ≡ false) es
   idle [] h = tt
@@ -46,7 +46,7 @@ part_left f g test (x ∷ es) h = grind (arith, part_left f g test es)
 
 -- The counts are those of these jobs and seats.
 abbrev pub AreTallied : List Job → List SeatRecord → List Named → Type 0
-AreTallied jobs seats es = AreCounts (tubes_kept [] es) jobs seats
+AreTallied jobs seats es = AreCounts (tubes_seen [] es) jobs seats
 
 module _ (jobs : List Job) (seats : List SeatRecord) where
   rest_tallied : (x : Named) (es : List Named) → AreTallied jobs seats (x ∷ es) → AreTallied jobs seats es
@@ -76,7 +76,7 @@ module _ (jobs : List Job) (seats : List SeatRecord) where
 
   -- and counted.
   pub counted_names : (es : List Named) (n : ℕ) → AreTallied jobs seats es → n + length es ≤ greatest
-      → (fold (seen_by (λ (s : HowMany) (name : List ℕ) (t : KeptTube). record { count = with_alive s.count name t }))
+      → (fold (seen_by (λ (s : HowMany) (name : List ℕ) (t : EntrySeen). record { count = with_alive s.count name t }))
       (record { count = n }) es).count ≡ n + length (names_alive jobs seats (map record_at es))
   counted_names [] n h few = omega arith
   counted_names (x ∷ es) n h few = let rest = λ (k : ℕ). counted_names es k (rest_tallied x es h) in
@@ -104,7 +104,7 @@ none_gone from [] h all = refl
 none_gone from (x ∷ es) h all = grind (arith, common_steps, none_gone from es)
 
 -- the result of one removal
-pub record Removed (name : List ℕ) (es : List Named) : Type 0 where
+pub record JobRemoval (name : List ℕ) (es : List Named) : Type 0 where
   pub before : AllLeftBefore (Some name) (remove_entry (is_named_at name) es)
   pub left : filter (is_alive_at) (remove_entry (is_named_at name) es) ≡ filter (is_alive_at) es
   pub fewer : length (remove_entry (is_named_at name) es) + 1 ≡ length es
@@ -120,7 +120,7 @@ module _ (k : List ℕ) where
   found_behind q name es all h = grind (arith, common_steps, all_at, all_before_map, found_passes)
 
 pub name_removed : (from : Option (List ℕ)) (name : List ℕ) (es : List Named) → InOrder (slice_cmp nat_cmp) es
-    → option_map (λ (e : Named). e.0) (find (is_gone_from from) es) ≡ Some name → AllLeftBefore from es → Removed name es
+    → option_map (λ (e : Named). e.0) (find (is_gone_from from) es) ≡ Some name → AllLeftBefore from es → JobRemoval name es
 unfolding IsStrictlySortedBy
 name_removed from name [] s h all = absurd (let g : None ≡ Some name = h in cc)
 name_removed from name (x ∷ es) s h all = grind (

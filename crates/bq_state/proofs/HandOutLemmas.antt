@@ -4,31 +4,31 @@ use Rattle.std.proofs.lemmas.Grind.{common_steps}
 use Rattle.std.proofs.{Common.{List, Option, Some, ℕ, ◌≡◌}}
 use Rattle.std.specs.{Option.option_map, Prelude.{Result}}
 use Rattle.bq_job.specs.machine.{job_with}
-use Rattle.bq_jobs.specs.{Changed.moved_by, Kept.Kept, Numbering.HasNumber, Sharing.SharesAndChanges}
-use Rattle.bq_jobs.specs.declared.job_orders.Moved.{Moved}
+use Rattle.bq_jobs.specs.{Changed.moved_by, JobsSeen.JobsSeen, Numbering.HasNumber, Sharing.SharesAndChanges}
+use Rattle.bq_jobs.specs.declared.job_orders.JobMove.{JobMove}
 use Rattle.bq_state.proofs.KnowledgeLemmas.{sound_with_moved}
-use Rattle.bq_state.specs.{CoreParts.{held}, HandOuts.{CountsIf, HandsOutTo, body_in}}
-use Rattle.bq_state.specs.{JobChanges.changed, KeptTubes.KeptTubes, Soundness.Soundness}
+use Rattle.bq_state.specs.{CoreParts.{fields}, HandOuts.{CountsIf, HandsOutTo, body_in}}
+use Rattle.bq_state.specs.{JobChanges.changed, Soundness.Soundness, TubesSeen.TubesSeen}
 use Rattle.bq_state.specs.declared.{core_parts.CoreParts.CoreParts, job_store.JobChange.{JobChange, TheVariants.HandOut}, known.Known.Known}
 
 module _ (st : CoreParts) (seat id : ℕ) where
   abbrev what : JobChange
   what = HandOut seat st.moment
 
-  abbrev IsReported : List ℕ × Moved → Type 0
+  abbrev IsReported : List ℕ × JobMove → Type 0
   IsReported r = (Some r.1 ≡ option_map (moved_by (changed what)) (job_with id st.jobs.jobs)) × HasNumber r.1.tube r.0 st.jobs.tubes
 
   abbrev Shared : Type 0 → Type 0
-  Shared E = Option (Result ((List ℕ × Moved) × List ℕ) E)
+  Shared E = Option (Result ((List ℕ × JobMove) × List ℕ) E)
 
-  module _ (jobs : Kept) (known : Known) (tubes : KeptTubes) where
+  module _ (jobs : JobsSeen) (known : Known) (tubes : TubesSeen) where
     -- The parts still agree,
     pub sound_then : {E : Type 0} (r : Shared E) → SharesAndChanges IsReported id (changed what) r st.jobs jobs
         → CountsIf r st.waiting st.seats.items st.known known st.tubes tubes
         → Soundness jobs.jobs st.seats.items tubes st.waiting known st.next_id st.draining
     sound_then r c n = grind (arith, sound_with_moved)
 
-    module _ (new : CoreParts) (is : held new ≡ record (held st) { jobs = jobs; known = known; tubes = tubes }) where
+    module _ (new : CoreParts) (is : fields new ≡ record (fields st) { jobs = jobs; known = known; tubes = tubes }) where
       -- The job was handed out, or nothing was changed.
       pub handed_out : {E : Type 0} (r : Shared E) → SharesAndChanges IsReported id (changed what) r st.jobs jobs
           → CountsIf r st.waiting st.seats.items st.known known st.tubes tubes → HandsOutTo seat id (body_in r) st new

@@ -7,7 +7,8 @@ use Rattle.bq_job.specs.{declared.job.Job.Job, machine.{SeatRecord, TubeRecord, 
 use Rattle.bq_job.specs.machine.{forgetting, is_seated_at, is_waiting, job_with, next_job, numbers, seat_with, tube_after_timers}
 use Rattle.bq_job.specs.machine.{watches, watching}
 use Rattle.bq_job.specs.reading.TubeName.{is_same_name}
-use Rattle.bq_jobs.specs.{Changed.{moved_by, removed_from, with_changed}, Kept.{with_added, without}, declared.job_orders.Moved.Moved}
+use Rattle.bq_jobs.specs.{Changed.{moved_by, removed_from, with_changed}, JobsSeen.{with_added, without}}
+use Rattle.bq_jobs.specs.declared.job_orders.JobMove.{JobMove}
 use Rattle.bq_state.proofs.{ClientLemmas.{connected_moved, connected_watching}, CrowdLemmas.crowds_moved, CrowdPlaces.crowds_kept}
 use Rattle.bq_state.proofs.{CrowdPlaces.{crowds_of_provided, first_crowds}, CrowdWatching.{crowds_ignoring, crowds_watching}}
 use Rattle.bq_state.proofs.{FirstTimeoutLemmas.{first_timeouts, timeouts_of_seat, timeouts_watching}, LeavingLemmas.alive_left}
@@ -20,21 +21,21 @@ use Rattle.bq_state.proofs.{MovedLemmas.{one_tube, tube_kept, warned_moved}, Par
 use Rattle.bq_state.proofs.PartsLemmas.{entries_of_tube, first_entries, first_numbered, id_kept, name_kept_at, numbered_after, tube_counts}
 use Rattle.bq_state.proofs.{PartsLemmas.tube_name_kept, TallyPlaces.counted_added}
 use Rattle.bq_state.proofs.{TallyPlaces.{counted_kept, counted_provided as tallies_of_provided, counted_taken}, TubeLemmas.filters_swap}
-use Rattle.bq_state.proofs.{TubeLemmas.record_changed, WaitingLemmas.{many_seats, none_in_turn, rising_left, turns_moved, turns_within}}
+use Rattle.bq_state.proofs.{TubeLemmas.record_changed, WaitingLemmas.{many_seats, none_in_turn, rising_left, waiters_moved, waiters_within}}
 use Rattle.bq_state.proofs.WantedLemmas.{known_added, known_forgotten, known_ignoring, known_nothing, known_of_change}
 use Rattle.bq_state.proofs.{WantedLemmas.{known_of_seat, known_watching}, WarningLemmas.{warned_added, warned_by_due, warned_of_seat}}
 use Rattle.bq_state.{proofs.WarningLemmas.warned_watching, specs.{CoreParts.machine_of, Counting.{AreCounts, recounted_for, tubes_with}}}
-use Rattle.bq_state.specs.{Counting.{with_crowds_at, with_tallies_at}, Crowds.{is_waiter, may_wait, recounted, share_of_watcher}}
-use Rattle.bq_state.specs.{Crowds.{share_of_watching, touched}, Dues.with_warning_due, JobChanges.changed}
-use Rattle.bq_state.specs.{KeptTubes.{KeptTubes, first_tubes}, Knowledge.{IsSo, is_wanted_by, nothing_known, with_forgotten, with_job}}
+use Rattle.bq_state.specs.{Counting.{with_crowds_at, with_tallies_at}, Crowds.{is_waiter, may_wait, recounted, roles_of_watcher}}
+use Rattle.bq_state.specs.{Crowds.{roles_of_watching, touched}, Dues.with_warning_due, JobChanges.changed}
+use Rattle.bq_state.specs.{Knowledge.{IsSo, is_wanted_by, nothing_known, with_forgotten, with_job}, TubesSeen.{TubesSeen, first_tubes}}
 use Rattle.bq_state.specs.Knowledge.{with_joined}
 use Rattle.bq_state.specs.{Knowledge.{with_left, with_moved, with_removal, with_tube_changed}, MaybeGoneTubes.is_nothing}
 use Rattle.bq_state.specs.MaybeGoneTubes.{with_gone}
 use Rattle.bq_state.specs.{SeatChanges.seat_changed_at, Soundness.Soundness, Tallies.{tallies_with, tallies_without, tally_moved}}
 use Rattle.bq_state.specs.TubeEntries.{has_entry, is_counted, is_tube_of, tube_changed, tube_changed_at}
-use Rattle.bq_state.specs.{WaitingTurns.WaitingTurns, Warnings.{has_waiting_holder, may_hold, warned_if_due}}
+use Rattle.bq_state.specs.{WaitingList.WaitingList, Warnings.{has_waiting_holder, may_hold, warned_if_due}}
 use Rattle.bq_state.specs.declared.{core_parts.CoreParts.CoreParts, job_store.JobChange.JobChange, seats.SeatChange.SeatChange}
-use Rattle.bq_state.specs.declared.tubes.entry.{Moving.TheVariants.{Comes, Goes}, TubeChange.TubeChange}
+use Rattle.bq_state.specs.declared.tubes.entry.{AddOrRemove.TheVariants.{Add, Remove}, TubeChange.TubeChange}
 use Rattle.bq_state.specs.declared.known.wanted.Wanted.TheVariants as wanted_jobs
 
 module _ (st : CoreParts) where
@@ -52,7 +53,7 @@ module _ (st : CoreParts) where
   so_without_job id j has_seats seated found = search (counted_taken, alive_taken, all_filtered)
 
   -- or changed.
-  pub so_with_moved : (id : ℕ) (what : JobChange) (j : Job) (m : Moved) (is_wanted waits : Bool) → job_with id st.jobs.jobs ≡ Some j
+  pub so_with_moved : (id : ℕ) (what : JobChange) (j : Job) (m : JobMove) (is_wanted waits : Bool) → job_with id st.jobs.jobs ≡ Some j
       → m ≡ moved_by (changed what) j
       → length st.jobs.jobs ≤ greatest → is_wanted ≡ (is_ready_state m.to.state && list_any (is_waiter m.tube) st.seats.items)
       → waits ≡ has_waiting_holder m.to.state st.seats.items
@@ -61,7 +62,7 @@ module _ (st : CoreParts) where
   so_with_moved id what j m is_wanted waits found is fits wants holds = search
       (counted_moved, alive_changed, known_moved, warned_moved, id_kept what, tube_kept what, one_tube id (changed what) (tube_kept what))
 
-  pub sound_with_moved : (id : ℕ) (what : JobChange) (m : Moved) → AreIdsWithin 0 st.jobs.jobs (2 ^ 64)
+  pub sound_with_moved : (id : ℕ) (what : JobChange) (m : JobMove) → AreIdsWithin 0 st.jobs.jobs (2 ^ 64)
       → Some m ≡ option_map (moved_by (changed what)) (job_with id st.jobs.jobs)
       → Soundness (with_changed id (changed what) st.jobs.jobs) st.seats.items (with_tallies_at m.tube (tally_moved m) st.tubes) st.waiting
       (with_moved m (is_wanted_by st.waiting st.tubes m) (has_waiting_holder m.to.state st.seats.items) st.known) st.next_id st.draining
@@ -71,14 +72,14 @@ module _ (st : CoreParts) where
       let fits = few_jobs st.next_id st.jobs.jobs st.sound.ids ordered in
       grind (arith, entries_of_changed, one_tube, tube_kept, ids_of_map, one_id, id_kept, waiters_counted, so_with_moved)
 
-  -- A seat changes, and so do its shares at its tubes,
+  -- A seat changes, and so do its roles at its tubes,
   pub so_with_seat : (n : ℕ) (what : SeatChange) → length st.seats.items ≤ greatest → may_wait what (seat_with n st.seats.items) ≡ true
       → may_hold what n st.known.warns st.jobs.jobs ≡ true
       → let old = seat_with n st.seats.items in
       let seats = map (seat_changed_at n what) st.seats.items in
-      let left = recounted_for Goes (touched what) old st.tubes in
+      let left = recounted_for Remove (touched what) old st.tubes in
       IsSo (with_joined (seat_with n seats) n what (with_left old what (touched what) left st.known)) st.jobs.jobs seats
-      (recounted_for Comes (touched what) (seat_with n seats) left)
+      (recounted_for Add (touched what) (seat_with n seats) left)
   so_with_seat n what few waits holds = rw (st.sound.known.connected, st.sound.known.crowds.each)
       (search (connected_moved, crowds_moved, alive_left n what, known_of_seat, warned_of_seat, timeouts_of_seat))
 
@@ -86,7 +87,7 @@ module _ (st : CoreParts) where
   pub so_watching : (name : List ℕ) (n : ℕ) (s : SeatRecord) → slice_get st.seats.items n ≡ Some s → length st.seats.items ≤ greatest
       → watches name s ≡ false
       → IsSo (record st.known { wanted = if is_waiting s then wanted_jobs.Any else st.known.wanted }) st.jobs.jobs
-      (set st.seats.items n (watching (s.watched ++ name ∷ []) s)) (with_crowds_at name (recounted Comes (share_of_watcher s)) st.tubes)
+      (set st.seats.items n (watching (s.watched ++ name ∷ []) s)) (with_crowds_at name (recounted Add (roles_of_watcher s)) st.tubes)
   so_watching name n s here few fresh =
       search (connected_watching, crowds_watching, alive_watching, known_watching, warned_watching, timeouts_watching)
 
@@ -94,7 +95,7 @@ module _ (st : CoreParts) where
   pub so_ignoring : (name : List ℕ) (n : ℕ) (s : SeatRecord) → slice_get st.seats.items n ≡ Some s → length st.seats.items ≤ greatest
       → IsSo (record st.known { maybe_gone = with_gone name st.known.maybe_gone })
       st.jobs.jobs (set st.seats.items n (watching (filter (λ other. not (is_same_name name other)) s.watched) s))
-      (with_crowds_at name (recounted Goes (share_of_watching name s)) st.tubes)
+      (with_crowds_at name (recounted Remove (roles_of_watching name s)) st.tubes)
   so_ignoring name n s here few =
       search (connected_watching, crowds_ignoring, alive_ignoring, known_ignoring, warned_watching, timeouts_watching)
 
@@ -118,7 +119,7 @@ module _ (st : CoreParts) where
   so_with_pauses = search (counted_kept, crowds_kept, alive_renamed, all_always)
 
   -- Entries of tubes that no longer exist are dropped.
-  pub so_forgotten : (new : KeptTubes) → new.entries ≡ filter (λ t. is_tube_of st.jobs.jobs st.seats.items t.name) st.tubes.entries
+  pub so_forgotten : (new : TubesSeen) → new.entries ≡ filter (λ t. is_tube_of st.jobs.jobs st.seats.items t.name) st.tubes.entries
       → AreCounts new st.jobs.jobs st.seats.items → IsSo (with_forgotten st.known) st.jobs.jobs st.seats.items new
   so_forgotten new left counts =
       let p = λ (t : TubeRecord). is_tube_of st.jobs.jobs st.seats.items t.name in
@@ -158,12 +159,21 @@ with_count st name what there =
     }
 
 -- At the start there is nothing to know.
-pub sound_at_first : (n : ℕ) (ns : List (List ℕ × ℕ)) (turns : WaitingTurns) → turns.turns ≡ [] → n ≤ turns.room
-    → Soundness [] (map empty_seat (numbers 0 n)) (first_tubes ns) turns nothing_known 1 false
-sound_at_first n ns turns nobody room =
+pub sound_at_first : (n : ℕ) (ns : List (List ℕ × ℕ)) (waiters : WaitingList) → waiters.waiters ≡ [] → n ≤ waiters.room
+    → Soundness [] (map empty_seat (numbers 0 n)) (first_tubes ns) waiters nothing_known 1 false
+sound_at_first n ns waiters nobody room =
     let so : IsSo nothing_known [] (map empty_seat (numbers 0 n)) (first_tubes ns) = grind
     (arith, common_steps, first_crowds (numbers 0 n), first_timeouts (numbers 0 n)) in
     search (arith, first_entries, first_numbered, many_seats, nobody ∙ sym (none_in_turn (numbers 0 n)))
 
 -- facts after a change of a seat, under a name that an attribute can cite
-pub ruleset kept_by_seat = (common_steps, so_with_seat, entries_of_seat, numbered_after, rising_left, turns_moved, turns_within, length-map)
+pub ruleset kept_by_seat = (
+  common_steps,
+  so_with_seat,
+  entries_of_seat,
+  numbered_after,
+  rising_left,
+  waiters_moved,
+  waiters_within,
+  length-map,
+)

@@ -5,7 +5,7 @@ use Rattle.std.specs.{List.{AllByRecursion as All, list_any}, Prelude.filter}
 use Rattle.bq_job.proofs.ListLemmas.{all_always, all_both, all_of_map, all_weaker, filter_all, map_all_same}
 use Rattle.bq_job.specs.{beside.AreIdsWithin, declared.job.Job.Job, machine.{SeatRecord, TubeRecord, is_name_before}}
 use Rattle.bq_job.specs.{machine.{is_seated_at, job_with, watching}, reading.TubeName.is_same_name}
-use Rattle.bq_jobs.{proofs.Changes.{changed, found_id}, specs.Kept.{with_added, without}}
+use Rattle.bq_jobs.{proofs.Changes.{changed, found_id}, specs.JobsSeen.{with_added, without}}
 use Rattle.bq_state.proofs.TubeLemmas.{all_inserted, before_differs, both_same, same_itself, same_name}
 use Rattle.bq_state.specs.{MaybeGoneTubes.{AreAlive, may_be_gone, with_existing, with_gone}, TubeEntries.{has_entry, is_tube_of, provided}}
 use Rattle.bq_state.specs.declared.known.maybe_gone.MaybeGone.{MaybeGone, TheVariants.{Nothing, Tube}}

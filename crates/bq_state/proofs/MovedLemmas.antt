@@ -4,7 +4,7 @@ use Rattle.std.{proofs.lemmas.{Cmp.nat_list_eq_equiv, Grind.common_steps, List.l
 use Rattle.bq_job.specs.{beside.AreIdsWithin, declared.job.Job.Job, machine.{SeatRecord, TubeRecord, greatest, is_ready_state, job_with}}
 use Rattle.bq_job.specs.reading.TubeName.{is_same_name}
 use Rattle.bq_jobs.{proofs.Changes.{changed as changed_by_id, found_id}, specs.Changed.{IgnoresTube, KeepsId, KeepsTube, moved_by}}
-use Rattle.bq_jobs.specs.{Changed.with_changed, Kept.{with_added, without}, declared.job_orders.Moved.Moved}
+use Rattle.bq_jobs.specs.{Changed.with_changed, JobsSeen.{with_added, without}, declared.job_orders.JobMove.JobMove}
 use Rattle.bq_state.proofs.{PartsLemmas.{all_filtered, all_kept}, TallyLemmas.{one_added, one_taken}, TallyPlaces.counted_by}
 use Rattle.bq_state.{proofs.{WantedLemmas.known_added, WarningLemmas.warned_added}, specs.{Crowds.is_waiter, JobChanges.changed}}
 use Rattle.bq_state.specs.{MaybeGoneTubes.AreAlive, SeatChanges.AreNumbered, Tallies.{AreCounted, count_with, count_without, tallies_at}}
@@ -42,8 +42,8 @@ module _ (g : Job → Job) (stays : KeepsTube g) where
       → AreAlive maybe jobs seats entries → AreAlive maybe (map g jobs) seats entries
   alive_changed maybe jobs seats entries all = simp any_kept all
 
--- the standing of a job changes
-module _ (low next id : ℕ) (f : Job → Job) (keeps : KeepsId f) (stays : KeepsTube f) (j : Job) (m : Moved) (is : m ≡ moved_by f j) where
+-- the priority or the state of a job changes
+module _ (low next id : ℕ) (f : Job → Job) (keeps : KeepsId f) (stays : KeepsTube f) (j : Job) (m : JobMove) (is : m ≡ moved_by f j) where
   module _ (jobs : List Job) (ids : AreIdsWithin low jobs next) (found : job_with id jobs ≡ Some j) where
     made_of : with_added (f j) (without id jobs) ≡ with_changed id f jobs
     made_of = changed_by_id low next id f j jobs ids found (keeps j ∙ found_id id jobs j found)

@@ -8,9 +8,9 @@ use Rattle.bq_job.{proofs.ListLemmas.{all_before_map, all_of_map, all_weaker}, s
 use Rattle.bq_job.specs.reading.TubeName.{is_same_name}
 use Rattle.bq_jobs.specs.Names.{number_in}
 use Rattle.bq_state.proofs.TubeLemmas.{changed_one, no_pause_there, none_later, provided_new, same_name, unchanged}
-use Rattle.bq_state.specs.{Counting.with_tallies_at, Crowds.{crowd_at, crowds_at, has_seats}, KeptTubes.{KeptTube, KeptTubes, Named}}
-use Rattle.bq_state.specs.KeptTubes.{crowd_by, crowd_kept, edited_at, fresh_entry, is_named_at, is_paused_by, kept_changed, record_at}
-use Rattle.bq_state.specs.{KeptTubes.{record_of, tally_by, tally_kept, tubes_kept}, Tallies.{tallies_at, tally_at}, TubeEntries.AreInOrder}
+use Rattle.bq_state.specs.{Counting.with_tallies_at, Crowds.{crowd_at, crowds_at, has_seats}, TubesSeen.{EntrySeen, Named, TubesSeen}}
+use Rattle.bq_state.specs.TubesSeen.{crowd_by, edited_at, entry_changed, entry_crowd, fresh_entry, is_named_at, is_paused_by, record_at}
+use Rattle.bq_state.specs.{Tallies.{tallies_at, tally_at}, TubeEntries.AreInOrder, TubesSeen.{entry_tally, record_of, tally_by, tubes_seen}}
 use Rattle.bq_state.specs.{TubeEntries.{has_entry, tube_changed, tube_changed_at}, TubeNumbers.HaveNumbers}
 use Rattle.bq_state.specs.declared.{known.tally.Tally.Tally, tubes.entry.{Crowd.Crowd, TubeChange.TubeChange}}
 
@@ -43,32 +43,32 @@ module _ (name : List ℕ) where
       grind (arith, ties name x.0, same_name name x.0, none, no_pause_there, found_pause es order.1)
 
   -- It contains the counts of the tube's jobs.
-  pub found_tally : (es : List Named) → tally_by (lookup (is_named_at name) es) ≡ tally_at name (map record_at es) (map tally_kept es)
+  pub found_tally : (es : List Named) → tally_by (lookup (is_named_at name) es) ≡ tally_at name (map record_at es) (map entry_tally es)
   found_tally [] = refl
   found_tally (x ∷ es) = grind (arith, ties, found_tally es)
 
-  pub found_crowd : (es : List Named) → crowd_by (lookup (is_named_at name) es) ≡ crowd_at name (map record_at es) (map crowd_kept es)
+  pub found_crowd : (es : List Named) → crowd_by (lookup (is_named_at name) es) ≡ crowd_at name (map record_at es) (map entry_crowd es)
   found_crowd [] = refl
   found_crowd (x ∷ es) = grind (arith, ties, found_crowd es)
 
-  pub crowd_of_found : (es : List Named) (t : KeptTube) → Some t ≡ lookup (is_named_at name) es
-      → t.crowd ≡ crowd_at name (map record_at es) (map crowd_kept es)
+  pub crowd_of_found : (es : List Named) (t : EntrySeen) → Some t ≡ lookup (is_named_at name) es
+      → t.crowd ≡ crowd_at name (map record_at es) (map entry_crowd es)
   crowd_of_found es t is = ap crowd_by is ∙ found_crowd es
 
   pub seats_told : (es : List Named) (b : Bool) → Some b ≡ option_map (λ t. has_seats t.crowd) (lookup (is_named_at name) es)
-      → b ≡ has_seats (crowd_at name (map record_at es) (map crowd_kept es))
+      → b ≡ has_seats (crowd_at name (map record_at es) (map entry_crowd es))
   seats_told es b told = grind (arith, common_steps, found_crowd es)
 
   -- The value there is changed:
-  module _ (f : KeptTube → KeptTube) where
+  module _ (f : EntrySeen → EntrySeen) where
     -- only the counts,
-    pub edit_tally : (g : Tally → Tally) → ((t : KeptTube) → (f t).tally ≡ g t.tally) → (es : List Named)
-        → map tally_kept (edited_at name f es) ≡ tallies_at name g (map record_at es) (map tally_kept es)
+    pub edit_tally : (g : Tally → Tally) → ((t : EntrySeen) → (f t).tally ≡ g t.tally) → (es : List Named)
+        → map entry_tally (edited_at name f es) ≡ tallies_at name g (map record_at es) (map entry_tally es)
     edit_tally g made [] = refl
     edit_tally g made (x ∷ es) = grind (arith, ties, edit_tally g made es)
 
-    pub edit_crowd : (g : Crowd → Crowd) → ((t : KeptTube) → (f t).crowd ≡ g t.crowd) → (es : List Named)
-        → map crowd_kept (edited_at name f es) ≡ crowds_at name g (map record_at es) (map crowd_kept es)
+    pub edit_crowd : (g : Crowd → Crowd) → ((t : EntrySeen) → (f t).crowd ≡ g t.crowd) → (es : List Named)
+        → map entry_crowd (edited_at name f es) ≡ crowds_at name g (map record_at es) (map entry_crowd es)
     edit_crowd g made [] = refl
     edit_crowd g made (x ∷ es) = grind (arith, ties, edit_crowd g made es)
 
@@ -78,15 +78,15 @@ module _ (name : List ℕ) where
     edit_same q same [] = refl
     edit_same q same (x ∷ es) = grind (arith, edit_same q same es)
 
-    pub edit_same_tallies : ((t : KeptTube) → (f t).tally ≡ t.tally) → (es : List Named)
-        → map tally_kept (edited_at name f es) ≡ map tally_kept es
-    edit_same_tallies same = edit_same tally_kept (λ x. same x.1)
+    pub edit_same_tallies : ((t : EntrySeen) → (f t).tally ≡ t.tally) → (es : List Named)
+        → map entry_tally (edited_at name f es) ≡ map entry_tally es
+    edit_same_tallies same = edit_same entry_tally (λ x. same x.1)
 
-    pub edit_same_crowds : ((t : KeptTube) → (f t).crowd ≡ t.crowd) → (es : List Named)
-        → map crowd_kept (edited_at name f es) ≡ map crowd_kept es
-    edit_same_crowds same = edit_same crowd_kept (λ x. same x.1)
+    pub edit_same_crowds : ((t : EntrySeen) → (f t).crowd ≡ t.crowd) → (es : List Named)
+        → map entry_crowd (edited_at name f es) ≡ map entry_crowd es
+    edit_same_crowds same = edit_same entry_crowd (λ x. same x.1)
 
-    pub edit_change : (g : TubeRecord → TubeRecord) → ((n : List ℕ) (t : KeptTube) → record_of n (f t) ≡ g (record_of n t))
+    pub edit_change : (g : TubeRecord → TubeRecord) → ((n : List ℕ) (t : EntrySeen) → record_of n (f t) ≡ g (record_of n t))
         → (es : List Named) → AreInOrder (map record_at es)
         → map record_at (edited_at name f es) ≡ map (changed_one name g) (map record_at es)
     edit_change g made [] order = refl
@@ -112,12 +112,12 @@ module _ (name : List ℕ) where
       new_at q x es parts.0 (new_part q es parts.1)
 
 -- An event at a tube changes its record.
-pub change_kept : (what : TubeChange) (name : List ℕ) (t : KeptTube)
-    → record_of name (kept_changed what t) ≡ tube_changed what (record_of name t)
+pub change_kept : (what : TubeChange) (name : List ℕ) (t : EntrySeen)
+    → record_of name (entry_changed what t) ≡ tube_changed what (record_of name t)
 change_kept what name t = grind (arith, common_steps)
 
 -- what is kept is equal if its four lists are
-pub kept_alike : {k l : KeptTubes} → k.entries ≡ l.entries → k.tallies ≡ l.tallies → k.crowds ≡ l.crowds → k.numbers ≡ l.numbers → k ≡ l
+pub kept_alike : {k l : TubesSeen} → k.entries ≡ l.entries → k.tallies ≡ l.tallies → k.crowds ≡ l.crowds → k.numbers ≡ l.numbers → k ≡ l
 kept_alike e t w n = λ i. record { entries = e i; tallies = t i; crowds = w i; numbers = n i }
 
 -- A tube has a number exactly if it has an entry.
@@ -139,11 +139,11 @@ same_tallies_at name what g [] tallies = refl
 same_tallies_at name what g (t ∷ ts) tallies = grind (arith, same_tallies_at name what g ts)
 
 -- A job is counted, and its tube's record changes.
-pub job_counted : (what : TubeChange) (name : List ℕ) (f : KeptTube → KeptTube) (g : Tally → Tally) (es last : List Named) (k : KeptTubes)
-    (ns ms : List (List ℕ × ℕ)) → last ≡ edited_at name f es → ms ≡ ns → tubes_kept ns es ≡ k → InOrder (slice_cmp nat_cmp) es
-    → ((n : List ℕ) (t : KeptTube) → record_of n (f t) ≡ tube_changed what (record_of n t)) → ((t : KeptTube) → (f t).tally ≡ g t.tally)
-    → ((t : KeptTube) → (f t).crowd ≡ t.crowd)
-    → tubes_kept ms last ≡ with_tallies_at name g (record k { entries = map (tube_changed_at name what) k.entries })
+pub job_counted : (what : TubeChange) (name : List ℕ) (f : EntrySeen → EntrySeen) (g : Tally → Tally) (es last : List Named) (k : TubesSeen)
+    (ns ms : List (List ℕ × ℕ)) → last ≡ edited_at name f es → ms ≡ ns → tubes_seen ns es ≡ k → InOrder (slice_cmp nat_cmp) es
+    → ((n : List ℕ) (t : EntrySeen) → record_of n (f t) ≡ tube_changed what (record_of n t)) → ((t : EntrySeen) → (f t).tally ≡ g t.tally)
+    → ((t : EntrySeen) → (f t).crowd ≡ t.crowd)
+    → tubes_seen ms last ≡ with_tallies_at name g (record k { entries = map (tube_changed_at name what) k.entries })
 job_counted what name f g es last k ns ms is also seen order made counts crowds =
     let changed = edit_change name f (tube_changed what) made es (in_order es order) in
     grind (arith, kept_alike, changed, edit_tally name f g counts es, same_tallies_at name what g, edit_same_crowds name f crowds es)

@@ -8,7 +8,7 @@ use Rattle.bq_job.proofs.ListLemmas.{all_from_members, all_weaker, list_any_with
 use Rattle.bq_job.specs.{machine.TubeRecord, reading.TubeName.is_same_name}
 use Rattle.bq_jobs.specs.{Names.number_in, Numbering.{IsPaired, Numbering, name_of}, Table.Tabled}
 use Rattle.bq_state.proofs.{NamedLemmas.{have_numbers, ties}, TubeLemmas.{same_itself, same_name}}
-use Rattle.bq_state.specs.{KeptTubes.{KeptTube, is_named_at, record_at}, PauseEnds.{AreTold, as_number, is_end_in, number_at}}
+use Rattle.bq_state.specs.{PauseEnds.{AreTold, as_number, is_end_in, number_at}, TubesSeen.{EntrySeen, is_named_at, record_at}}
 use Rattle.bq_state.specs.declared.tubes.pauses.PauseEnd.{PauseEnd}
 
 -- another tube keeps its number if this one is removed or added
@@ -51,7 +51,7 @@ module _ (name : List ℕ) (n : ℕ) where
   number_given (p ∷ ns) = given_at p ns _ (slice_cmp nat_cmp name p.0) refl (number_given ns)
 
 -- the numbers of the tubes of a table
-module _ (k : Numbering) (kept : Tabled KeptTube) (paired : IsPaired k) (same : k.numbers ≡ kept.numbers)
+module _ (k : Numbering) (kept : Tabled EntrySeen) (paired : IsPaired k) (same : k.numbers ≡ kept.numbers)
     (keys : keys_of kept.entries ≡ keys_of kept.numbers) where
   has_name : (name : List ℕ) (n : ℕ) → lookup (is_named_at name) kept.numbers ≡ Some n → name_of n k ≡ Some name
   has_name name n found = paired.there name n (ap (lookup (is_named_at name)) same ∙ found)

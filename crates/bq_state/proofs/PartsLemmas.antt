@@ -8,7 +8,7 @@ use Rattle.bq_job.proofs.ListLemmas.{all_always, all_at, all_from_members, all_o
 use Rattle.bq_job.specs.{declared.job.Job.Job, machine.{SeatRecord, TubeRecord, default_tube, empty_seat, fresh_tube, greatest, job_with}}
 use Rattle.bq_job.specs.{machine.{numbers, seat_with, tube_after_timers, watches, watching, with_record}, reading.TubeName.is_same_name}
 use Rattle.bq_job.{proofs.{KeptLemmas.numbers_above, LawfulLemmas.length_numbers, ListLemmas.map_all_same}, specs.beside.AreIdsWithin}
-use Rattle.bq_jobs.specs.Kept.{Kept, with_added}
+use Rattle.bq_jobs.specs.JobsSeen.{JobsSeen, with_added}
 use Rattle.bq_state.proofs.TubeLemmas.{all_inserted, counted_inserted, entry_filtered, found, has_inserted, order_filtered}
 use Rattle.bq_state.proofs.TubeLemmas.{order_inserted, order_kept, record_changed, same_entries, same_itself, same_name, still_has}
 use Rattle.bq_state.specs.{JobChanges.changed, SeatChanges.{AreNumbered, has_tube_of, seat_changed, seat_changed_at}, Soundness.Soundness}
@@ -52,7 +52,7 @@ none_passed p f [] h = refl
 none_passed p f (x ∷ xs) h = grind (arith, common_steps, cases_Bool, none_passed p f xs)
 
 -- If jobs were only searched, the state still satisfies its invariants.
-pub compared_sound : (st : CoreParts) (jobs : Kept) → jobs ≡ record st.jobs { comparisons = jobs.comparisons }
+pub compared_sound : (st : CoreParts) (jobs : JobsSeen) → jobs ≡ record st.jobs { comparisons = jobs.comparisons }
     → Soundness jobs.jobs st.seats.items st.tubes st.waiting st.known st.next_id st.draining
 compared_sound st jobs same = grind (arith, common_steps)
 

@@ -3,11 +3,11 @@ use Rattle.std.{proofs.{Common.{List, arith, false, is_some, length, map, ℕ, �
 use Rattle.bq_index.specs.Catalog.{CatalogSeen}
 use Rattle.bq_job.{proofs.ListLemmas.{all_weaker, count_none, list_any_not}, specs.{machine.TubeRecord, reading.TubeName.is_same_name}}
 use Rattle.bq_jobs.specs.Table.{Tabled}
-use Rattle.bq_state.specs.{KeptTubes.{KeptTube, KeptTubes, record_at, tubes_kept}, PauseEnds.{AreEnds, is_paused}}
+use Rattle.bq_state.specs.{PauseEnds.{AreEnds, is_paused}, TubesSeen.{EntrySeen, TubesSeen, record_at, tubes_seen}}
 use Rattle.bq_state.specs.declared.tubes.pauses.PauseEnd.{PauseEnd}
 
-pub none_paused : (name : List ℕ) (kept : Tabled KeptTube) (ends : CatalogSeen PauseEnd (Unit {0})) (k : KeptTubes) (n : ℕ)
-    → n ≡ length ends.entries → AreEnds kept ends → tubes_kept kept.numbers kept.entries ≡ k → n ≡ 0
+pub none_paused : (name : List ℕ) (kept : Tabled EntrySeen) (ends : CatalogSeen PauseEnd (Unit {0})) (k : TubesSeen) (n : ℕ)
+    → n ≡ length ends.entries → AreEnds kept ends → tubes_seen kept.numbers kept.entries ≡ k → n ≡ 0
     → false ≡ list_any (λ (t : TubeRecord). is_same_name name t.name && is_some t.pause) k.entries
 none_paused name kept ends k n len are seen none =
     grind (arith, common_steps, count_none is_paused (map record_at kept.entries), list_any_not, all_weaker)

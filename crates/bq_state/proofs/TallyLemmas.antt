@@ -3,7 +3,7 @@ use Rattle.std.proofs.Common.{Bool, List, Some, [], arith, count_by, filter, len
 use Rattle.std.{proofs.lemmas.{Grind.common_steps, List.Sums.count_by-le-length}, specs.Prelude.if◌then◌else◌}
 use Rattle.bq_job.specs.{beside.AreIdsWithin, declared.job.Job.Job, machine.{greatest, is_buried, is_delayed, is_ready, is_reserved}}
 use Rattle.bq_job.specs.machine.{is_urgent, job_with}
-use Rattle.bq_jobs.{proofs.Changes.{count_added, count_without as count_taken}, specs.Kept.{with_added, without}}
+use Rattle.bq_jobs.{proofs.Changes.{count_added, count_without as count_taken}, specs.JobsSeen.{with_added, without}}
 use Rattle.bq_state.specs.{Tallies.{count_with, count_without, tally_of}, declared.known.tally.Tally.Tally}
 
 -- the count of the jobs that pass after a job is added,

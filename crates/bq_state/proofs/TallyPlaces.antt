@@ -5,7 +5,7 @@ use Rattle.std.{proofs.lemmas.List.{map-append, take-map}, specs.List.{AllByRecu
 use Rattle.std.specs.Prelude.{count_by, filter, if◌then◌else◌}
 use Rattle.bq_job.specs.{beside.AreIdsWithin, declared.job.Job.Job, machine.{TubeRecord, greatest, is_name_before, job_with}}
 use Rattle.bq_job.specs.{reading.TubeName.is_same_name}
-use Rattle.bq_jobs.specs.Kept.{with_added, without}
+use Rattle.bq_jobs.specs.JobsSeen.{with_added, without}
 use Rattle.bq_state.proofs.{TallyLemmas.{both_count, one_added, one_taken, tally_by, tally_is}}
 use Rattle.bq_state.{proofs.TubeLemmas.{before_differs, provided_new, same_name}, specs.Tallies.{AreCounted, count_with, count_without}}
 use Rattle.bq_state.specs.Tallies.{has_jobs, tallies_at, tallies_of, tallies_provided, tallies_with, tallies_without, tally_at, tally_in}

@@ -1,4 +1,4 @@
--- The turns of the waiting clients after one seat changes.
+-- The waiting list after one seat changes.
 use Rattle.std.proofs.Common.{Bool, List, None, Option, Some, [], ap, arith, false, inl, inr, length, map, not, refl, set, slice_get, suc}
 use Rattle.std.proofs.{Common.{sym, true, ℕ, ◌+◌, ◌-◌, ◌<◌, ◌==◌, ◌∙◌, ◌∷◌, ◌≡◌, ◌≤◌}, lemmas.Bool.{cases_Bool, eq-eqb, eqb-true}}
 use Rattle.std.{proofs.lemmas.{Grind.common_steps, List.{Sums.count_by-le-length, length-map}}, specs.Cmp.IsStrictWeakOrder}
@@ -7,8 +7,8 @@ use Rattle.bq_job.proofs.{ChoiceLemmas.pair_order, LawfulLemmas.length_numbers, 
 use Rattle.bq_job.specs.machine.{SeatRecord, empty_seat, is_waiting, numbers, seat_with, watching}
 use Rattle.bq_state.proofs.{ClientLemmas.{all_others, heads, others, others_left}, PartsLemmas.{all_read, changed_there, number_kept}}
 use Rattle.bq_state.{proofs.PartsLemmas.{numbered_after, some_at}, specs.SeatChanges.{AreNumbered, seat_changed, seat_changed_at}}
-use Rattle.bq_state.specs.WaitingTurns.{AreInTurn, IsRising, WaitingTurns, is_none_or_before, is_turn_before, placed, removed, turns_of}
-use Rattle.bq_state.specs.{WaitingTurns.{with_turn, without_turn}, declared.seats.SeatChange.SeatChange}
+use Rattle.bq_state.specs.WaitingList.{AreInTurn, IsRising, WaitingList, is_none_or_before, is_waiter_before, placed, removed, waiters_of}
+use Rattle.bq_state.specs.{WaitingList.{once_joined, once_left}, declared.seats.SeatChange.SeatChange}
 
 one_more : (k : ℕ) → 1 + k ≡ suc k
 one_more k = omega arith
@@ -29,63 +29,63 @@ pub placed_twice : {A : Type 0} {before : A → A → Bool} (order : IsStrictWea
 placed_twice {before = before} order a b [] apart = grind (arith)
 placed_twice {A = A} {before = before} order a b (x ∷ xs) apart = grind (arith, common_steps, placed_twice order a b xs)
 
--- turns of different seats
-turn_order : IsStrictWeakOrder is_turn_before
-turn_order = pair_order (λ u. u.0) (λ u. u.1)
+-- waiters of different seats
+waiter_order : IsStrictWeakOrder is_waiter_before
+waiter_order = pair_order (λ u. u.0) (λ u. u.1)
 
--- The turns are the turn of the seat with a number, if it waits, and those of the others.
-turns_parted : (n low : ℕ) (seats : List SeatRecord) → map (λ s. s.number) seats ≡ numbers low (length seats)
-    → turns_of seats ≡ with_turn (seat_with n seats) (turns_of (others n seats))
-turns_parted n low [] h = refl
-turns_parted n low (s ∷ seats) h =
-    grind (arith, common_steps, heads, eqb-true, all_others, placed_twice turn_order, found_passes, turns_parted n (suc low) seats)
+-- The waiters are that of the seat with a number, if it waits, and those of the others.
+waiters_parted : (n low : ℕ) (seats : List SeatRecord) → map (λ s. s.number) seats ≡ numbers low (length seats)
+    → waiters_of seats ≡ once_joined (seat_with n seats) (waiters_of (others n seats))
+waiters_parted n low [] h = refl
+waiters_parted n low (s ∷ seats) h =
+    grind (arith, common_steps, heads, eqb-true, all_others, placed_twice waiter_order, found_passes, waiters_parted n (suc low) seats)
 
 -- none of those others has this number
 pub all_placed : {A : Type 0} (P : A → Type 0) (before : A → A → Bool) (x : A) (xs : List A) → P x → All P xs → All P (placed before x xs)
 all_placed P before x [] h all = (h, tt)
 all_placed P before x (y ∷ ys) h all = grind (arith, all_placed P before x ys h all.1)
 
-others_stay : (n : ℕ) (seats : List SeatRecord) → All (λ t. (t.1 == n) ≡ false) (turns_of (others n seats))
+others_stay : (n : ℕ) (seats : List SeatRecord) → All (λ t. (t.1 == n) ≡ false) (waiters_of (others n seats))
 others_stay n [] = tt
 others_stay n (s ∷ seats) = grind (arith, all_placed, others_stay n seats)
 
--- an inserted turn is removed again
-removed_again : (before : ℕ × ℕ → ℕ × ℕ → Bool) (t : ℕ × ℕ) (turns : List (ℕ × ℕ)) → All (λ u. (u.1 == t.1) ≡ false) turns
-    → removed t.1 (placed before t turns) ≡ turns
+-- an inserted waiter is removed again
+removed_again : (before : ℕ × ℕ → ℕ × ℕ → Bool) (t : ℕ × ℕ) (waiters : List (ℕ × ℕ)) → All (λ u. (u.1 == t.1) ≡ false) waiters
+    → removed t.1 (placed before t waiters) ≡ waiters
 removed_again before t [] all = rw (eq-eqb t.1 t.1 refl) refl
-removed_again before t (u ∷ turns) all = grind (arith, removed_again before t turns all.1)
+removed_again before t (u ∷ waiters) all = grind (arith, removed_again before t waiters all.1)
 
-turn_taken : (n : ℕ) (o : Option SeatRecord) (turns : List (ℕ × ℕ)) → ((s : SeatRecord) → o ≡ Some s → s.number ≡ n)
-    → All (λ t. (t.1 == n) ≡ false) turns → without_turn o (with_turn o turns) ≡ turns
-turn_taken n None turns at all = refl
-turn_taken n (Some s) turns at all = rw (at s refl) (grind (arith, common_steps, removed_again is_turn_before))
+waiter_taken : (n : ℕ) (o : Option SeatRecord) (waiters : List (ℕ × ℕ)) → ((s : SeatRecord) → o ≡ Some s → s.number ≡ n)
+    → All (λ t. (t.1 == n) ≡ false) waiters → once_left o (once_joined o waiters) ≡ waiters
+waiter_taken n None waiters at all = refl
+waiter_taken n (Some s) waiters at all = rw (at s refl) (grind (arith, common_steps, removed_again is_waiter_before))
 
--- After the client with a number has left, the turns of the others remain,
-turns_left : (n : ℕ) (seats : List SeatRecord) → AreNumbered seats
-    → without_turn (seat_with n seats) (turns_of seats) ≡ turns_of (others n seats)
-turns_left n seats h = grind (arith, turn_taken, found_passes, turns_parted n 0 seats h, others_stay n seats)
+-- After the client with a number has left, the others remain,
+waiters_left : (n : ℕ) (seats : List SeatRecord) → AreNumbered seats
+    → once_left (seat_with n seats) (waiters_of seats) ≡ waiters_of (others n seats)
+waiters_left n seats h = grind (arith, waiter_taken, found_passes, waiters_parted n 0 seats h, others_stay n seats)
 
 -- and it is inserted again as it is then.
-pub turns_moved : (n : ℕ) (what : SeatChange) (seats : List SeatRecord) → AreNumbered seats
-    → with_turn (seat_with n (map (seat_changed_at n what) seats)) (without_turn (seat_with n seats) (turns_of seats)) ≡ turns_of
+pub waiters_moved : (n : ℕ) (what : SeatChange) (seats : List SeatRecord) → AreNumbered seats
+    → once_joined (seat_with n (map (seat_changed_at n what) seats)) (once_left (seat_with n seats) (waiters_of seats)) ≡ waiters_of
     (map (seat_changed_at n what) seats)
-turns_moved n what seats h = rw (turns_left n seats h, sym (others_left n (seat_changed what) (number_kept what) seats))
-    (sym (turns_parted n 0 (map (seat_changed_at n what) seats) (numbered_after n what seats h)))
+waiters_moved n what seats h = rw (waiters_left n seats h, sym (others_left n (seat_changed what) (number_kept what) seats))
+    (sym (waiters_parted n 0 (map (seat_changed_at n what) seats) (numbered_after n what seats h)))
 
--- The turns are ordered.
+-- The waiters are ordered.
 pub rising_placed : {A : Type 0} {before : A → A → Bool} (order : IsStrictWeakOrder before) (x : A) (ys : List A) → IsRising before ys
     → IsRising before (placed before x ys)
 rising_placed order x [] rising = (tt, tt)
 rising_placed {before = before} order x (y ∷ ys) rising =
     grind (arith, common_steps, cases_Bool, all_placed, all_weaker, rising_placed order x ys)
 
-rising_turns : (seats : List SeatRecord) → IsRising is_turn_before (turns_of seats)
-rising_turns [] = tt
-rising_turns (s ∷ seats) = grind (arith, rising_placed, turn_order, rising_turns seats)
+rising_waiters : (seats : List SeatRecord) → IsRising is_waiter_before (waiters_of seats)
+rising_waiters [] = tt
+rising_waiters (s ∷ seats) = grind (arith, rising_placed, waiter_order, rising_waiters seats)
 
 pub rising_left : (n : ℕ) (seats : List SeatRecord) → AreNumbered seats
-    → IsRising is_turn_before (without_turn (seat_with n seats) (turns_of seats))
-rising_left n seats h = rw (turns_left n seats h) (rising_turns (others n seats))
+    → IsRising is_waiter_before (once_left (seat_with n seats) (waiters_of seats))
+rising_left n seats h = rw (waiters_left n seats h) (rising_waiters (others n seats))
 
 -- if the last one comes before another, each does
 rising_ends : {A : Type 0} {before : A → A → Bool} (order : IsStrictWeakOrder before) (t : A) (xs : List A) (k : ℕ) (l : A)
@@ -94,13 +94,13 @@ rising_ends order t [] k l rising read ends e = absurd cc
 rising_ends {before = before} order t (x ∷ xs) k l rising read ends e =
     grind (arith, common_steps, all_read, rising_ends order t xs (k - 1) l)
 
-pub all_before : (t : ℕ × ℕ) (turns : List (ℕ × ℕ)) → IsRising is_turn_before turns
-    → is_none_or_before t (slice_get turns (length turns - 1)) ≡ true → prefix_len (λ u. is_turn_before u t) turns ≡ length turns
+pub all_before : (t : ℕ × ℕ) (waiters : List (ℕ × ℕ)) → IsRising is_waiter_before waiters
+    → is_none_or_before t (slice_get waiters (length waiters - 1)) ≡ true → prefix_len (λ u. is_waiter_before u t) waiters ≡ length waiters
 all_before t [] rising ends = refl
 all_before t (x ∷ xs) rising ends =
-    grind (arith, common_steps, rising_ends turn_order t (x ∷ xs) (length xs), some_at (x ∷ xs) (length xs))
+    grind (arith, common_steps, rising_ends waiter_order t (x ∷ xs) (length xs), some_at (x ∷ xs) (length xs))
 
--- the first turn of a seat is removed
+-- the first waiter of a seat is removed
 removed_there : (n : ℕ) (xs : List (ℕ × ℕ)) → prefix_len (λ t. not (t.1 == n)) xs < length xs
     → removed n xs ≡ remove xs (prefix_len (λ t. not (t.1 == n)) xs)
 removed_there n [] h = absurd (omega (arith, h))
@@ -120,31 +120,33 @@ removed_found n xs i found = grind (arith, removed_there)
 pub removed_missed : (n : ℕ) (xs : List (ℕ × ℕ)) → None ≡ position (λ t. t.1 == n) xs → removed n xs ≡ xs
 removed_missed n xs none = grind (arith, removed_nowhere)
 
--- there are as many turns as clients that wait
-pub turns_counted : (seats : List SeatRecord) → length (turns_of seats) ≡ count_by is_waiting seats
-turns_counted [] = refl
-turns_counted (s ∷ seats) = grind (arith, common_steps, placed_length, turns_counted seats)
+-- there are as many waiters as clients that wait
+pub count_of_waiters : (seats : List SeatRecord) → length (waiters_of seats) ≡ count_by is_waiting seats
+count_of_waiters [] = refl
+count_of_waiters (s ∷ seats) = grind (arith, common_steps, placed_length, count_of_waiters seats)
 
-pub waiters_in_turn : (turns : List (ℕ × ℕ)) (waiting : WaitingTurns) (seats : List SeatRecord) → turns ≡ waiting.turns
-    → AreInTurn waiting seats → length turns ≡ count_by is_waiting seats
-waiters_in_turn turns waiting seats same q = ap length (same ∙ q.turns) ∙ turns_counted seats
+pub waiters_in_turn : (waiters : List (ℕ × ℕ)) (waiting : WaitingList) (seats : List SeatRecord) → waiters ≡ waiting.waiters
+    → AreInTurn waiting seats → length waiters ≡ count_by is_waiting seats
+waiters_in_turn waiters waiting seats same q = ap length (same ∙ q.waiters) ∙ count_of_waiters seats
 
 -- and so at most as many as seats
-pub turns_within : (seats : List SeatRecord) → length (turns_of seats) ≤ length seats
-turns_within seats = omega (arith, turns_counted seats, count_by-le-length is_waiting seats)
+pub waiters_within : (seats : List SeatRecord) → length (waiters_of seats) ≤ length seats
+waiters_within seats = omega (arith, count_of_waiters seats, count_by-le-length is_waiting seats)
 
--- if no client begins or ends to wait, the turns stay
-turns_kept : (f : SeatRecord → SeatRecord) → ((s : SeatRecord) → with_turn (Some (f s)) ≡ with_turn (Some s)) → (seats : List SeatRecord)
-    → turns_of (map f seats) ≡ turns_of seats
-turns_kept f same [] = refl
-turns_kept f same (s ∷ seats) = λ i. same s i (turns_kept f same seats i)
+-- if no client begins or ends to wait, the waiters stay
+waiters_kept : (f : SeatRecord → SeatRecord) → ((s : SeatRecord) → once_joined (Some (f s)) ≡ once_joined (Some s))
+    → (seats : List SeatRecord)
+    → waiters_of (map f seats) ≡ waiters_of seats
+waiters_kept f same [] = refl
+waiters_kept f same (s ∷ seats) = λ i. same s i (waiters_kept f same seats i)
 
-pub in_turn_watching : (names : List (List ℕ)) (i : ℕ) (s : SeatRecord) (waiting : WaitingTurns) (seats : List SeatRecord)
+pub in_turn_watching : (names : List (List ℕ)) (i : ℕ) (s : SeatRecord) (waiting : WaitingList) (seats : List SeatRecord)
     → slice_get seats i ≡ Some s → AreNumbered seats → AreInTurn waiting seats → AreInTurn waiting (set seats i (watching names s))
-in_turn_watching names i s waiting seats found h q = grind (arith, changed_there seats i s (watching names) h found, turns_kept, length-map)
+in_turn_watching names i s waiting seats found h q =
+    grind (arith, changed_there seats i s (watching names) h found, waiters_kept, length-map)
 
 -- at the start
-pub none_in_turn : (ns : List ℕ) → turns_of (map empty_seat ns) ≡ []
+pub none_in_turn : (ns : List ℕ) → waiters_of (map empty_seat ns) ≡ []
 none_in_turn [] = refl
 none_in_turn (n ∷ ns) = none_in_turn ns
 

@@ -1,4 +1,4 @@
--- A walk over the waiting clients, in order of their turns, has the same result as one over all
+-- A walk over the waiting clients, in order of their tickets, has the same result as one over all
 -- seats.
 use Rattle.std.proofs.Common.{Bool, List, None, Option, Some, [], ap, arith, false, if◌then◌else◌, length, map, refl, slice_get, suc}
 use Rattle.std.proofs.{Common.{true, ℕ, ◌<◌, ◌==◌, ◌∷◌, ◌≡◌}, lemmas.{Bool.{cases_Bool, ne_eqb}, Grind.common_steps}}
@@ -8,22 +8,22 @@ use Rattle.bq_job.proofs.{ChoiceLemmas.{first_of_contains, first_of_is_some, pai
 use Rattle.bq_job.{proofs.ListLemmas.{all_from_members, all_weaker, found_passes}, specs.machine.{SeatRecord, better_of, first_of}}
 use Rattle.bq_job.specs.machine.{is_wait_before, is_waiting, numbers, ticket_of}
 use Rattle.bq_state.proofs.{ClientLemmas.heads, PartsLemmas.seat_read, WaitingLemmas.{all_placed, rising_placed}}
-use Rattle.bq_state.specs.{EndingWaits.{turn_of, waits_after}, Places.item_at, SeatChanges.AreNumbered, SeatStates.seat_passes}
-use Rattle.bq_state.specs.WaitingTurns.{IsRising, at_turn, is_turn_after, is_turn_before, passes_at, placed, turns_of}
+use Rattle.bq_state.specs.{EndingWaits.{waiter_of, waits_after}, Places.item_at, SeatChanges.AreNumbered, SeatStates.seat_passes}
+use Rattle.bq_state.specs.WaitingList.{IsRising, at_waiter, is_waiter_after, is_waiter_before, passes_at, placed, waiters_of}
 
--- the clients that wait, in the order of their turns
+-- the clients that wait, in the order of their tickets
 abbrev pub in_turn : List SeatRecord → List SeatRecord
 in_turn [] = []
 in_turn (s ∷ seats) = if is_waiting s then placed is_wait_before s (in_turn seats) else in_turn seats
 
 map_placed : (s : SeatRecord) (ss : List SeatRecord)
-    → map turn_of (placed is_wait_before s ss) ≡ placed is_turn_before (turn_of s) (map turn_of ss)
+    → map waiter_of (placed is_wait_before s ss) ≡ placed is_waiter_before (waiter_of s) (map waiter_of ss)
 map_placed s [] = refl
 map_placed s (u ∷ us) = grind (arith, map_placed s us)
 
-turns_in : (seats : List SeatRecord) → turns_of seats ≡ map turn_of (in_turn seats)
-turns_in [] = refl
-turns_in (s ∷ seats) = grind (arith, map_placed, turns_in seats)
+waiters_in : (seats : List SeatRecord) → waiters_of seats ≡ map waiter_of (in_turn seats)
+waiters_in [] = refl
+waiters_in (s ∷ seats) = grind (arith, map_placed, waiters_in seats)
 
 -- a property of the clients that wait
 all_in_turn : (P : SeatRecord → Type 0) (seats : List SeatRecord) → All (λ s. is_waiting s ≡ true → P s) seats → All P (in_turn seats)
@@ -41,7 +41,7 @@ fold_placed f before x [] all b = refl
 fold_placed {A = A} {B = B} f before x (y ∷ ys) all b = grind (arith, common_steps, fold_placed f before x ys)
 
 fold_there : {B : Type 0} (f : B → SeatRecord → B) (seats ss : List SeatRecord) → All (λ s. slice_get seats s.number ≡ Some s) ss → (b : B)
-    → fold (at_turn f seats) b (map turn_of ss) ≡ fold f b ss
+    → fold (at_waiter f seats) b (map waiter_of ss) ≡ fold f b ss
 fold_there f seats [] all b = refl
 fold_there f seats (s ∷ ss) all b = grind (arith, fold_there f seats ss all.1 (f b s))
 
@@ -56,16 +56,16 @@ module _ {B : Type 0} (f : B → SeatRecord → B) (skips : (s : SeatRecord) →
       (λ t above _. swaps s t (ne_eqb s.number t.number (λ same. absurd (omega arith)))) (numbers_above _ _ _ parts.1)) in
       grind (arith, common_steps, cases_Bool, skips, fold_placed, fold_in_turn (suc low) seats parts.1)
 
-  -- a walk over the turns gives the same result as a fold over all seats
-  pub walked : (seats : List SeatRecord) → AreNumbered seats → (b : B) → fold (at_turn f seats) b (turns_of seats) ≡ fold f b seats
-  walked seats h b = search (all_in_turn, all_weaker, read_each, turns_in, fold_there, fold_in_turn)
+  -- a walk over the waiters gives the same result as a fold over all seats
+  pub walked : (seats : List SeatRecord) → AreNumbered seats → (b : B) → fold (at_waiter f seats) b (waiters_of seats) ≡ fold f b seats
+  walked seats h b = search (all_in_turn, all_weaker, read_each, waiters_in, fold_there, fold_in_turn)
 
 -- seats with different numbers never compare equal
 better_swaps : (p : SeatRecord → Bool) (s t : SeatRecord) → (s.number == t.number) ≡ false → (b : Option SeatRecord)
     → better_of p is_wait_before (better_of p is_wait_before b s) t ≡ better_of p is_wait_before (better_of p is_wait_before b t) s
 better_swaps p s t other b = grind (arith, common_steps)
 
--- The clients that wait are in the order of their turns.
+-- The clients that wait are in the order of their tickets.
 rising_in_turn : (seats : List SeatRecord) → IsRising is_wait_before (in_turn seats)
 rising_in_turn [] = tt
 rising_in_turn (s ∷ seats) =
@@ -80,19 +80,19 @@ first_rising : {A : Type 0} (p : A → Bool) (before : A → A → Bool) (xs : L
 first_rising p before [] rising = refl
 first_rising p before (x ∷ xs) rising = grind (arith, fold_stays p before x xs rising.0, first_rising p before xs rising.1)
 
-find_mapped : (q : ℕ × ℕ → Bool) (p : SeatRecord → Bool) (ss : List SeatRecord) → All (λ s. q (turn_of s) ≡ p s) ss
-    → find q (map turn_of ss) ≡ option_map turn_of (find p ss)
+find_mapped : (q : ℕ × ℕ → Bool) (p : SeatRecord → Bool) (ss : List SeatRecord) → All (λ s. q (waiter_of s) ≡ p s) ss
+    → find q (map waiter_of ss) ≡ option_map waiter_of (find p ss)
 find_mapped q p [] all = refl
 find_mapped q p (s ∷ ss) all = grind (arith, find_mapped q p ss all.1)
 
--- The first turn that passes is that of the first client that does.
-pub first_turn : (q : ℕ × ℕ → Bool) (p : SeatRecord → Bool) (seats : List SeatRecord) → AreNumbered seats
+-- The first waiter that passes is that of the first client that does.
+pub first_waiter : (q : ℕ × ℕ → Bool) (p : SeatRecord → Bool) (seats : List SeatRecord) → AreNumbered seats
     → ((s : SeatRecord) → is_waiting s ≡ false → p s ≡ false)
-    → ((s : SeatRecord) → is_waiting s ≡ true → slice_get seats s.number ≡ Some s → q (turn_of s) ≡ p s)
-    → find q (turns_of seats) ≡ option_map turn_of (first_of p is_wait_before seats)
-first_turn q p seats h waits agrees =
+    → ((s : SeatRecord) → is_waiting s ≡ true → slice_get seats s.number ≡ Some s → q (waiter_of s) ≡ p s)
+    → find q (waiters_of seats) ≡ option_map waiter_of (first_of p is_wait_before seats)
+first_waiter q p seats h waits agrees =
     let there = all_in_turn _ _ (all_weaker _ _ _ (λ s read waiting. agrees s waiting read) (read_each _ h)) in
-    grind (arith, common_steps, turns_in, find_mapped, first_rising, rising_in_turn, fold_in_turn, better_swaps)
+    grind (arith, common_steps, waiters_in, find_mapped, first_rising, rising_in_turn, fold_in_turn, better_swaps)
 
 pub item_found : {A : Type 0} (q : A → Bool) (xs : List A) → item_at xs (position q xs) ≡ find q xs
 item_found q xs = grind (arith, find_at, slice_get_past)
@@ -101,28 +101,29 @@ any_found : {A : Type 0} (q : A → Bool) (xs : List A) → list_any q xs ≡ is
 any_found q [] = refl
 any_found q (x ∷ xs) = grind (arith, any_found q xs)
 
-pub none_first : (o : Option SeatRecord) → None ≡ option_map turn_of o → None ≡ o
+pub none_first : (o : Option SeatRecord) → None ≡ option_map waiter_of o → None ≡ o
 none_first o h = grind (arith, common_steps)
 
 module _ (p : SeatRecord → Bool) (seats : List SeatRecord) (h : AreNumbered seats) where
-  -- The first client that passes has the first turn that does.
+  -- The first client that passes is the first waiter that does.
   pub found_first : ((s : SeatRecord) → is_waiting s ≡ false → p s ≡ false)
-      → find (passes_at p seats) (turns_of seats) ≡ option_map turn_of (first_of p is_wait_before seats)
-  found_first waits = first_turn _ p seats h waits (λ s _ read. ap (seat_passes p) read)
+      → find (passes_at p seats) (waiters_of seats) ≡ option_map waiter_of (first_of p is_wait_before seats)
+  found_first waits = first_waiter _ p seats h waits (λ s _ read. ap (seat_passes p) read)
 
-  -- One of the turns passes if and only if a client does.
-  pub any_turn : ((s : SeatRecord) → is_waiting s ≡ false → p s ≡ false) → list_any (passes_at p seats) (turns_of seats) ≡ list_any p seats
-  any_turn waits = grind (arith, common_steps, any_found, found_first waits, first_of_is_some p is_wait_before seats)
+  -- One of the waiters passes if and only if a client does.
+  pub any_waiter : ((s : SeatRecord) → is_waiting s ≡ false → p s ≡ false)
+      → list_any (passes_at p seats) (waiters_of seats) ≡ list_any p seats
+  any_waiter waits = grind (arith, common_steps, any_found, found_first waits, first_of_is_some p is_wait_before seats)
 
   -- The client that was found is at the index of its number.
-  pub first_read : (t : ℕ × ℕ) → Some t ≡ option_map turn_of (first_of p is_wait_before seats)
+  pub first_read : (t : ℕ × ℕ) → Some t ≡ option_map waiter_of (first_of p is_wait_before seats)
       → (slice_get seats t.1 ≡ first_of p is_wait_before seats) × (t.1 < length seats)
   first_read t is = elim (first_of p is_wait_before seats) as (λ o. first_of p is_wait_before seats ≡ o
-      → Some t ≡ option_map turn_of o → (slice_get seats t.1 ≡ o) × (t.1 < length seats)) [
+      → Some t ≡ option_map waiter_of o → (slice_get seats t.1 ≡ o) × (t.1 < length seats)) [
         | None ↦ λ e i. absurd cc
         | Some s ↦ λ e i. grind (arith, common_steps, read_each seats h, first_of_contains p is_wait_before seats s e, slice_get_within)
       ] refl is
 
-pub next_turn : (last : Option (ℕ × ℕ)) (seats : List SeatRecord) → AreNumbered seats
-    → find (is_turn_after last) (turns_of seats) ≡ option_map turn_of (first_of (waits_after last) is_wait_before seats)
-next_turn last seats h = first_turn _ _ _ h (λ s e. rw e refl) (λ s waits _. rw waits (grind (arith, common_steps)))
+pub next_waiter : (last : Option (ℕ × ℕ)) (seats : List SeatRecord) → AreNumbered seats
+    → find (is_waiter_after last) (waiters_of seats) ≡ option_map waiter_of (first_of (waits_after last) is_wait_before seats)
+next_waiter last seats h = first_waiter _ _ _ h (λ s e. rw e refl) (λ s waits _. rw waits (grind (arith, common_steps)))

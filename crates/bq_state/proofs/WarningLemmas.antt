@@ -5,7 +5,7 @@ use Rattle.std.specs.{List.{AllByRecursion as All, Contains, list_any}, Prelude.
 use Rattle.bq_job.proofs.{ChoiceLemmas.first_of_is_some, KeptLemmas.only_seat, ListLemmas.{all_at, all_both, all_from_members, all_of_map}}
 use Rattle.bq_job.{proofs.ListLemmas.{all_weaker, list_any_not, none_pass}, specs.{declared.job.Job.Job, machine.{SeatRecord, is_held_by}}}
 use Rattle.bq_job.specs.machine.{is_waiting, seat_with, watching}
-use Rattle.bq_jobs.specs.{Kept.with_added, Leases.is_lease_before}
+use Rattle.bq_jobs.specs.{JobsSeen.with_added, Leases.is_lease_before}
 use Rattle.bq_state.{proofs.PartsLemmas.{all_added, all_read, all_set}, specs.Dues.{earlier_of_both, warning_due, warning_due_at}}
 use Rattle.bq_state.specs.{Dues.with_warning_due, SeatChanges.{AreNumbered, seat_changed_at}, Warnings.{AreWarned, has_waiting_holder}}
 use Rattle.bq_state.specs.Warnings.{holds_in_wait, is_waiting_there, may_hold, may_warn, warned_by_seat, warned_if_due, with_holder}

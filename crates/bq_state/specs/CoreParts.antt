@@ -2,17 +2,17 @@
 use Rattle.std.specs.{Global.Global, Prelude.{Bool, List, Some, Vec, count_by, map, ℕ, ◌≡◌}}
 use Rattle.bq_job.specs.{declared.{job.Job.Job, settings.Settings.Settings}, machine.{SeatRecord, seat_with, tube_after_timers, watching}}
 use Rattle.bq_job.specs.machine.{Machine.Machine, with_seat}
-use Rattle.bq_jobs.specs.Kept.{Kept}
-use Rattle.bq_state.specs.{KeptTubes.KeptTubes, TubeEntries.counted, WaitingTurns.WaitingTurns, declared.core_parts.CoreParts.CoreParts}
+use Rattle.bq_jobs.specs.JobsSeen.{JobsSeen}
+use Rattle.bq_state.specs.{TubeEntries.counted, TubesSeen.TubesSeen, WaitingList.WaitingList, declared.core_parts.CoreParts.CoreParts}
 use Rattle.bq_state.specs.declared.known.Known.{Known}
 
 -- the fields of a state, without its invariants
-pub record Held : Type 0 where
+pub record Fields : Type 0 where
   pub config : Settings
-  pub jobs : Kept
+  pub jobs : JobsSeen
   pub seats : Vec SeatRecord Global
-  pub waiting : WaitingTurns
-  pub tubes : KeptTubes
+  pub waiting : WaitingList
+  pub tubes : TubesSeen
   pub known : Known
   pub moment : ℕ
   pub next_id : ℕ
@@ -23,8 +23,8 @@ pub record Held : Type 0 where
   pub puts : ℕ
   pub connections : ℕ
 
-abbrev pub held : CoreParts → Held
-held s = record {
+abbrev pub fields : CoreParts → Fields
+fields s = record {
   config = s.config;
   jobs = s.jobs;
   seats = s.seats;
@@ -41,8 +41,8 @@ held s = record {
   connections = s.connections;
 }
 
-abbrev pub machine_held : Held → Machine
-machine_held h = record {
+abbrev pub machine_of_fields : Fields → Machine
+machine_of_fields h = record {
   settings = h.config;
   jobs = h.jobs.jobs;
   seats = h.seats.items;
@@ -58,7 +58,7 @@ machine_held h = record {
 }
 
 abbrev pub machine_of : CoreParts → Machine
-machine_of s = machine_held (held s)
+machine_of s = machine_of_fields (fields s)
 
 -- the model after the pauses that are over have ended
 abbrev pub with_pauses_ended : Machine → Machine
@@ -66,7 +66,7 @@ with_pauses_ended m = record m { tubes = map (tube_after_timers m.moment) m.tube
 
 -- The state is the same except for the comparison count.
 abbrev pub OnlyCompares : CoreParts → CoreParts → Type 0
-OnlyCompares old new = held new ≡ record (held old) { jobs = record old.jobs { comparisons = new.jobs.comparisons } }
+OnlyCompares old new = fields new ≡ record (fields old) { jobs = record old.jobs { comparisons = new.jobs.comparisons } }
 
 -- how many of its jobs pass
 abbrev pub count_jobs : (Job → Bool) → CoreParts → ℕ

@@ -5,7 +5,7 @@ use Rattle.bq_job.specs.{beside.none_twice, machine.{SeatRecord, TubeRecord, is_
 use Rattle.bq_job.specs.reading.TubeName.{is_same_name}
 use Rattle.bq_state.specs.{SeatStates.is_connected, Tallies.{count_with, count_without}, TubeEntries.has_entry}
 use Rattle.bq_state.specs.declared.seats.SeatChange.{SeatChange, TheVariants.{Clear, Connect, End, StopWaiting, Use, Wait}}
-use Rattle.bq_state.specs.declared.tubes.entry.{Crowd.Crowd, Moving.{Moving, TheVariants.{Comes, Goes}}, Share.Share}
+use Rattle.bq_state.specs.declared.tubes.entry.{AddOrRemove.{AddOrRemove, TheVariants.{Add, Remove}}, Crowd.Crowd, Roles.Roles}
 
 -- a connected client uses the tube, watches it, or waits for its jobs
 abbrev pub is_user : List ℕ → SeatRecord → Bool
@@ -32,29 +32,29 @@ crowd_in seats t = crowd_of seats t.name
 abbrev pub crowds_of : List SeatRecord → List TubeRecord → List Crowd
 crowds_of seats entries = map (crowd_in seats) entries
 
-abbrev pub is_none : Share → Bool
-is_none share = not share.using && (not share.watching && not share.waiting)
+abbrev pub is_none : Roles → Bool
+is_none roles = not roles.using && (not roles.watching && not roles.waiting)
 
--- the counts with a share added
-abbrev pub crowd_with : Share → Crowd → Crowd
-crowd_with share c = record {
-  using = count_with share.using c.using;
-  watching = count_with share.watching c.watching;
-  waiting = count_with share.waiting c.waiting;
+-- the counts with a client of these roles
+abbrev pub crowd_with : Roles → Crowd → Crowd
+crowd_with roles c = record {
+  using = count_with roles.using c.using;
+  watching = count_with roles.watching c.watching;
+  waiting = count_with roles.waiting c.waiting;
 }
 
--- the counts with a share removed
-abbrev pub crowd_without : Share → Crowd → Crowd
-crowd_without share c = record {
-  using = count_without share.using c.using;
-  watching = count_without share.watching c.watching;
-  waiting = count_without share.waiting c.waiting;
+-- the counts without a client of these roles
+abbrev pub crowd_without : Roles → Crowd → Crowd
+crowd_without roles c = record {
+  using = count_without roles.using c.using;
+  watching = count_without roles.watching c.watching;
+  waiting = count_without roles.waiting c.waiting;
 }
 
--- the counts after a share was added or removed
-abbrev pub recounted : Moving → Share → Crowd → Crowd
-recounted Comes share c = crowd_with share c
-recounted Goes share c = crowd_without share c
+-- the counts after a client was counted, or no longer counted
+abbrev pub recounted : AddOrRemove → Roles → Crowd → Crowd
+recounted Add roles c = crowd_with roles c
+recounted Remove roles c = crowd_without roles c
 
 -- a client uses or watches the tube
 abbrev pub has_seats : Crowd → Bool
@@ -64,8 +64,8 @@ has_seats c = nat_lt 0 c.using || nat_lt 0 c.watching
 abbrev pub no_crowd : Crowd
 no_crowd = record { using = 0; watching = 0; waiting = 0 }
 
--- which counts a change of a seat can affect
-abbrev pub touched : SeatChange → Share
+-- the roles that a change of a seat can affect
+abbrev pub touched : SeatChange → Roles
 touched StopWaiting = record { using = false; watching = false; waiting = true }
 touched (Wait ticket until) = record { using = false; watching = false; waiting = true }
 touched Connect = record { using = true; watching = true; waiting = true }
@@ -78,19 +78,19 @@ abbrev pub may_wait : SeatChange → Option SeatRecord → Bool
 may_wait (Wait ticket until) o = is_connected o
 may_wait _ o = true
 
--- the shares of a seat at the tube that it uses, and at those that it watches, restricted to `what`
-abbrev pub share_as_user : Share → SeatRecord → Share
-share_as_user what s = record { using = what.using && s.connected; watching = false; waiting = false }
+-- the roles of a client at the tube that it uses, and at those that it watches, restricted to `what`
+abbrev pub roles_as_user : Roles → SeatRecord → Roles
+roles_as_user what s = record { using = what.using && s.connected; watching = false; waiting = false }
 
-abbrev pub share_as_watcher : Share → SeatRecord → Share
-share_as_watcher what s = record { using = false; watching = what.watching && s.connected; waiting = what.waiting && is_waiting s }
+abbrev pub roles_as_watcher : Roles → SeatRecord → Roles
+roles_as_watcher what s = record { using = false; watching = what.watching && s.connected; waiting = what.waiting && is_waiting s }
 
--- the share of a seat at one more tube that it watches, and at a tube that it may watch
-abbrev pub share_of_watcher : SeatRecord → Share
-share_of_watcher s = record { using = false; watching = s.connected; waiting = is_waiting s }
+-- the roles of a client at one more tube that it watches, and at a tube that it may watch
+abbrev pub roles_of_watcher : SeatRecord → Roles
+roles_of_watcher s = record { using = false; watching = s.connected; waiting = is_waiting s }
 
-abbrev pub share_of_watching : List ℕ → SeatRecord → Share
-share_of_watching name s = record { using = false; watching = is_watcher name s; waiting = is_waiter name s }
+abbrev pub roles_of_watching : List ℕ → SeatRecord → Roles
+roles_of_watching name s = record { using = false; watching = is_watcher name s; waiting = is_waiter name s }
 
 -- the list of counts, parallel to the entries, with f applied at the first entry of this name
 abbrev pub crowds_at : List ℕ → (Crowd → Crowd) → List TubeRecord → List Crowd → List Crowd
@@ -103,16 +103,16 @@ crowds_at name f (t ∷ entries) (crowd ∷ crowds) =
 abbrev pub crowds_at_all : List (List ℕ) → (Crowd → Crowd) → List TubeRecord → List Crowd → List Crowd
 crowds_at_all names f entries crowds = fold (λ some name. crowds_at name f entries some) crowds names
 
--- the counts after the shares of a seat were added or removed
-abbrev pub crowds_recounted : Moving → Share → SeatRecord → List TubeRecord → List Crowd → List Crowd
-crowds_recounted moving what s entries crowds =
-    let as_user = crowds_at s.used (recounted moving (share_as_user what s)) entries crowds in
-    crowds_at_all s.watched (recounted moving (share_as_watcher what s)) entries as_user
+-- the counts after a client was counted at its tubes, or no longer counted
+abbrev pub crowds_recounted : AddOrRemove → Roles → SeatRecord → List TubeRecord → List Crowd → List Crowd
+crowds_recounted how what s entries crowds =
+    let as_user = crowds_at s.used (recounted how (roles_as_user what s)) entries crowds in
+    crowds_at_all s.watched (recounted how (roles_as_watcher what s)) entries as_user
 
 -- the same, if there is a seat
-abbrev pub crowds_recounted_for : Moving → Share → Option SeatRecord → List TubeRecord → List Crowd → List Crowd
-crowds_recounted_for moving what None entries crowds = crowds
-crowds_recounted_for moving what (Some s) entries crowds = crowds_recounted moving what s entries crowds
+abbrev pub crowds_recounted_for : AddOrRemove → Roles → Option SeatRecord → List TubeRecord → List Crowd → List Crowd
+crowds_recounted_for how what None entries crowds = crowds
+crowds_recounted_for how what (Some s) entries crowds = crowds_recounted how what s entries crowds
 
 -- the counts at the first entry of this name, if there is one
 abbrev pub crowd_at : List ℕ → List TubeRecord → List Crowd → Crowd

@@ -25,11 +25,11 @@ abbrev pub may_end : Machine → Bool
 may_end m =
     list_any is_waiting m.seats && (list_any (has_waited m.moment) m.seats || list_any (is_lease_short m.moment) m.jobs)
 
--- the client's turn among the waiting clients: by its ticket, then by its seat
-abbrev pub turn_of : SeatRecord → ℕ × ℕ
-turn_of s = (ticket_of s.wait, s.number)
+-- the client as a waiter: its ticket, and then its seat
+abbrev pub waiter_of : SeatRecord → ℕ × ℕ
+waiter_of s = (ticket_of s.wait, s.number)
 
--- the client's turn comes after this one, if there is one
+-- the client comes after this waiter, if there is one
 abbrev pub is_after : Option (ℕ × ℕ) → SeatRecord → Bool
 is_after None s = true
 is_after (Some last) s = is_pair_before last.0 last.1 (ticket_of s.wait) s.number
@@ -37,13 +37,13 @@ is_after (Some last) s = is_pair_before last.0 last.1 (ticket_of s.wait) s.numbe
 abbrev pub waits_after : Option (ℕ × ℕ) → SeatRecord → Bool
 waits_after last s = is_waiting s && is_after last s
 
--- how many clients wait whose turn comes after this one
+-- how many clients wait that come after this waiter
 abbrev pub left_after : Option (ℕ × ℕ) → Machine → ℕ
 left_after last m = count_by (waits_after last) m.seats
 
--- All waiting clients up to this turn were checked: a client whose wait ends now comes after it.
-abbrev pub AreLookedAt : Machine → Option (ℕ × ℕ) → Type 0
-AreLookedAt m last = AllByRecursion (λ s. ends_waiting m s ≡ true → is_after last s ≡ true) m.seats
+-- All waiting clients up to this one were checked: a client whose wait ends now comes after it.
+abbrev pub AreChecked : Machine → Option (ℕ × ℕ) → Type 0
+AreChecked m last = AllByRecursion (λ s. ends_waiting m s ≡ true → is_after last s ≡ true) m.seats
 
 -- the answer to a waiting client if its wait ends now
 abbrev pub told_at_end : Machine → SeatRecord → Option Answer

@@ -1,9 +1,9 @@
 -- A job that is handed out.
 use Rattle.std.specs.Prelude.{Err, List, None, Ok, Option, Result, Some, false, is_some, true, ℕ, ◌≡◌}
 use Rattle.bq_job.specs.machine.{Changes.{job_with, with_job}, Dispatch.reserved_by, SeatRecord}
-use Rattle.bq_jobs.specs.{Numbering.HasNumber, Searching.Asks, Seen.IsBodyOf, declared.job_orders.Moved.Moved}
-use Rattle.bq_state.specs.{Counting.with_tallies_at, CoreParts.machine_of, Keeping.Looks, KeptTubes.KeptTubes}
-use Rattle.bq_state.specs.{Knowledge.{is_wanted_by, with_moved}, Tallies.tally_moved, WaitingTurns.WaitingTurns}
+use Rattle.bq_jobs.specs.{Numbering.HasNumber, Searching.Asks, Seen.IsBodyOf, declared.job_orders.JobMove.JobMove}
+use Rattle.bq_state.specs.{Counting.with_tallies_at, CoreParts.machine_of, Keeping.OnlySearches, TubesSeen.TubesSeen}
+use Rattle.bq_state.specs.{Knowledge.{is_wanted_by, with_moved}, Tallies.tally_moved, WaitingList.WaitingList}
 use Rattle.bq_state.specs.Warnings.{has_waiting_holder}
 use Rattle.bq_state.specs.declared.{core_parts.CoreParts.CoreParts, known.Known.Known}
 
@@ -16,30 +16,30 @@ pub record GoesTo (seat id : ℕ) (body : List ℕ) (old new : CoreParts) : Type
 -- The job with this id goes to the client at the seat, with this reference to its body. If there is
 -- no such job, or the reference was refused, nothing was changed.
 abbrev pub HandsOutTo : {E : Type 0} → ℕ → ℕ → Option (Result (List ℕ) E) → CoreParts → CoreParts → Type 0
-HandsOutTo seat id None old new = (false ≡ is_some (job_with id (machine_of old).jobs)) × Looks 1 old new
-HandsOutTo seat id (Some (Err e)) old new = (true ≡ is_some (job_with id (machine_of old).jobs)) × Looks 1 old new
+HandsOutTo seat id None old new = (false ≡ is_some (job_with id (machine_of old).jobs)) × OnlySearches 1 old new
+HandsOutTo seat id (Some (Err e)) old new = (true ≡ is_some (job_with id (machine_of old).jobs)) × OnlySearches 1 old new
 HandsOutTo seat id (Some (Ok body)) old new = GoesTo seat id body old new
 
 -- A changed job is counted in its tube, and what is known is updated.
-abbrev pub CountsMove : Moved → WaitingTurns → List SeatRecord → Known → Known → KeptTubes → KeptTubes → Type 0
+abbrev pub CountsMove : JobMove → WaitingList → List SeatRecord → Known → Known → TubesSeen → TubesSeen → Type 0
 CountsMove m waiting seats known later tubes counted =
     (later ≡ with_moved m (is_wanted_by waiting tubes m) (has_waiting_holder m.to.state seats) known)
     × (counted ≡ with_tallies_at m.tube (tally_moved m) tubes)
 
 -- what a change returned that may have been refused: the number of the tube, the report, and the body
 module _ {E : Type 0} where
-  abbrev pub body_in : Option (Result ((List ℕ × Moved) × List ℕ) E) → Option (Result (List ℕ) E)
+  abbrev pub body_in : Option (Result ((List ℕ × JobMove) × List ℕ) E) → Option (Result (List ℕ) E)
   body_in None = None
   body_in (Some (Err e)) = Some (Err e)
   body_in (Some (Ok s)) = Some (Ok s.1)
 
-  abbrev pub HasNumberIf : Option (Result ((List ℕ × Moved) × List ℕ) E) → List (List ℕ × ℕ) → Type 0
+  abbrev pub HasNumberIf : Option (Result ((List ℕ × JobMove) × List ℕ) E) → List (List ℕ × ℕ) → Type 0
   HasNumberIf None numbers = Unit {0}
   HasNumberIf (Some (Err e)) numbers = Unit {0}
   HasNumberIf (Some (Ok s)) numbers = HasNumber s.0.1.tube s.0.0 numbers
 
-  abbrev pub CountsIf : Option (Result ((List ℕ × Moved) × List ℕ) E) → WaitingTurns → List SeatRecord → Known → Known → KeptTubes
-      → KeptTubes → Type 0
+  abbrev pub CountsIf : Option (Result ((List ℕ × JobMove) × List ℕ) E) → WaitingList → List SeatRecord → Known → Known → TubesSeen
+      → TubesSeen → Type 0
   CountsIf None waiting seats known later tubes counted = (later ≡ known) × (counted ≡ tubes)
   CountsIf (Some (Err e)) waiting seats known later tubes counted = (later ≡ known) × (counted ≡ tubes)
   CountsIf (Some (Ok s)) waiting seats known later tubes counted = CountsMove s.0.1 waiting seats known later tubes counted

@@ -1,21 +1,21 @@
 -- What is known without a search: that it is true, and how it changes.
 use Rattle.std.specs.Prelude.{Bool, List, None, Option, [], count_by, if◌then◌else◌, length, nat_lt, not, ℕ, ◌&&◌, ◌≡◌}
 use Rattle.bq_job.specs.{declared.job.Job.Job, machine.{SeatRecord, TubeRecord, is_ready_state}}
-use Rattle.bq_jobs.specs.declared.job_orders.{Moved.Moved, Removed.Removed}
+use Rattle.bq_jobs.specs.declared.job_orders.{JobMove.JobMove, JobRemoval.JobRemoval}
 use Rattle.bq_state.specs.{Crowds.AreCrowds, SeatStates.seat_passes}
-use Rattle.bq_state.specs.{FirstTimeouts.{AreTimeouts, timeout_after}, KeptTubes.KeptTubes, Leaving.gone_of}
+use Rattle.bq_state.specs.{FirstTimeouts.{AreTimeouts, timeout_after}, Leaving.gone_of, TubesSeen.TubesSeen}
 use Rattle.bq_state.specs.{MaybeGoneTubes.{AreAlive, with_existing, with_gone}, Offers.is_waited_at, TubeEntries.counted}
 use Rattle.bq_state.specs.Tallies.{AreCounted, count_with, count_without, tally_left, tally_moved, tally_of, tally_with}
-use Rattle.bq_state.specs.{WaitingTurns.WaitingTurns, WantedJobs.{AreKnown, wanted_after_seat}}
+use Rattle.bq_state.specs.{WaitingList.WaitingList, WantedJobs.{AreKnown, wanted_after_seat}}
 use Rattle.bq_state.specs.{WantedJobs.{wanted_after_tube, with_wanted}, Warnings.{AreWarned, warned_by_seat, with_holder_of}}
-use Rattle.bq_state.specs.declared.{known.Known.Known, seats.SeatChange.SeatChange, tubes.entry.{Share.Share, TubeChange.TubeChange}}
+use Rattle.bq_state.specs.declared.{known.Known.Known, seats.SeatChange.SeatChange, tubes.entry.{Roles.Roles, TubeChange.TubeChange}}
 use Rattle.bq_state.specs.declared.known.first_timeout.FirstTimeout.TheVariants as ends
 use Rattle.bq_state.specs.declared.known.maybe_gone.MaybeGone.TheVariants as gone_tubes
 use Rattle.bq_state.specs.declared.known.wanted.Wanted.TheVariants as wanted_jobs
 use Rattle.bq_state.specs.declared.known.warns.Warns.TheVariants as holders
 
 -- What is known is true of these jobs, seats and tubes, and the tubes' counts are correct.
-pub record IsSo (k : Known) (jobs : List Job) (seats : List SeatRecord) (tubes : KeptTubes) : Type 0 where
+pub record IsSo (k : Known) (jobs : List Job) (seats : List SeatRecord) (tubes : TubesSeen) : Type 0 where
   pub counts : AreCounted k.tally tubes.tallies jobs tubes.entries
   -- how many clients are connected
   pub connected : k.connected ≡ count_by (λ s. s.connected) seats
@@ -50,18 +50,18 @@ with_job j is_wanted waits k = record k {
 }
 
 -- with one job fewer, from the report about it; whether a client uses or watches its tube is given
-abbrev pub with_removal : Removed → Bool → Known → Known
+abbrev pub with_removal : JobRemoval → Bool → Known → Known
 with_removal r has_seats k = record k {
   tally = tally_left r.at k.tally;
   maybe_gone = if not has_seats then with_gone r.tube k.maybe_gone else k.maybe_gone;
 }
 
 -- whether a changed job is ready and a client waits for jobs of its tube
-abbrev pub is_wanted_by : WaitingTurns → KeptTubes → Moved → Bool
-is_wanted_by waiting tubes m = is_ready_state m.to.state && (nat_lt 0 (length waiting.turns) && is_waited_at m.tube tubes)
+abbrev pub is_wanted_by : WaitingList → TubesSeen → JobMove → Bool
+is_wanted_by waiting tubes m = is_ready_state m.to.state && (nat_lt 0 (length waiting.waiters) && is_waited_at m.tube tubes)
 
 -- and with a job changed
-abbrev pub with_moved : Moved → Bool → Bool → Known → Known
+abbrev pub with_moved : JobMove → Bool → Bool → Known → Known
 with_moved m is_wanted waits k = record k {
   tally = tally_moved m k.tally;
   wanted = if is_wanted then with_wanted m.tube k.wanted else k.wanted;
@@ -69,7 +69,7 @@ with_moved m is_wanted waits k = record k {
 }
 
 -- when a seat, if there is one, is about to change
-abbrev pub with_left : Option SeatRecord → SeatChange → Share → KeptTubes → Known → Known
+abbrev pub with_left : Option SeatRecord → SeatChange → Roles → TubesSeen → Known → Known
 with_left o what touched tubes k = record k {
   connected = count_without (seat_passes (λ s. s.connected) o) k.connected;
   first_timeout = timeout_after what o k.first_timeout;

@@ -9,7 +9,6 @@ pub mod FirstTimeouts
 pub mod HandOuts
 pub mod JobChanges
 pub mod Keeping
-pub mod KeptTubes
 pub mod Knowledge
 pub mod Leaving
 pub mod MaybeGoneTubes
@@ -20,13 +19,14 @@ pub mod Places
 pub mod Room
 pub mod SeatChanges
 pub mod SeatStates
-pub mod SeatTurns
 pub mod SeatView
+pub mod SeatWaiters
 pub mod Soundness
 pub mod Tallies
 pub mod TubeEntries
 pub mod TubeNumbers
 pub mod TubeView
-pub mod WaitingTurns
+pub mod TubesSeen
+pub mod WaitingList
 pub mod WantedJobs
 pub mod Warnings

@@ -6,7 +6,7 @@ use Rattle.std.specs.{Prelude.{length, map, nat_le, ℕ, ◌&&◌, ◌+◌, ◌=
 use Rattle.bq_index.specs.Catalog.{CatalogSeen}
 use Rattle.bq_job.specs.{machine.{Pause, TubeRecord}, reading.TubeName.is_same_name}
 use Rattle.bq_jobs.specs.{Names.{name_cmp, name_total}, Table.Tabled}
-use Rattle.bq_state.specs.{KeptTubes.{KeptTube, Named, is_named_at, record_at}, declared.tubes.pauses.PauseEnd.PauseEnd}
+use Rattle.bq_state.specs.{TubesSeen.{EntrySeen, Named, is_named_at, record_at}, declared.tubes.pauses.PauseEnd.PauseEnd}
 
 -- by moment, then by number
 abbrev pub end_cmp : PauseEnd → PauseEnd → Ordering
@@ -85,7 +85,7 @@ abbrev pub paused_count : List Named → ℕ
 paused_count es = count_by is_paused (map record_at es)
 
 -- The ends of exactly the pauses of these tubes are kept, and there is a box for that of each tube.
-pub record AreEnds (kept : Tabled KeptTube) (ends : CatalogSeen PauseEnd (Unit {0})) : Type 0 where
+pub record AreEnds (kept : Tabled EntrySeen) (ends : CatalogSeen PauseEnd (Unit {0})) : Type 0 where
   pub known : (e : PauseEnd) → has_end e ends.entries ≡ is_end_in kept.numbers e (map record_at kept.entries)
   pub counted : length ends.entries ≡ paused_count kept.entries
   pub roomy : length kept.entries ≤ length ends.entries + ends.spare
@@ -95,5 +95,5 @@ abbrev pub IsTold : List (List ℕ × ℕ) → List ℕ → TubeRecord → Type 
 IsTold numbers name t = is_same_name (number_at name numbers) (number_at t.name numbers) ≡ is_same_name name t.name
 
 -- The tubes have numbers of their own.
-abbrev pub AreTold : Tabled KeptTube → Type 0
+abbrev pub AreTold : Tabled EntrySeen → Type 0
 AreTold kept = (name : List ℕ) → AllByRecursion (IsTold kept.numbers name) (map record_at kept.entries)

@@ -1,14 +1,14 @@
 -- The invariants of a core's state.
 use Rattle.std.{proofs.Props.props, specs.{Coded.{Unit-prop, le_prop, ×_prop}, Prelude.{Bool, List, [], false, ℕ, ◌∷◌, ◌≡◌, ◌≤◌}}}
 use Rattle.bq_job.specs.{beside.AreIdsWithin, declared.job.Job.Job, machine.{SeatRecord, TubeRecord, last_id}}
-use Rattle.bq_state.specs.{FirstTimeouts.AreTimeouts, KeptTubes.KeptTubes, Knowledge.IsSo, SeatChanges.AreNumbered, TubeEntries.AreEntries}
-use Rattle.bq_state.specs.{TubeEntries.AreInOrder, WaitingTurns.{AreInTurn, WaitingTurns}, declared.known.Known.Known}
+use Rattle.bq_state.specs.{FirstTimeouts.AreTimeouts, Knowledge.IsSo, SeatChanges.AreNumbered, TubeEntries.AreEntries, TubesSeen.TubesSeen}
+use Rattle.bq_state.specs.{TubeEntries.AreInOrder, WaitingList.{AreInTurn, WaitingList}, declared.known.Known.Known}
 use Rattle.bq_state.specs.declared.known.first_timeout.FirstTimeout.{FirstTimeout}
 use Rattle.bq_state.specs.declared.known.first_timeout.FirstTimeout.TheVariants as ends
 
 -- The fields of a state agree with each other: the jobs, seats and tubes, and what is kept besides
 -- them.
-pub record Soundness (jobs : List Job) (seats : List SeatRecord) (tubes : KeptTubes) (turns : WaitingTurns) (k : Known)
+pub record Soundness (jobs : List Job) (seats : List SeatRecord) (tubes : TubesSeen) (waiters : WaitingList) (k : Known)
     (next_id : ℕ) (draining : Bool) : Type 0 where
   pub entries : AreEntries jobs seats tubes.entries
   -- Seats are numbered in order.
@@ -17,8 +17,8 @@ pub record Soundness (jobs : List Job) (seats : List SeatRecord) (tubes : KeptTu
   pub next : draining ≡ false → next_id ≤ last_id
   -- Each id was given out once.
   pub ids : AreIdsWithin 1 jobs next_id
-  -- The waiting clients are in order of their turns.
-  pub waiting : AreInTurn turns seats
+  -- The waiting clients are in order of their tickets.
+  pub waiting : AreInTurn waiters seats
   -- What is known without a search is true.
   pub known : IsSo k jobs seats tubes
 
@@ -35,6 +35,6 @@ AreTimeouts-prop ends.Unknown seats = Unit-prop
 AreTimeouts-prop (ends.Known first) seats = Prim.hlevel props
 
 -- It has at most one proof, so a field can hold it.
-pub Soundness-prop : (jobs : List Job) (seats : List SeatRecord) (tubes : KeptTubes) (turns : WaitingTurns) (k : Known) → (next_id : ℕ)
-    (draining : Bool) → IsProp (Soundness jobs seats tubes turns k next_id draining)
-Soundness-prop jobs seats tubes turns k next_id draining = Prim.hlevel (props, AreInOrder-prop, AreIdsWithin-prop, AreTimeouts-prop)
+pub Soundness-prop : (jobs : List Job) (seats : List SeatRecord) (tubes : TubesSeen) (waiters : WaitingList) (k : Known) → (next_id : ℕ)
+    (draining : Bool) → IsProp (Soundness jobs seats tubes waiters k next_id draining)
+Soundness-prop jobs seats tubes waiters k next_id draining = Prim.hlevel (props, AreInOrder-prop, AreIdsWithin-prop, AreTimeouts-prop)

@@ -3,7 +3,7 @@ use Rattle.std.specs.{List.{insert, prefix_len}, Prelude.{Bool, List, [], count_
 use Rattle.std.specs.Prelude.{◌&&◌, ◌-◌, ◌||◌, ◌∷◌, ◌≡◌}
 use Rattle.bq_job.specs.{declared.job.Job.Job, machine.{TubeRecord, is_buried, is_delayed, is_name_before, is_ready, is_ready_state}}
 use Rattle.bq_job.specs.{machine.{is_reserved, is_urgent, raised}, reading.TubeName.is_same_name}
-use Rattle.bq_jobs.specs.{Changed.standing, declared.job_orders.{Moved.Moved, Standing.Standing}}
+use Rattle.bq_jobs.specs.{Changed.pri_and_state, declared.job_orders.{JobMove.JobMove, PriAndState.PriAndState}}
 use Rattle.bq_state.specs.{TubeEntries.has_entry, declared.known.tally.Tally.Tally}
 
 abbrev pub tally_of : List Job → Tally
@@ -26,7 +26,7 @@ count_without true n = n - 1
 count_without false n = n
 
 -- the counts including a job in this state
-abbrev pub tally_entered : Standing → Tally → Tally
+abbrev pub tally_entered : PriAndState → Tally → Tally
 tally_entered at t = record {
   urgent = count_with (is_ready_state at.state && nat_lt at.pri 1024) t.urgent;
   ready = count_with (is_ready_state at.state) t.ready;
@@ -36,7 +36,7 @@ tally_entered at t = record {
 }
 
 -- the counts without a job in this state
-abbrev pub tally_left : Standing → Tally → Tally
+abbrev pub tally_left : PriAndState → Tally → Tally
 tally_left at t = record {
   urgent = count_without (is_ready_state at.state && nat_lt at.pri 1024) t.urgent;
   ready = count_without (is_ready_state at.state) t.ready;
@@ -46,15 +46,15 @@ tally_left at t = record {
 }
 
 -- the counts after a job changed its state
-abbrev pub tally_moved : Moved → Tally → Tally
+abbrev pub tally_moved : JobMove → Tally → Tally
 tally_moved m t = tally_entered m.to (tally_left m.from t)
 
 -- the counts including a job, and without it
 abbrev pub tally_with : Job → Tally → Tally
-tally_with j t = tally_entered (standing j) t
+tally_with j t = tally_entered (pri_and_state j) t
 
 abbrev pub tally_without : Job → Tally → Tally
-tally_without j t = tally_left (standing j) t
+tally_without j t = tally_left (pri_and_state j) t
 
 -- the counts of the jobs of each tube that has an entry, in the order of the entries
 abbrev pub tally_in : List Job → TubeRecord → Tally

@@ -1,5 +1,5 @@
 -- The value of a tube's entry in contracts.
-use Rattle.bq_state.specs.{declared.tubes.entry.TubeEntry.TheInside.Inside, KeptTubes.KeptTube}
+use Rattle.bq_state.specs.{declared.tubes.entry.TubeEntry.TheInside.Inside, TubesSeen.EntrySeen}
 
-abbrev pub kept_of : Inside → KeptTube
-kept_of t = record { pause = t.pause; puts = t.puts; deletes = t.deletes; pauses = t.pauses; tally = t.tally; crowd = t.crowd }
+abbrev pub entry_seen : Inside → EntrySeen
+entry_seen t = record { pause = t.pause; puts = t.puts; deletes = t.deletes; pauses = t.pauses; tally = t.tally; crowd = t.crowd }

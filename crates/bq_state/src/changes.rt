@@ -7,9 +7,9 @@ ghost use Rattle.bq_job.specs.{beside.NameOrder.is_in_order, machine.Changes.{is
 ghost use Rattle.bq_job.specs.machine.{Changes.{with_job, with_seat, without_wait}, Dispatch.next_job, JobCommands.{last_id, waiting_from, with_put}};
 ghost use Rattle.bq_job.specs.machine.{Limits.{grown, raised}, Machine.{empty_seat, new_machine, numbers}, Timers.at_moment, TubeOrder.tubes};
 ghost use Rattle.bq_job.specs.machine.Tubes.{forgetting, watches, with_tube};
-ghost use Rattle.bq_jobs.specs.{Kept.{ComparesAtMost, with_added}, Names.number_in, Numbering.HasNumber, Searching.Asks};
-ghost use Rattle.bq_state.specs.{CoreParts.{AtSeat, Watches, held, machine_of, with_pauses_ended}, Crowds.may_wait, Dues.with_warning_due};
-ghost use Rattle.bq_state.specs.{JobChanges.{changed, is_passed_by, once_deleted, passes}, KeptTubes.{first_tubes, is_named_at}};
+ghost use Rattle.bq_jobs.specs.{JobsSeen.{ComparesAtMost, with_added}, Names.number_in, Numbering.HasNumber, Searching.Asks};
+ghost use Rattle.bq_state.specs.{CoreParts.{AtSeat, Watches, fields, machine_of, with_pauses_ended}, Crowds.may_wait, Dues.with_warning_due};
+ghost use Rattle.bq_state.specs.{JobChanges.{changed, is_passed_by, once_deleted, passes}, TubesSeen.{first_tubes, is_named_at}};
 ghost use Rattle.bq_state.specs.{Names.names_of, Offers.is_waited_at, SeatChanges.{fewer_watched, has_tube_of, more_watched, seat_changed}};
 ghost use Rattle.bq_state.specs.{SeatChanges.watches_other, TubeEntries.{has_entry, is_tube_of, tube_changed}, Warnings.may_hold};
 ghost use Rattle.bq_state.specs.Warnings.{warned_if_due, with_holder};
@@ -22,12 +22,12 @@ use crate::job_store::{JobChange, JobTest};
 use crate::known::{FirstTimeout, Known, MaybeGone, Wanted, is_over};
 use crate::name_lists::Names;
 use crate::seats::{SeatChange, SeatRecord};
-use crate::tubes::{Moving, TubeChange, Tubes};
-use crate::waiting::Waiting;
-use crate::{job_store, seats, shares};
+use crate::tubes::{AddOrRemove, TubeChange, Tubes};
+use crate::waiting::WaitingList;
+use crate::{job_store, roles, seats};
 use bq_core_api::Config;
 use bq_job::{Body, Job, JobId, JobState, Moment, NoMemory, Seat, TubeName};
-use bq_jobs::{GhostName, Moved, NumberedJobs, Tube, TubeNumber};
+use bq_jobs::{GhostName, JobMove, NumberedJobs, Tube, TubeNumber};
 use std::alloc::Global;
 
 // The last id that is given out. Its put makes the core drain, so the next id always fits.
@@ -49,7 +49,7 @@ pub fn make_room(state: &mut CoreParts, alloc: Global) -> Result<(), NoMemory>
 // Returns true if the state is ready and the counts show a client that waits for jobs of the tube,
 // which is registered under this number.
 fn is_wanted(
-    waiting: &Waiting,
+    waiting: &WaitingList,
     tubes: &Tubes,
     state: JobState,
     name: &TubeName,
@@ -58,7 +58,7 @@ fn is_wanted(
     requires { HasNumber name.now number tubes.now.numbers }
     ensures { result
         ≡ (is_ready_state state
-        && (nat_lt 0 (length waiting.now.turns) && is_waited_at name.now tubes.now)) }
+        && (nat_lt 0 (length waiting.now.waiters) && is_waited_at name.now tubes.now)) }
 {
     matches!(state, JobState::Ready)
         && waiting.as_slice().len() > 0
@@ -152,7 +152,7 @@ pub fn hand_out(state: &mut CoreParts, seat: Seat, id: JobId) -> Option<Result<B
 // Returns the body of a job that was changed.
 #[inline(always)]
 fn body_of(
-    shared: Option<Result<((TubeNumber, Moved), Body), NoMemory>>,
+    shared: Option<Result<((TubeNumber, JobMove), Body), NoMemory>>,
 ) -> Option<Result<Body, NoMemory>>
     ensures { result ≡ body_in shared }
 {
@@ -171,9 +171,9 @@ fn body_of(
 fn count_if_moved(
     known: &mut Known,
     tubes: &mut Tubes,
-    waiting: &Waiting,
+    waiting: &WaitingList,
     seats: &[SeatRecord],
-    shared: &Option<Result<((TubeNumber, Moved), Body), NoMemory>>,
+    shared: &Option<Result<((TubeNumber, JobMove), Body), NoMemory>>,
 )
     requires number { HasNumberIf shared.now tubes.old.numbers }
     requires seats { AreNumbered seats.now }
@@ -189,9 +189,9 @@ fn count_if_moved(
 fn count_move(
     known: &mut Known,
     tubes: &mut Tubes,
-    waiting: &Waiting,
+    waiting: &WaitingList,
     seats: &[SeatRecord],
-    moved: &Moved,
+    moved: &JobMove,
     number: TubeNumber,
 )
     requires number { HasNumber moved.now.tube number tubes.old.numbers }
@@ -250,15 +250,15 @@ fn change_seat_by(state: &mut CoreParts, seat: Seat, what: &SeatChange)
         ≡ with_seat seat (seat_changed what.now) (machine_of state.old) }
     ensures jobs { state.new.jobs ≡ state.old.jobs }
 {
-    let touched = shares::touched(what);
+    let touched = roles::touched(what);
     let client = seats::find(state.seats.as_slice(), seat);
     state.waiting.leave(client);
-    shares::recount(&mut state.tubes, client, Moving::Goes, touched);
+    roles::recount(&mut state.tubes, client, AddOrRemove::Remove, touched);
     state.known.leave(client, what, touched, &state.tubes);
     seats::change_at(&mut state.seats, seat, what);
     let client = seats::find(state.seats.as_slice(), seat);
     state.waiting.join(client);
-    shares::recount(&mut state.tubes, client, Moving::Comes, touched);
+    roles::recount(&mut state.tubes, client, AddOrRemove::Add, touched);
     state.known.join(client, seat, what);
 }
 
@@ -278,8 +278,8 @@ pub fn note_leases(state: &mut CoreParts, seat: Seat)
 
 /// Finds when the first wait times out, if that isn't known.
 pub fn find_first_timeout(state: &mut CoreParts)
-    ensures { held state.new
-        ≡ record (held state.old) { known = record state.old.known { first_timeout = state.new.known.first_timeout } } }
+    ensures { fields state.new
+        ≡ record (fields state.old) { known = record state.old.known { first_timeout = state.new.known.first_timeout } } }
 {
     if let FirstTimeout::Unknown = &state.known.first_timeout {
         state.known.first_timeout = FirstTimeout::find(
@@ -293,8 +293,8 @@ pub fn find_first_timeout(state: &mut CoreParts)
 #[tactic(auto, using(crate::proofs::KnowledgeLemmas::so_with_nothing))]
 pub fn record_none_wanted(state: &mut CoreParts)
     requires none { next_job (machine_of state.old) ≡ None }
-    ensures { held state.new
-        ≡ record (held state.old) { known = record state.old.known { wanted = wanted_jobs.Nothing } } }
+    ensures { fields state.new
+        ≡ record (fields state.old) { known = record state.old.known { wanted = wanted_jobs.Nothing } } }
 {
     state.known.wanted = Wanted::Nothing;
 }
@@ -304,7 +304,7 @@ pub fn record_none_wanted(state: &mut CoreParts)
 #[tactic(auto, using(crate::proofs::KnowledgeLemmas::so_settled))]
 pub fn settle_warnings(state: &mut CoreParts, is_due: bool)
     requires due { is_due ≡ is_some (fold (with_warning_due state.old.jobs.jobs) None state.old.seats.items) }
-    ensures { held state.new ≡ record (held state.old)
+    ensures { fields state.new ≡ record (fields state.old)
         { known = record state.old.known { warns = warned_if_due is_due state.old.known.warns } } }
 {
     state.known.warns.settle(is_due);
@@ -382,12 +382,12 @@ pub fn watch_tube(
     if usize::from(seat) >= state.seats.len() {
         return Ok(0);
     }
-    let share = shares::of_watcher(&state.seats[usize::from(seat)]);
+    let roles = roles::of_watcher(&state.seats[usize::from(seat)]);
     let watched = Tube::new(tube, number);
     match seats::watch(&mut state.seats, alloc, seat, &watched) {
         Ok(count) => {
-            state.tubes.recount(tube, number, Moving::Comes, share);
-            state.known.wanted.add_all_if(share.waiting);
+            state.tubes.recount(tube, number, AddOrRemove::Add, roles);
+            state.known.wanted.add_all_if(roles.waiting);
             Ok(count)
         }
         Err(fault) => Err(fault),
@@ -404,10 +404,10 @@ pub fn ignore_tube(state: &mut CoreParts, seat: Seat, tube: &TubeName) -> u64
     ensures jobs { state.new.jobs ≡ state.old.jobs }
 {
     if usize::from(seat) < state.seats.len() {
-        let share = shares::at(&state.seats[usize::from(seat)], tube);
+        let roles = roles::at(&state.seats[usize::from(seat)], tube);
         state
             .tubes
-            .recount(tube, TubeNumber::unknown(), Moving::Goes, share);
+            .recount(tube, TubeNumber::unknown(), AddOrRemove::Remove, roles);
         state.known.maybe_gone.add_tube(tube, TubeNumber::unknown());
         seats::ignore(&mut state.seats, seat, tube)
     } else {
@@ -479,14 +479,14 @@ fn forget_gone(state: &mut CoreParts)
 
 /// Counts a connection that was opened.
 pub fn count_connection(state: &mut CoreParts)
-    ensures { held state.new ≡ record (held state.old) { connections = raised state.old.connections } }
+    ensures { fields state.new ≡ record (fields state.old) { connections = raised state.old.connections } }
 {
     state.connections = state.connections.saturating_add(1);
 }
 
 /// Rejects puts from now on.
 pub fn start_draining(state: &mut CoreParts)
-    ensures { held state.new ≡ record (held state.old) { draining = true } }
+    ensures { fields state.new ≡ record (fields state.old) { draining = true } }
 {
     state.draining = true;
 }
@@ -495,7 +495,7 @@ pub fn start_draining(state: &mut CoreParts)
 #[tactic(auto, using(crate::proofs::PartsLemmas::sound_given))]
 pub fn count_put(state: &mut CoreParts)
     requires accepts { state.old.draining ≡ false }
-    ensures { held state.new ≡ record (held state.old)
+    ensures { fields state.new ≡ record (fields state.old)
         { next_id = state.old.next_id + 1; puts = raised state.old.puts; draining = nat_le last_id state.old.next_id } }
 {
     state.draining = state.next_id >= LAST_ID;
@@ -506,7 +506,7 @@ pub fn count_put(state: &mut CoreParts)
 /// Returns the next ticket, for a client that begins to wait.
 pub fn give_ticket(state: &mut CoreParts) -> u64
     ensures ticket { result ≡ raised state.old.tickets }
-    ensures after { held state.new ≡ record (held state.old) { tickets = raised state.old.tickets } }
+    ensures after { fields state.new ≡ record (fields state.old) { tickets = raised state.old.tickets } }
 {
     state.tickets = state.tickets.saturating_add(1);
     state.tickets
@@ -515,7 +515,7 @@ pub fn give_ticket(state: &mut CoreParts) -> u64
 /// Returns the next burial number, for a job that is buried.
 pub fn give_burial_number(state: &mut CoreParts) -> u64
     ensures number { result ≡ raised state.old.burials }
-    ensures after { held state.new ≡ record (held state.old) { burials = raised state.old.burials } }
+    ensures after { fields state.new ≡ record (fields state.old) { burials = raised state.old.burials } }
 {
     state.burials = state.burials.saturating_add(1);
     state.burials
@@ -523,7 +523,7 @@ pub fn give_burial_number(state: &mut CoreParts) -> u64
 
 /// Counts an expired reservation.
 pub fn count_timeout(state: &mut CoreParts)
-    ensures { held state.new ≡ record (held state.old) { timeouts = grown 1 state.old.timeouts } }
+    ensures { fields state.new ≡ record (fields state.old) { timeouts = grown 1 state.old.timeouts } }
 {
     state.timeouts = state.timeouts.saturating_add(1);
 }
@@ -550,14 +550,14 @@ pub fn new_parts(
     config: Config,
     jobs: NumberedJobs,
     seats: Vec<SeatRecord, Global>,
-    waiting: Waiting,
+    waiting: WaitingList,
     tubes: Tubes,
 ) -> CoreParts
     requires none { jobs.jobs ≡ [] }
     requires uncounted { jobs.comparisons ≡ 0 }
     requires numbered { jobs.tubes ≡ tubes.numbers }
     requires free { seats.items ≡ map empty_seat (numbers 0 config.seats) }
-    requires nobody { waiting.turns ≡ [] }
+    requires nobody { waiting.waiters ≡ [] }
     requires room { config.seats ≤ waiting.room }
     requires first { tubes ≡ first_tubes jobs.tubes }
     ensures empty { machine_of result ≡ new_machine config }

@@ -6,7 +6,7 @@ use crate::job_store::JobTest;
 use crate::known::{Known, Tally};
 use crate::seats::SeatRecord;
 use crate::tubes::{Crowd, Tubes};
-use crate::waiting::Waiting;
+use crate::waiting::WaitingList;
 use crate::{job_store, seats};
 use bq_core_api::Config;
 use bq_job::{Body, JobId, Moment, NoMemory, Seat, TubeName};
@@ -20,8 +20,8 @@ pub struct CoreParts {
     pub config: Config,
     pub jobs: NumberedJobs,
     pub seats: Vec<SeatRecord, Global>,
-    /// The waiting clients, in order of their turns.
-    pub waiting: Waiting,
+    /// The waiting clients, in order of their tickets.
+    pub waiting: WaitingList,
     /// What is kept of each tube that exists.
     pub tubes: Tubes,
     /// What is known without a search.
@@ -54,7 +54,7 @@ impl CoreParts {
     ghost use Rattle.bq_job.specs.reading.TubeName.{is_same_name};
     ghost use Rattle.bq_jobs.specs.{Ranks.first_in, Seen.IsBodyOf};
     ghost use Rattle.bq_state.specs.{CoreParts.machine_of, Crowds.crowd_of, JobChanges.{is_passed_by, passes, ttr_held_by}};
-    ghost use Rattle.bq_state.specs.{Keeping.Looks, SeatStates.{is_asking, is_connected, is_free}};
+    ghost use Rattle.bq_state.specs.{Keeping.OnlySearches, SeatStates.{is_asking, is_connected, is_free}};
     ghost use Rattle.bq_state.specs.Tallies.{tally_of};
 
     /// Returns true if there is a seat with this number and no client is connected to it.
@@ -91,7 +91,7 @@ impl CoreParts {
     #[tactic(auto, using(crate::proofs::PartsLemmas::compared_sound))]
     pub fn has_job(&mut self, id: JobId, test: JobTest) -> bool
         ensures has { result ≡ is_passed_by (passes test) (job_with id (machine_of self.old).jobs) }
-        ensures kept { Looks 1 self.old self.new }
+        ensures kept { OnlySearches 1 self.old self.new }
     {
         job_store::has(&mut self.jobs, id, test)
     }
@@ -101,7 +101,7 @@ impl CoreParts {
     #[tactic(auto, using(crate::proofs::PartsLemmas::compared_sound))]
     pub fn time_to_run(&mut self, id: JobId, seat: Seat) -> Option<u32>
         ensures ttr { result ≡ ttr_held_by seat (job_with id (machine_of self.old).jobs) }
-        ensures kept { Looks 1 self.old self.new }
+        ensures kept { OnlySearches 1 self.old self.new }
     {
         job_store::time_to_run(&mut self.jobs, id, seat)
     }
@@ -113,7 +113,7 @@ impl CoreParts {
         ensures none { is_some result ≡ is_some (job_with id (machine_of self.old).jobs) }
         ensures share { IfSome result
             (λ shared. IfOk shared (IsBodyOf (job_with id (machine_of self.old).jobs))) }
-        ensures kept { Looks 1 self.old self.new }
+        ensures kept { OnlySearches 1 self.old self.new }
     {
         self.jobs.share_body(id)
     }
@@ -123,7 +123,7 @@ impl CoreParts {
     pub fn first(&mut self, list: JobList, tube: &Tube) -> Option<JobId>
         ensures id { result
             ≡ option_map (λ j. j.id) (first_in list tube.now self.old.jobs.jobs) }
-        ensures kept { Looks 1 self.old self.new }
+        ensures kept { OnlySearches 1 self.old self.new }
     {
         job_store::first(&mut self.jobs, self.tubes.names(), list, tube)
     }
@@ -157,7 +157,7 @@ impl CoreParts {
     #[tactic(auto, using(crate::proofs::PartsLemmas::compared_sound, crate::proofs::DueLemmas::held_some, crate::proofs::DueLemmas::none_held))]
     pub(crate) fn holds_some(&mut self, seat: Seat) -> bool
         ensures holds { result ≡ list_any (is_held_by seat) self.old.jobs.jobs }
-        ensures kept { Looks 1 self.old self.new }
+        ensures kept { OnlySearches 1 self.old self.new }
     {
         if !self.has_lease() {
             return false;

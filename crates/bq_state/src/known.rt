@@ -5,9 +5,9 @@ ghost use Rattle.bq_state.specs.{Dues.{earlier_of_both, is_end_over}, Knowledge.
 ghost use Rattle.bq_state.specs.{Knowledge.{with_left, with_moved, with_removal, with_tube_changed}, SeatStates.seat_passes};
 
 use crate::seats::{SeatChange, SeatRecord};
-use crate::tubes::{Share, TubeChange, Tubes};
+use crate::tubes::{Roles, TubeChange, Tubes};
 use bq_job::{Job, Moment, Seat, TubeName};
-use bq_jobs::{Moved, Removed, Standing, TubeNumber};
+use bq_jobs::{JobMove, JobRemoval, PriAndState, TubeNumber};
 pub use first_timeout::{FirstTimeout, first_to_give_up};
 pub use maybe_gone::MaybeGone;
 pub use tally::Tally;
@@ -68,7 +68,7 @@ impl Known {
         requires { name.now ≡ job.now.tube }
         ensures { self.new ≡ with_job job.now is_wanted waits self.old }
     {
-        self.tally.enter(Standing::of(job));
+        self.tally.enter(PriAndState::of(job));
         self.maybe_gone.remove_tube(name);
         self.wanted.add_tube_if(name, number, is_wanted);
         self.warns.add_holder_if(job.state, waits);
@@ -78,7 +78,7 @@ impl Known {
     /// whether a client uses or watches the tube.
     pub(crate) fn count_removal(
         &mut self,
-        removed: &Removed,
+        removed: &JobRemoval,
         name: &TubeName,
         number: TubeNumber,
         has_seats: bool,
@@ -97,7 +97,7 @@ impl Known {
     #[inline(always)]
     pub(crate) fn move_job(
         &mut self,
-        moved: &Moved,
+        moved: &JobMove,
         name: &TubeName,
         number: TubeNumber,
         is_wanted: bool,
@@ -119,7 +119,7 @@ impl Known {
         &mut self,
         client: Option<&SeatRecord>,
         what: &SeatChange,
-        touched: Share,
+        touched: Roles,
         tubes: &Tubes,
     )
         ensures { self.new

@@ -4,9 +4,9 @@ ghost use Rattle.std.specs.Prelude.{◌≡◌};
 ghost use Rattle.bq_job.specs.{beside.NextDue.{dues_of_wait, earliest}, machine.{Asked.with_end, Changes.{first_of, is_waiting}}};
 ghost use Rattle.bq_job.specs.machine.{Changes.{seat_with, without_wait}, Dispatch.{is_wait_before, ticket_of}, JobCommands.waiting_from};
 ghost use Rattle.bq_job.specs.machine.{Machine.{empty_seat, numbers}, TubeCommands.{using, watching}, Tubes.watches, Waits.is_timed_out_at};
-ghost use Rattle.bq_state.specs.{EndingWaits.{has_waited, turn_of}, FirstTimeouts.is_gone_in_wait, Offers.waits_at};
+ghost use Rattle.bq_state.specs.{EndingWaits.{has_waited, waiter_of}, FirstTimeouts.is_gone_in_wait, Offers.waits_at};
 ghost use Rattle.bq_state.specs.SeatChanges.{AreNumbered, AtPlace, IsSetAt, fewer_watched, more_watched, seat_changed, seat_changed_at};
-ghost use Rattle.bq_state.specs.{SeatChanges.watches_other, SeatTurns.AreTurnsOf, WaitingTurns.passes_at, Warnings.has_waiting_holder};
+ghost use Rattle.bq_state.specs.{SeatChanges.watches_other, SeatWaiters.AreWaitersOf, WaitingList.passes_at, Warnings.has_waiting_holder};
 ghost use Rattle.bq_state.specs.Warnings.{is_waiting_there};
 
 use crate::waiting;
@@ -132,36 +132,36 @@ fn waits_at(client: &SeatRecord, tube: &TubeName) -> bool
     client.is_waiting() && client.watches(tube)
 }
 
-// Returns true if the client of this turn waits for jobs of this tube.
-fn waits_there(seats: &[SeatRecord], turn: Turn, tube: &TubeName) -> bool
-    ensures { result ≡ passes_at (waits_at tube.now) seats.now turn }
+// Returns true if this waiter waits for jobs of this tube.
+fn waits_there(seats: &[SeatRecord], waiter: Waiter, tube: &TubeName) -> bool
+    ensures { result ≡ passes_at (waits_at tube.now) seats.now waiter }
 {
-    match seats.get(usize::from(turn.1)) {
+    match seats.get(usize::from(waiter.1)) {
         None => false,
         Some(client) => waits_at(client, tube),
     }
 }
 
-// Returns the place among the turns of the first client that waits for jobs of this tube.
-fn place_waiting(seats: &[SeatRecord], turns: &[Turn], tube: &TubeName) -> Option<usize>
-    ensures { result ≡ position (passes_at (waits_at tube.now) seats.now) turns.now }
+// Returns the place of the first waiter that waits for jobs of this tube.
+fn place_waiting(seats: &[SeatRecord], waiters: &[Waiter], tube: &TubeName) -> Option<usize>
+    ensures { result ≡ position (passes_at (waits_at tube.now) seats.now) waiters.now }
 {
-    turns
+    waiters
         .iter()
-        .position(|turn| waits_there(seats, *turn, tube))
+        .position(|waiter| waits_there(seats, *waiter, tube))
 }
 
 /// Returns the seat of the client that has waited longest for jobs of this tube. Only waiting
 /// clients are checked.
 #[tactic(auto, using(crate::proofs::WalkLemmas::found_first, crate::proofs::WalkLemmas::item_found))]
-pub fn first_waiting(seats: &[SeatRecord], turns: &[Turn], tube: &TubeName) -> Option<Seat>
-    requires { AreTurnsOf turns.now seats.now }
+pub fn first_waiting(seats: &[SeatRecord], waiters: &[Waiter], tube: &TubeName) -> Option<Seat>
+    requires { AreWaitersOf waiters.now seats.now }
     ensures { result
         ≡ option_map (λ s. s.number) (first_of (waits_at tube.now) is_wait_before seats.now) }
 {
-    match waiting::turn_at(turns, place_waiting(seats, turns, tube)) {
+    match waiting::waiter_at(waiters, place_waiting(seats, waiters, tube)) {
         None => None,
-        Some(turn) => Some(turn.1),
+        Some(waiter) => Some(waiter.1),
     }
 }
 
@@ -171,32 +171,32 @@ fn has_waited(client: &SeatRecord, moment: Moment) -> bool
     client.is_waiting() && client.is_timed_out(moment)
 }
 
-fn has_waited_there(seats: &[SeatRecord], turn: Turn, moment: Moment) -> bool
-    ensures { result ≡ passes_at (has_waited moment) seats.now turn }
+fn has_waited_there(seats: &[SeatRecord], waiter: Waiter, moment: Moment) -> bool
+    ensures { result ≡ passes_at (has_waited moment) seats.now waiter }
 {
-    match seats.get(usize::from(turn.1)) {
+    match seats.get(usize::from(waiter.1)) {
         None => false,
         Some(client) => has_waited(client, moment),
     }
 }
 
-// Returns true if a wait of the clients with these turns has ended.
-fn is_some_turn_over(seats: &[SeatRecord], turns: &[Turn], moment: Moment) -> bool
-    ensures { result ≡ list_any (passes_at (has_waited moment) seats.now) turns.now }
+// Returns true if the wait of one of these waiters has ended.
+fn is_one_over(seats: &[SeatRecord], waiters: &[Waiter], moment: Moment) -> bool
+    ensures { result ≡ list_any (passes_at (has_waited moment) seats.now) waiters.now }
 {
-    turns
+    waiters
         .iter()
-        .any(|turn| has_waited_there(seats, *turn, moment))
+        .any(|waiter| has_waited_there(seats, *waiter, moment))
 }
 
 /// Returns true if some wait has timed out, or its client sends no more. Only waiting clients are
 /// checked.
-#[tactic(auto, using(crate::proofs::WalkLemmas::any_turn))]
-pub fn is_some_wait_over(seats: &[SeatRecord], turns: &[Turn], moment: Moment) -> bool
-    requires { AreTurnsOf turns.now seats.now }
+#[tactic(auto, using(crate::proofs::WalkLemmas::any_waiter))]
+pub fn is_some_wait_over(seats: &[SeatRecord], waiters: &[Waiter], moment: Moment) -> bool
+    requires { AreWaitersOf waiters.now seats.now }
     ensures { result ≡ list_any (has_waited moment) seats.now }
 {
-    is_some_turn_over(seats, turns, moment)
+    is_one_over(seats, waiters, moment)
 }
 
 fn is_gone_in_wait(client: &SeatRecord) -> bool
@@ -205,29 +205,29 @@ fn is_gone_in_wait(client: &SeatRecord) -> bool
     client.is_waiting() && client.has_ended()
 }
 
-fn is_gone_there(seats: &[SeatRecord], turn: Turn) -> bool
-    ensures { result ≡ passes_at is_gone_in_wait seats.now turn }
+fn is_gone_there(seats: &[SeatRecord], waiter: Waiter) -> bool
+    ensures { result ≡ passes_at is_gone_in_wait seats.now waiter }
 {
-    match seats.get(usize::from(turn.1)) {
+    match seats.get(usize::from(waiter.1)) {
         None => false,
         Some(client) => is_gone_in_wait(client),
     }
 }
 
-// Returns true if a client with one of these turns sends no more.
-fn is_some_turn_gone(seats: &[SeatRecord], turns: &[Turn]) -> bool
-    ensures { result ≡ list_any (passes_at is_gone_in_wait seats.now) turns.now }
+// Returns true if the client of one of these waiters sends no more.
+fn is_one_gone(seats: &[SeatRecord], waiters: &[Waiter]) -> bool
+    ensures { result ≡ list_any (passes_at is_gone_in_wait seats.now) waiters.now }
 {
-    turns.iter().any(|turn| is_gone_there(seats, *turn))
+    waiters.iter().any(|waiter| is_gone_there(seats, *waiter))
 }
 
 /// Returns true if some waiting client sends no more. Only waiting clients are checked.
-#[tactic(auto, using(crate::proofs::WalkLemmas::any_turn))]
-pub(crate) fn is_some_waiter_gone(seats: &[SeatRecord], turns: &[Turn]) -> bool
-    requires { AreTurnsOf turns.now seats.now }
+#[tactic(auto, using(crate::proofs::WalkLemmas::any_waiter))]
+pub(crate) fn is_some_waiter_gone(seats: &[SeatRecord], waiters: &[Waiter]) -> bool
+    requires { AreWaitersOf waiters.now seats.now }
     ensures { result ≡ list_any is_gone_in_wait seats.now }
 {
-    is_some_turn_gone(seats, turns)
+    is_one_gone(seats, waiters)
 }
 
 /// Returns this many seats without clients. Returns `NoMemory` if an allocation fails.
@@ -247,8 +247,8 @@ pub fn free_seats(alloc: Global, count: u16) -> Result<Vec<SeatRecord, Global>, 
     Ok(seats)
 }
 
-/// The turn of a waiting client: its ticket and its seat.
-pub type Turn = (u64, Seat);
+/// A waiting client, as its ticket and its seat. Waiters are served in this order.
+pub type Waiter = (u64, Seat);
 
 /// A client that waits for a job.
 #[derive(Clone, Copy)]
@@ -385,9 +385,9 @@ impl SeatRecord {
         }
     }
 
-    /// Returns the client's turn among the waiting clients.
-    pub fn turn(&self) -> Turn
-        ensures { result ≡ turn_of self.now }
+    /// Returns the client's ticket and its seat. The ticket is 0 if the client doesn't wait.
+    pub fn waiter(&self) -> Waiter
+        ensures { result ≡ waiter_of self.now }
     {
         (self.ticket(), self.number)
     }

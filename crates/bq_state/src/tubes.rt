@@ -6,7 +6,7 @@ ghost use Rattle.bq_job.specs.{machine.Timers.tube_after_timers, reading.TubeNam
 ghost use Rattle.bq_jobs.specs.{Names.number_in, Numbering.{Extends, HasNumber}};
 ghost use Rattle.bq_state.specs.Counting.{AreCounts, DropsGone, IfCounted, tubes_with, with_crowds_at, with_job_put, with_removal_counted};
 ghost use Rattle.bq_state.specs.{Counting.with_tallies_at, Crowds.{crowd_at, has_seats, recounted}, Dues.first_pause_end};
-ghost use Rattle.bq_state.specs.KeptTubes.{edited_at, is_named_at, kept_changed};
+ghost use Rattle.bq_state.specs.TubesSeen.{edited_at, entry_changed, is_named_at};
 ghost use Rattle.bq_state.specs.{Leaving.exists_in, Names.names_of, PauseEnds.AreEnds, Tallies.{has_jobs, tallies_of, tally_at}};
 ghost use Rattle.bq_state.specs.{Tallies.tally_moved, TubeEntries.{has_entry, names_alive, tube_changed_at}, TubeNumbers.HaveNumbers};
 
@@ -15,9 +15,9 @@ use crate::name_lists::Names;
 use crate::watch_list::default_tube;
 use bq_index::Catalog;
 use bq_job::{Job, Moment, NoMemory, TubeName};
-use bq_jobs::{GhostName, Moved, NumberedJobs, NumberedTubes, Removed, TubeNumber, TubeTable};
+use bq_jobs::{GhostName, JobMove, JobRemoval, NumberedJobs, NumberedTubes, TubeNumber, TubeTable};
 pub use entry::{Crowd, Pausing, TubeChange, TubeEntry};
-pub(crate) use entry::{Moving, Share, ShareChange};
+pub(crate) use entry::{AddOrRemove, Roles, RolesChange};
 use pauses::PauseEnds;
 use std::alloc::Global;
 use std::marker::Model;
@@ -39,11 +39,11 @@ pub struct Tubes {
 
 impl Model for Tubes {
     ghost use Rattle.std.specs.Prelude.{map};
-    ghost use Rattle.bq_state.specs.{KeptTubes.{KeptTubes, tubes_kept}, PauseEnds.AreEnds};
+    ghost use Rattle.bq_state.specs.{PauseEnds.AreEnds, TubesSeen.{TubesSeen, tubes_seen}};
 
-    ghost Value = { KeptTubes };
+    ghost Value = { TubesSeen };
 
-    ghost view = { λ t. tubes_kept t.kept.numbers t.kept.entries };
+    ghost view = { λ t. tubes_seen t.kept.numbers t.kept.entries };
 
     ghost invariant = { λ t. AreEnds t.kept t.ends };
 }
@@ -58,7 +58,7 @@ fn change(
 )
     requires { AreEnds kept.old ends.old }
     ensures numbers { kept.new.numbers ≡ kept.old.numbers }
-    ensures kept { kept.new.entries ≡ edited_at name.now (kept_changed what) kept.old.entries }
+    ensures kept { kept.new.entries ≡ edited_at name.now (entry_changed what) kept.old.entries }
     ensures ends { AreEnds kept.new ends.new }
     ensures ordered { InOrder (slice_cmp nat_cmp) kept.old.entries }
 {
@@ -71,7 +71,7 @@ fn change(
 }
 
 impl Tubes {
-    ghost use Rattle.bq_state.specs.KeptTubes.{crowd_by, first_tubes, is_paused_by, record_of, tally_by, tubes_kept};
+    ghost use Rattle.bq_state.specs.TubesSeen.{crowd_by, first_tubes, is_paused_by, record_of, tally_by, tubes_seen};
 
     /// Returns the default tube, without jobs and clients. Returns `NoMemory` if an allocation
     /// fails.
@@ -85,7 +85,7 @@ impl Tubes {
 
     // Returns no tubes at all.
     fn none(alloc: Global) -> Tubes
-        ensures { result ≡ tubes_kept [] [] }
+        ensures { result ≡ tubes_seen [] [] }
     {
         Tubes {
             kept: TubeTable::new(alloc),
@@ -192,7 +192,7 @@ impl Tubes {
     /// Stops counting the job of this report in its tube, which has this number, and counts its
     /// deletion. Returns whether a client uses or watches the tube.
     #[tactic(auto, using(crate::proofs::NamedLemmas::seats_told))]
-    pub(crate) fn count_removal(&mut self, removed: &Removed, number: TubeNumber) -> bool
+    pub(crate) fn count_removal(&mut self, removed: &JobRemoval, number: TubeNumber) -> bool
         requires { HasNumber removed.now.tube number self.old.numbers }
         ensures after { self.new ≡ with_removal_counted removed.now self.old }
         ensures seats { result
@@ -202,7 +202,7 @@ impl Tubes {
     }
 
     /// A job of the tube with this number changed its state.
-    pub(crate) fn move_job(&mut self, moved: &Moved, number: TubeNumber)
+    pub(crate) fn move_job(&mut self, moved: &JobMove, number: TubeNumber)
         requires { HasNumber moved.now.tube number self.old.numbers }
         ensures { self.new ≡ with_tallies_at moved.now.tube (tally_moved moved.now) self.old }
     {
@@ -226,17 +226,17 @@ impl Tubes {
         self.tally_of(name, hint).has_jobs()
     }
 
-    /// Adds the share of a seat to the counts of the tube with this name, or removes it.
+    /// Counts a client with these roles at the tube with this name, or stops counting it.
     pub(crate) fn recount(
         &mut self,
         name: &TubeName,
         hint: TubeNumber,
-        moving: Moving,
-        share: Share,
+        how: AddOrRemove,
+        roles: Roles,
     )
-        ensures { self.new ≡ with_crowds_at name.now (recounted moving share) self.old }
+        ensures { self.new ≡ with_crowds_at name.now (recounted how roles) self.old }
     {
-        let _counted = self.kept.edit(name, hint, &ShareChange { moving, share });
+        let _counted = self.kept.edit(name, hint, &RolesChange { how, roles });
     }
 
     /// Returns how many clients use or watch the tube with this name or wait for its jobs; none if

@@ -84,9 +84,9 @@ on_passed k c old t false order ready none over ticked =
     ∙ sym (append-nil (old.sender.kept.items ++ old.timed.outs.given))) (timed_over k c old.timed t passed)
 
 -- What the core did after answers were sent or the clock was read.
-pub went_from : {C K : Type 0} (machine : K → Machine) (old mid new : CoreDriver C K) → mid.sender.end.taken ≡ old.sender.end.taken
+pub trace_from : {C K : Type 0} (machine : K → Machine) (old mid new : CoreDriver C K) → mid.sender.end.taken ≡ old.sender.end.taken
     → mid.timed.core ≡ old.timed.core → WorkWent machine mid new → WorkWent machine old new
-went_from {C} {K} machine old mid new taken core went = elim went [
+trace_from {C} {K} machine old mid new taken core trace = elim trace [
   | inl t ↦ inl (t.0, t.1 ∙ ap (λ (steps : List (ℕ × Step)). steps ++ t.0 ∷ []) taken)
   | inr more ↦ inr (elim more [
     | inl h ↦ inl (record { outcome = h.outcome; step = rw core at h.step })

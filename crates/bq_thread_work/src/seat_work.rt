@@ -4,7 +4,7 @@ ghost use Rattle.bq_seat.specs.Past.{Awaited};
 ghost use Rattle.bq_seat.specs.SeatStands.{awaited};
 ghost use Rattle.bq_line.specs.Tending.{IsDoorServed, IsNewDoor, door_seen, GoesOn, IsPlaced, MayEndAt};
 ghost use Rattle.bq_link.specs.EndStates.{IsSameSeat, WasFull};
-ghost use Rattle.bq_thread_work.specs.Ends.{IsNewEnd, EndWent, LinkWent, Looks};
+ghost use Rattle.bq_thread_work.specs.Ends.{IsNewEnd, EndTrace, LinkTrace, Polls};
 ghost use Rattle.bq_job.specs.promise.ControlDid.{IsControlDone};
 ghost use Rattle.bq_job.specs.promise.History.{is_tick};
 ghost use Rattle.bq_job.specs.declared.step.Step.{Step};
@@ -15,7 +15,7 @@ ghost use Rattle.bq_link.specs.Submissions.{MaySubmit};
 
 use bq_job::{Request, Step};
 use bq_line::Door;
-use bq_line::attendant::{Attendant, LinePlace, Link, Progress};
+use bq_line::attendant::{Attendant, Link, Progress, SeatPhase};
 use bq_line::buffers::Buffers;
 use bq_line::control::{ControlLink, submit_control};
 use bq_line::control_line::ControlInput;
@@ -61,7 +61,7 @@ pub fn seat_work<R: Wait, L: Line + Drop, D: Door<Line = L> + Drop>(
     let mut door = door;
     let mut attendant = Attendant {
         machine,
-        place: LinePlace::Between,
+        phase: SeatPhase::Between,
     };
     let mut buffers = Buffers::new();
     let mut pace = Pace::new();
@@ -247,7 +247,7 @@ pub struct SeatLink<'a, R> {
 impl<'a, R: Wait> Link for SeatLink<'a, R> {
     ghost is_ready = { λ l. l.end.now.intake ≡ l.intake.now.id };
 
-    ghost went = { LinkWent };
+    ghost trace = { LinkTrace };
 
     fn submit(&mut self, step: &mut Step) -> bool {
         self.pace = self.pace.after(step);
@@ -255,21 +255,21 @@ impl<'a, R: Wait> Link for SeatLink<'a, R> {
     }
 
     // It may sleep for up to a second, and wakes when an answer arrives.
-    fn mail(&mut self, place: &mut NextAction) -> bool
+    fn mail(&mut self, action: &mut NextAction) -> bool
         requires ready { self.old.end.now.intake ≡ self.old.intake.now.id }
         ensures ready { self.new.end.now.intake ≡ self.new.intake.now.id }
-        ensures went { TakesInPlace LinkWent self.old place.old result place.new self.new }
+        ensures trace { TakesInPlace LinkTrace self.old action.old result action.new self.new }
         // It finds none only if none was known to wait.
         ensures none { result ≡ false → self.old.end.now.waiting ≡ [] }
     {
-        mail_at(self.rt, self.intake, self.end, &mut self.pace, place)
+        mail_at(self.rt, self.intake, self.end, &mut self.pace, action)
     }
 }
 
 impl<'a, R: Wait> ControlLink for SeatLink<'a, R> {
     ghost is_ready = { λ l. l.end.now.intake ≡ l.intake.now.id };
 
-    ghost went = { λ first submitted last. LinkWent first submitted [] last };
+    ghost trace = { λ first submitted last. LinkTrace first submitted [] last };
 
     fn submit(&mut self, mut step: Step) -> Result<(), Step> {
         if submit_at(self.rt, self.intake, self.end, &mut step) {
@@ -296,7 +296,7 @@ fn submit_at<R: Wait, I: IntakeInvariant>(
     requires may { is_tick step.old ≡ false
         → MaySubmit I.was intake.now.places end.old.number step.old }
     ensures intake { end.new.intake ≡ intake.now.id }
-    ensures went { SubmitsInPlace EndWent end.old step.old result step.new end.new }
+    ensures trace { SubmitsInPlace EndTrace end.old step.old result step.new end.new }
     ensures full { result ≡ false → WasFull I.was intake.now.places end.old }
 {
     if matches!(step, Step::Tick) {
@@ -312,24 +312,24 @@ fn mail_at<R: Wait>(
     intake: &Intake<NoTicks>,
     end: &mut SeatEnd,
     pace: &mut Pace,
-    place: &mut NextAction,
+    action: &mut NextAction,
 ) -> bool
-    ensures { Looks end.old place.old result place.new end.new }
+    ensures { Polls end.old action.old result action.new end.new }
 {
     let now = *pace;
     *pace = now.after_look();
     sleep_or_yield(rt, intake, end, now.rest);
-    if look(end, place) {
+    if look(end, action) {
         pace.note_yield(now);
         return true;
     }
     if now.rests() {
         return false;
     }
-    if look_after_yield(intake, end, now.looks, pace, place) {
+    if look_after_yield(intake, end, now.looks, pace, action) {
         return true;
     }
-    look_again(rt, intake, end, now.sleeps, place)
+    look_again(rt, intake, end, now.sleeps, action)
 }
 
 // Sleeps for up to this many milliseconds. If it is 0, a step was just submitted, and it yields to
@@ -353,25 +353,25 @@ fn look_after_yield(
     end: &mut SeatEnd,
     looks: u32,
     pace: &mut Pace,
-    place: &mut NextAction,
+    action: &mut NextAction,
 ) -> bool
-    ensures { Looks end.old place.old result place.new end.new }
+    ensures { Polls end.old action.old result action.new end.new }
 {
     if !intake.are_yields_slow() {
         thread::yield_now();
     }
-    if look(end, place) {
+    if look(end, action) {
         pace.last = Arrival::AfterYield;
         return true;
     }
-    look_for_long(end, looks, pace, place)
+    look_for_long(end, looks, pace, action)
 }
 
 // Polls up to this many times, and notes it if that found an answer.
-fn look_for_long(end: &mut SeatEnd, looks: u32, pace: &mut Pace, place: &mut NextAction) -> bool
-    ensures { Looks end.old place.old result place.new end.new }
+fn look_for_long(end: &mut SeatEnd, looks: u32, pace: &mut Pace, action: &mut NextAction) -> bool
+    ensures { Polls end.old action.old result action.new end.new }
 {
-    let found = look_often(end, looks, place);
+    let found = look_often(end, looks, action);
     if found {
         pace.last = Arrival::WhilePolling;
     }
@@ -385,48 +385,48 @@ fn look_again<R: Wait>(
     intake: &Intake<NoTicks>,
     end: &mut SeatEnd,
     sleeps: bool,
-    place: &mut NextAction,
+    action: &mut NextAction,
 ) -> bool
-    ensures { Looks end.old place.old result place.new end.new }
+    ensures { Polls end.old action.old result action.new end.new }
 {
     let most = if sleeps { FIRST_REST } else { 0 };
     end.wait(rt, intake, Duration::from_millis(most));
-    look(end, place)
+    look(end, action)
 }
 
 // Polls an end up to this many times, and at least once.
-fn look_often(end: &mut SeatEnd, looks: u32, place: &mut NextAction) -> bool
-    ensures { Looks end.old place.old result place.new end.new }
+fn look_often(end: &mut SeatEnd, looks: u32, action: &mut NextAction) -> bool
+    ensures { Polls end.old action.old result action.new end.new }
 {
     for _ in 1..looks {
         if end.has_mail() {
-            take_mail_to(end, place);
+            take_mail_to(end, action);
             return true;
         }
         spin_loop();
     }
-    look(end, place)
+    look(end, action)
 }
 
 // Polls an end once.
-fn look(end: &mut SeatEnd, place: &mut NextAction) -> bool
-    ensures { Looks end.old place.old result place.new end.new }
+fn look(end: &mut SeatEnd, action: &mut NextAction) -> bool
+    ensures { Polls end.old action.old result action.new end.new }
 {
     if !end.has_mail() {
         return false;
     }
-    take_mail_to(end, place);
+    take_mail_to(end, action);
     true
 }
 
 // Takes the oldest answer, which is known to wait, as an action that writes it. Not inlined, because
 // it reserves and initializes room for answers, which a poll that finds none does not need.
 #[inline(never)]
-fn take_mail_to(end: &mut SeatEnd, place: &mut NextAction)
+fn take_mail_to(end: &mut SeatEnd, action: &mut NextAction)
     requires { 0 < length end.old.waiting }
-    ensures { TakesInPlace EndWent end.old place.old true place.new end.new }
+    ensures { TakesInPlace EndTrace end.old action.old true action.new end.new }
 {
-    place.write(end.take_mail());
+    action.write(end.take_mail());
 }
 
 /// Does one action of a seat that attends to a door, at its end of the links. Returns what moved or
@@ -442,15 +442,15 @@ pub fn attend_at<R: Wait, L: Line + Drop, D: Door<Line = L>>(
     pace: &mut Pace,
 ) -> Progress
     requires intake { end.old.intake ≡ intake.now.id }
-    requires placed { IsPlaced attendant.old.place
+    requires placed { IsPlaced attendant.old.phase
         (door_seen D.Door door.old) }
     ensures same { IsSameSeat end.old end.new }
-    // The result is one that this place can have. Unless something moved, the seat submitted
+    // The result is one that this phase can have. Unless something moved, the seat submitted
     // nothing and took nothing.
-    ensures progress { MayEndAt result attendant.old.place }
-    ensures still { (result ≡ Progress.Moved → ⊥) → EndWent end.old [] [] end.new }
-    ensures went { let at = door_seen D.Door in
-        GoesOn EndWent end.old end.new L.seen attendant.old (at door.old) attendant.new (at door.new) }
+    ensures progress { MayEndAt result attendant.old.phase }
+    ensures still { (result ≡ Progress.Moved → ⊥) → EndTrace end.old [] [] end.new }
+    ensures trace { let at = door_seen D.Door in
+        GoesOn EndTrace end.old end.new L.seen attendant.old (at door.old) attendant.new (at door.new) }
     ensures door { (first : D) → D.same first door.old → D.same first door.new }
 {
     let mut link = SeatLink {
@@ -477,7 +477,7 @@ pub fn control_at<R: Wait, I: ControlInput>(
     ensures read { IsReadToEnd (I.remaining control) (I.remaining result) (I.seen result).text (I.seen result).failed }
     ensures fault { (I.seen result).failed ≡ true → I.may_fail control ≡ true }
     ensures done { (submitted : List Step) × IsControlDone (I.seen result).text (I.seen result).failed submitted
-        × EndWent end.old submitted [] end.new }
+        × EndTrace end.old submitted [] end.new }
 {
     // The core sends it no answers, and it does not poll for any.
     let mut link = SeatLink {

@@ -1,9 +1,9 @@
 //! The visits of a round: the actions that a visited seat does without waiting, before other seats
 //! have their turn.
 ghost use Rattle.std.specs.Prelude.{◌≡◌, ◌-◌, ◌&&◌, not, true, false, IsNone};
-ghost use Rattle.bq_event_loop.specs.Visits.{actions_of, cost_of, extent_in, is_over_after, left_after, only_writes, turn_of};
+ghost use Rattle.bq_event_loop.specs.Visits.{actions_of, cost_of, is_over_after, left_after, only_writes, task_in, turn_of};
 
-use crate::turns::{Extent, Stands, Turn};
+use crate::turns::{Stands, Task, Turn};
 use bq_line::attendant::Progress;
 
 /// The largest number of actions in a visit. A batch of commands that came together is mostly served
@@ -53,7 +53,7 @@ impl Part {
 
 /// How much a visit may do.
 #[derive(Clone, Copy)]
-pub enum Share {
+pub enum VisitLimit {
     /// Up to 64 commands, until they have taken long.
     Commands,
     /// A single command.
@@ -62,14 +62,14 @@ pub enum Share {
     OneAnswer,
 }
 
-impl Share {
+impl VisitLimit {
     // Returns how many actions the visit may do.
     fn actions(self) -> u32
         ensures { result ≡ actions_of self }
     {
         match self {
-            Share::OneCommand => COMMAND,
-            Share::Commands | Share::OneAnswer => MOST,
+            VisitLimit::OneCommand => COMMAND,
+            VisitLimit::Commands | VisitLimit::OneAnswer => MOST,
         }
     }
 
@@ -77,7 +77,7 @@ impl Share {
     fn only_writes(self) -> bool
         ensures { result ≡ only_writes self }
     {
-        matches!(self, Share::OneAnswer)
+        matches!(self, VisitLimit::OneAnswer)
     }
 }
 
@@ -113,19 +113,19 @@ pub struct Visit {
 
 impl Visit {
     /// Returns a visit of this seat that begins.
-    pub fn new(seat: usize, part: Part, share: Share) -> Visit
+    pub fn new(seat: usize, part: Part, limit: VisitLimit) -> Visit
         ensures seat { result.seat ≡ seat }
         ensures part { result.part ≡ part }
-        ensures left { result.left ≡ actions_of share }
+        ensures left { result.left ≡ actions_of limit }
         ensures time { result.time ≡ 200 }
-        ensures over { result.is_over ≡ only_writes share }
+        ensures over { result.is_over ≡ only_writes limit }
     {
         Visit {
             seat,
             part,
-            left: share.actions(),
+            left: limit.actions(),
             time: LONGEST,
-            is_over: share.only_writes(),
+            is_over: limit.only_writes(),
             last: Progress::Moved,
             unmoved: 0,
         }
@@ -143,7 +143,7 @@ impl Visit {
     pub fn turn(&self) -> Turn
         ensures { result ≡ turn_of self.now }
     {
-        Turn::Serve(self.seat, extent_in(self.is_over, self.part))
+        Turn::Serve(self.seat, task_in(self.is_over, self.part))
     }
 
     /// Notes another turn: the result of its last action, and how many microseconds the command
@@ -240,19 +240,13 @@ impl Visit {
 }
 
 // Returns how much the seat of a visit does in a turn.
-fn extent_in(is_over: bool, part: Part) -> Extent
-    ensures { result ≡ extent_in is_over part }
+fn task_in(is_over: bool, part: Part) -> Task
+    ensures { result ≡ task_in is_over part }
 {
     match part {
-        Part::Reads => Extent::Read,
-        Part::Steps => Extent::Step,
-        Part::Answers => {
-            if is_over {
-                Extent::Answer
-            } else {
-                Extent::Command
-            }
-        }
+        Part::Reads => Task::Read,
+        Part::Steps => Task::Step,
+        Part::Answers => { if is_over { Task::Answer } else { Task::Command } }
     }
 }
 

@@ -1,6 +1,6 @@
 ghost use Rattle.std.specs.Prelude.{◌≡◌, ◌⊎◌, ◌↔◌, [], IfOk, IsNone, IsSome, OnErr, OnOk, Some, false, true};
 ghost use Rattle.bq_line.specs.Accepts.{most_failures};
-ghost use Rattle.bq_line.specs.Doors.{IfLine, IfOpened, IsLookedFor, IsNoMore, IsNoneFound, IsOpened, MayOpen};
+ghost use Rattle.bq_line.specs.Doors.{IfLine, IfOpened, IsNoMore, IsNoneFound, IsOpened, IsTryOpened, MayOpen};
 ghost use Rattle.bq_line.specs.InAll.{in_all};
 ghost use Rattle.bq_line.specs.Streams.{IsSureLine};
 ghost use Rattle.bq_line.specs.Watched.{IsWatched};
@@ -43,7 +43,7 @@ pub struct ListenDoor<'l, R, T> {
     failures: Failures,
     // True if an accept that does not wait met a shortage since the last connection.
     met_shortage: bool,
-    // True if the listener was set not to wait, which the first look does.
+    // True if the listener was set not to wait, which the first try does.
     never_waits: bool,
     // For proofs only.
     over: LineRecord,
@@ -265,14 +265,14 @@ impl<'l, R: Clock + Eprint, S: Socket + Drop + Send, T: Listen<Stream = S>> Door
         }
     }
 
-    // The first look sets the listener not to wait.
-    fn look<W: Watcher>(
+    // The first try sets the listener not to wait.
+    fn try_open<W: Watcher>(
         &mut self,
         may_have_come: bool,
         watcher: &W,
     ) -> Result<Opening<BufferedLine<Connection<S>>>, DoorFault>
         requires more { MayOpen self.old.is_out self.old.is_at_end }
-        ensures opened { IsLookedFor ⟦<BufferedLine<Connection<S>> as Line>⟧.seen
+        ensures opened { IsTryOpened ⟦<BufferedLine<Connection<S>> as Line>⟧.seen
             self.new.is_out self.new.is_at_end result }
         ensures sure { T.streams_may_fail self.old.listener.now ≡ false
             → IfLine result (IsSureLine ⟦<BufferedLine<Connection<S>> as Line>⟧.lies_over) }
@@ -334,7 +334,7 @@ impl<'l, R: Clock + Eprint, S: Socket + Drop + Send, T: Listen<Stream = S>> Door
         Some(self.listener.source())
     }
 
-    // A door that is taken has looked for its client, unless it waits for clients.
+    // A door that is taken has tried to open a connection, unless it waits for clients.
     fn turn_away(&self) -> TurnedAway {
         if !self.never_waits {
             return TurnedAway::Waits;

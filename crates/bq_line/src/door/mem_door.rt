@@ -3,7 +3,7 @@ ghost use Rattle.std.specs.Prelude.{◌↔◌, IfErr, IfOk, IsNone, Ok, false, t
 ghost use Rattle.std.specs.List.{All};
 ghost use Rattle.std.specs.Option.{option_to_list};
 ghost use Rattle.std.specs.Vec.{vec_capacity};
-ghost use Rattle.bq_line.specs.Doors.{IfLine, IfOpened, IsLookedFor, IsOpened, MayOpen};
+ghost use Rattle.bq_line.specs.Doors.{IfLine, IfOpened, IsOpened, IsTryOpened, MayOpen};
 ghost use Rattle.bq_line.specs.Streams.{IsSureLine};
 ghost use Rattle.bq_line.specs.MemDoors.{IsFresh, line_over};
 
@@ -140,13 +140,13 @@ impl Door for MemDoor {
     }
 
     // Its connections are never waited for, so nothing is watched.
-    fn look<W: Watcher>(
+    fn try_open<W: Watcher>(
         &mut self,
         _may_have_come: bool,
         _watcher: &W,
     ) -> Result<Opening<MemLine>, DoorFault>
         requires more { MayOpen self.old.is_out self.old.is_at_end }
-        ensures opened { IsLookedFor ⟦<MemLine as Line>⟧.seen
+        ensures opened { IsTryOpened ⟦<MemLine as Line>⟧.seen
             self.new.is_out self.new.is_at_end result }
         ensures sure { ⟦<MemDoor as Door>⟧.may_fail self.old ≡ false → IfLine result (IsSureLine ⟦<MemLine as Line>⟧.lies_over) }
         ensures over { self.new.over ≡ self.old.over }

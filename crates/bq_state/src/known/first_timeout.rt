@@ -1,10 +1,10 @@
 //! When the first wait times out.
 ghost use Rattle.std.specs.{Option.option_copied, Prelude.{None, fold, ◌≡◌}};
-ghost use Rattle.bq_state.specs.{Dues.with_seat_due, FirstTimeouts.{AreTimeouts, keeps_timeout, timeout_after}, SeatTurns.AreTurnsOf};
-ghost use Rattle.bq_state.specs.WaitingTurns.{at_turn};
+ghost use Rattle.bq_state.specs.{Dues.with_seat_due, FirstTimeouts.{AreTimeouts, keeps_timeout, timeout_after}, SeatWaiters.AreWaitersOf};
+ghost use Rattle.bq_state.specs.WaitingList.{at_waiter};
 
 use crate::known::earlier_of;
-use crate::seats::{self, SeatChange, SeatRecord, Turn};
+use crate::seats::{self, SeatChange, SeatRecord, Waiter};
 use bq_job::Moment;
 
 /// When the first wait times out.
@@ -49,42 +49,42 @@ impl FirstTimeout {
 
     /// Finds it. Only waiting clients are checked.
     #[tactic(auto, using(crate::proofs::DueLemmas::all_there))]
-    pub(crate) fn find(seats: &[SeatRecord], turns: &[Turn]) -> FirstTimeout
-        requires { AreTurnsOf turns.now seats.now }
+    pub(crate) fn find(seats: &[SeatRecord], waiters: &[Waiter]) -> FirstTimeout
+        requires { AreWaitersOf waiters.now seats.now }
         ensures { AreTimeouts result seats.now }
     {
-        if seats::is_some_waiter_gone(seats, turns) {
+        if seats::is_some_waiter_gone(seats, waiters) {
             FirstTimeout::Unknown
         } else {
-            FirstTimeout::Known(first_to_give_up(seats, turns))
+            FirstTimeout::Known(first_to_give_up(seats, waiters))
         }
     }
 }
 
-// Returns the earlier of this moment and the one at which the wait of this turn's client times out.
-fn with_end_of(best: Option<Moment>, seats: &[SeatRecord], turn: Turn) -> Option<Moment>
-    ensures { result ≡ at_turn with_seat_due seats.now best turn }
+// Returns the earlier of this moment and the one at which this waiter's wait times out.
+fn with_end_of(best: Option<Moment>, seats: &[SeatRecord], waiter: Waiter) -> Option<Moment>
+    ensures { result ≡ at_waiter with_seat_due seats.now best waiter }
 {
-    match seats.get(usize::from(turn.1)) {
+    match seats.get(usize::from(waiter.1)) {
         None => best,
         Some(client) => earlier_of(best, client.gives_up_at()),
     }
 }
 
-// Returns when the first wait of the clients with these turns times out.
-fn first_timeout_among(seats: &[SeatRecord], turns: &[Turn]) -> Option<Moment>
-    ensures { result ≡ fold (at_turn with_seat_due seats.now) None turns.now }
+// Returns when the first wait of these waiters times out.
+fn first_timeout_among(seats: &[SeatRecord], waiters: &[Waiter]) -> Option<Moment>
+    ensures { result ≡ fold (at_waiter with_seat_due seats.now) None waiters.now }
 {
-    turns
+    waiters
         .iter()
-        .fold(None, |best, turn| with_end_of(best, seats, *turn))
+        .fold(None, |best, waiter| with_end_of(best, seats, *waiter))
 }
 
 /// Returns when the first wait times out. Only waiting clients are checked.
 #[tactic(auto, using(crate::proofs::DueLemmas::ends_walked))]
-pub fn first_to_give_up(seats: &[SeatRecord], turns: &[Turn]) -> Option<Moment>
-    requires { AreTurnsOf turns.now seats.now }
+pub fn first_to_give_up(seats: &[SeatRecord], waiters: &[Waiter]) -> Option<Moment>
+    requires { AreWaitersOf waiters.now seats.now }
     ensures { result ≡ fold with_seat_due None seats.now }
 {
-    first_timeout_among(seats, turns)
+    first_timeout_among(seats, waiters)
 }

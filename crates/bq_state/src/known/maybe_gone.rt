@@ -4,7 +4,7 @@ ghost use Rattle.bq_state.specs.Leaving.{exists_in, gone_all, gone_of, gone_unle
 ghost use Rattle.bq_state.specs.MaybeGoneTubes.{is_nothing, with_existing, with_gone};
 
 use crate::seats::SeatRecord;
-use crate::tubes::{Share, Tubes};
+use crate::tubes::{Roles, Tubes};
 use bq_job::TubeName;
 use bq_jobs::{Tube, TubeNumber};
 
@@ -81,9 +81,9 @@ impl MaybeGone {
     }
 
     /// Marks each tube as possibly gone that the seat used or watched, and whose counts, without
-    /// this seat, show no job and no client. Only the shares that `what` names matter.
+    /// this seat, show no job and no client. Only the roles in `what` matter.
     #[inline(always)]
-    pub(crate) fn leave(&mut self, tubes: &Tubes, client: Option<&SeatRecord>, what: Share)
+    pub(crate) fn leave(&mut self, tubes: &Tubes, client: Option<&SeatRecord>, what: Roles)
         ensures { self.new ≡ gone_of what tubes.now (option_copied client.entry) self.old }
     {
         let Some(client) = client else {

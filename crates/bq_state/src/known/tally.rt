@@ -3,7 +3,7 @@ ghost use Rattle.std.specs.Prelude.{[], ◌≡◌};
 ghost use Rattle.bq_state.specs.Tallies.{has_jobs, tally_entered, tally_left, tally_of};
 
 use bq_job::{JobState, Pri};
-use bq_jobs::Standing;
+use bq_jobs::PriAndState;
 
 /// Ready jobs with a priority below this are urgent.
 const URGENT_BELOW: Pri = 1024;
@@ -41,7 +41,7 @@ impl Tally {
     }
 
     /// Counts a job in this state.
-    pub(crate) fn enter(&mut self, at: Standing)
+    pub(crate) fn enter(&mut self, at: PriAndState)
         ensures { self.new ≡ tally_entered at self.old }
     {
         match at.state {
@@ -58,7 +58,7 @@ impl Tally {
     }
 
     /// Stops counting a job in this state.
-    pub(crate) fn leave(&mut self, at: Standing)
+    pub(crate) fn leave(&mut self, at: PriAndState)
         ensures { self.new ≡ tally_left at self.old }
     {
         match at.state {

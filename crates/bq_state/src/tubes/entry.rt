@@ -1,16 +1,16 @@
 //! What is kept of a tube, and how the entry of a name is changed in place.
 ghost use Rattle.std.specs.Prelude.{[], is_some, ◌≡◌};
 ghost use Rattle.bq_job.specs.machine.TubeCommands.{with_pause};
-ghost use Rattle.bq_state.specs.{Crowds.{crowd_with, crowd_without, has_seats, is_none, no_crowd, recounted}, KeptTubes.ended};
-ghost use Rattle.bq_state.specs.KeptTubes.{fresh_entry, kept_after, kept_changed, kept_moved};
-ghost use Rattle.bq_state.specs.{KeptTubes.{kept_recounted, kept_removed, kept_with, record_of}, PauseEnds.end_of};
+ghost use Rattle.bq_state.specs.{Crowds.{crowd_with, crowd_without, has_seats, is_none, no_crowd, recounted}, TubesSeen.ended};
+ghost use Rattle.bq_state.specs.TubesSeen.{entry_after, entry_changed, entry_moved, fresh_entry};
+ghost use Rattle.bq_state.specs.{PauseEnds.end_of, TubesSeen.{entry_recounted, entry_with, entry_without, record_of}};
 
 use super::pauses::PauseEnd;
 use crate::job_store::later;
 use crate::known::Tally;
 use bq_index::Edit;
 use bq_job::{Job, Moment};
-use bq_jobs::{Moved, Removed, Standing, TubeNumber};
+use bq_jobs::{JobMove, JobRemoval, PriAndState, TubeNumber};
 use std::marker::Model;
 
 /// A pause of a tube.
@@ -58,13 +58,13 @@ pub struct TubeEntry {
 }
 
 impl Model for TubeEntry {
-    ghost use Rattle.bq_state.specs.KeptTubes.{KeptTube};
+    ghost use Rattle.bq_state.specs.TubesSeen.{EntrySeen};
 
-    ghost Value = { KeptTube };
+    ghost Value = { EntrySeen };
 
-    ghost use Rattle.bq_state.specs.TubeView.{kept_of};
+    ghost use Rattle.bq_state.specs.TubeView.{entry_seen};
 
-    ghost view = { kept_of };
+    ghost view = { entry_seen };
 }
 
 /// A change of a tube.
@@ -156,7 +156,7 @@ impl TubeEntry {
 
     fn set_pause(&mut self, seconds: u32, moment: Moment)
         ensures { self.new
-            ≡ kept_after (with_pause seconds moment (record_of [] self.old)) self.old }
+            ≡ entry_after (with_pause seconds moment (record_of [] self.old)) self.old }
     {
         self.pauses = self.pauses.saturating_add(1);
         self.pause = if seconds == 0 {
@@ -170,7 +170,7 @@ impl TubeEntry {
     }
 
     pub(crate) fn change(&mut self, what: TubeChange)
-        ensures { self.new ≡ kept_changed what self.old }
+        ensures { self.new ≡ entry_changed what self.old }
     {
         match what {
             TubeChange::CountPut => self.puts = self.puts.saturating_add(1),
@@ -181,33 +181,33 @@ impl TubeEntry {
 
     /// Counts a new job.
     pub(crate) fn add_job(&mut self, job: &Job)
-        ensures { self.new ≡ kept_with job.now self.old }
+        ensures { self.new ≡ entry_with job.now self.old }
     {
         self.change(TubeChange::CountPut);
-        self.tally.enter(Standing::of(job));
+        self.tally.enter(PriAndState::of(job));
     }
 
     /// Stops counting the job of this report, and counts its deletion.
-    pub(crate) fn count_removal(&mut self, removed: &Removed)
-        ensures { self.new ≡ kept_removed removed.now self.old }
+    pub(crate) fn count_removal(&mut self, removed: &JobRemoval)
+        ensures { self.new ≡ entry_without removed.now self.old }
     {
         self.change(TubeChange::CountDelete);
         self.tally.leave(removed.at);
     }
 
     /// A job of the tube changed its state.
-    pub(crate) fn move_job(&mut self, moved: &Moved)
-        ensures { self.new ≡ kept_moved moved.now self.old }
+    pub(crate) fn move_job(&mut self, moved: &JobMove)
+        ensures { self.new ≡ entry_moved moved.now self.old }
     {
         self.tally.leave(moved.from);
         self.tally.enter(moved.to);
     }
 
-    /// Adds the share of a seat to the counts, or removes it.
-    pub(crate) fn recount(&mut self, moving: Moving, share: Share)
-        ensures { self.new ≡ kept_recounted moving share self.old }
+    /// Counts a client with these roles, or stops counting it.
+    pub(crate) fn recount(&mut self, how: AddOrRemove, roles: Roles)
+        ensures { self.new ≡ entry_recounted how roles self.old }
     {
-        self.crowd.recount(moving, share);
+        self.crowd.recount(how, roles);
     }
 
     pub(crate) fn fire_timer(&mut self, moment: Moment)
@@ -223,7 +223,7 @@ impl TubeEntry {
 }
 
 impl Edit<TubeEntry, ()> for TubeChange {
-    ghost edited = { kept_changed };
+    ghost edited = { entry_changed };
 
     ghost told = { λ _ _. tt };
 
@@ -248,26 +248,26 @@ impl Edit<TubeEntry, ()> for PauseTimer {
     }
 }
 
-/// The share of a seat is added to the counts of a tube, or removed.
+/// A client with these roles is counted at a tube, or no longer counted.
 #[derive(Clone, Copy)]
-pub(crate) struct ShareChange {
-    pub(crate) moving: Moving,
-    pub(crate) share: Share,
+pub(crate) struct RolesChange {
+    pub(crate) how: AddOrRemove,
+    pub(crate) roles: Roles,
 }
 
-impl Edit<TubeEntry, ()> for ShareChange {
-    ghost edited = { λ c. kept_recounted c.moving c.share };
+impl Edit<TubeEntry, ()> for RolesChange {
+    ghost edited = { λ c. entry_recounted c.how c.roles };
 
     ghost told = { λ _ _. tt };
 
     fn edit(&self, entry: &mut TubeEntry) {
-        entry.recount(self.moving, self.share);
+        entry.recount(self.how, self.roles);
     }
 }
 
 // A new job is counted in its tube.
 impl Edit<TubeEntry, ()> for Job {
-    ghost edited = { kept_with };
+    ghost edited = { entry_with };
 
     ghost told = { λ _ _. tt };
 
@@ -278,8 +278,8 @@ impl Edit<TubeEntry, ()> for Job {
 
 // A removed job is no longer counted in its tube, and its deletion is. This returns whether a
 // client uses or watches the tube.
-impl Edit<TubeEntry, bool> for Removed {
-    ghost edited = { kept_removed };
+impl Edit<TubeEntry, bool> for JobRemoval {
+    ghost edited = { entry_without };
 
     ghost told = { λ _ t. has_seats t.crowd };
 
@@ -290,8 +290,8 @@ impl Edit<TubeEntry, bool> for Removed {
 }
 
 // A changed job is counted in its new state.
-impl Edit<TubeEntry, ()> for Moved {
-    ghost edited = { kept_moved };
+impl Edit<TubeEntry, ()> for JobMove {
+    ghost edited = { entry_moved };
 
     ghost told = { λ _ _. tt };
 
@@ -300,9 +300,9 @@ impl Edit<TubeEntry, ()> for Moved {
     }
 }
 
-/// How a seat counts at a tube: whether its client uses it, watches it, and waits for its jobs.
+/// The roles of a client at a tube: whether it uses it, watches it, and waits for its jobs.
 #[derive(Clone, Copy)]
-pub(crate) struct Share {
+pub(crate) struct Roles {
     pub(crate) using: bool,
     pub(crate) watching: bool,
     pub(crate) waiting: bool,
@@ -317,15 +317,15 @@ pub struct Crowd {
     pub waiting: u64,
 }
 
-/// Whether a share is added or removed.
+/// Whether a client is counted at a tube, or no longer counted.
 #[derive(Clone, Copy)]
-pub(crate) enum Moving {
-    Comes,
-    Goes,
+pub(crate) enum AddOrRemove {
+    Add,
+    Remove,
 }
 
-impl Share {
-    /// Returns true if the share is empty.
+impl Roles {
+    /// Returns true if there is no role.
     pub(crate) fn is_none(self) -> bool
         ensures { result ≡ is_none self }
     {
@@ -352,41 +352,41 @@ impl Crowd {
         self.using > 0 || self.watching > 0
     }
 
-    fn add(&mut self, share: Share)
-        ensures { self.new ≡ crowd_with share self.old }
+    fn add(&mut self, roles: Roles)
+        ensures { self.new ≡ crowd_with roles self.old }
     {
-        if share.using {
+        if roles.using {
             self.using = self.using.saturating_add(1);
         }
-        if share.watching {
+        if roles.watching {
             self.watching = self.watching.saturating_add(1);
         }
-        if share.waiting {
+        if roles.waiting {
             self.waiting = self.waiting.saturating_add(1);
         }
     }
 
-    fn remove(&mut self, share: Share)
-        ensures { self.new ≡ crowd_without share self.old }
+    fn remove(&mut self, roles: Roles)
+        ensures { self.new ≡ crowd_without roles self.old }
     {
-        if share.using {
+        if roles.using {
             self.using = self.using.saturating_sub(1);
         }
-        if share.watching {
+        if roles.watching {
             self.watching = self.watching.saturating_sub(1);
         }
-        if share.waiting {
+        if roles.waiting {
             self.waiting = self.waiting.saturating_sub(1);
         }
     }
 
-    /// Adds a seat's share to the counts, or removes it.
-    pub(crate) fn recount(&mut self, moving: Moving, share: Share)
-        ensures { self.new ≡ recounted moving share self.old }
+    /// Counts a client with these roles, or stops counting it.
+    pub(crate) fn recount(&mut self, how: AddOrRemove, roles: Roles)
+        ensures { self.new ≡ recounted how roles self.old }
     {
-        match moving {
-            Moving::Comes => self.add(share),
-            Moving::Goes => self.remove(share),
+        match how {
+            AddOrRemove::Add => self.add(roles),
+            AddOrRemove::Remove => self.remove(roles),
         }
     }
 }

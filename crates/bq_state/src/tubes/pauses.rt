@@ -2,8 +2,8 @@
 ghost use Rattle.std.specs.{Cmp.Lexicographic.slice_cmp, Map.remove_entry, Option.{ForSome, option_map}, Ordering.nat_cmp};
 ghost use Rattle.std.specs.Prelude.{IfOk, None, Some, if◌then◌else◌, is_some, length, map, true, ◌+◌, ◌<◌, ◌≡◌, ◌≤◌};
 ghost use Rattle.bq_index.specs.Order.{InOrder};
-ghost use Rattle.bq_state.specs.KeptTubes.{crowd_kept, edited_at, is_named_at, kept_changed};
-ghost use Rattle.bq_state.specs.{KeptTubes.{record_at, records_ended, tally_kept}, PauseEnds.{AreEnds, AreTold, end_cmp, end_of}};
+ghost use Rattle.bq_state.specs.TubesSeen.{edited_at, entry_changed, entry_crowd, is_named_at};
+ghost use Rattle.bq_state.specs.{PauseEnds.{AreEnds, AreTold, end_cmp, end_of}, TubesSeen.{entry_tally, record_at, records_ended}};
 ghost use Rattle.bq_state.specs.PauseEnds.{first_end, found_end, has_end, if_over, is_end_in, number_at, pause_at, paused_count};
 ghost use Rattle.bq_state.specs.PauseEnds.{with_end, without_end};
 
@@ -45,7 +45,7 @@ pub(crate) fn pause(
 )
     requires { AreEnds kept.old ends.old }
     ensures numbers { kept.new.numbers ≡ kept.old.numbers }
-    ensures kept { kept.new.entries ≡ edited_at name.now (kept_changed what) kept.old.entries }
+    ensures kept { kept.new.entries ≡ edited_at name.now (entry_changed what) kept.old.entries }
     ensures ends { AreEnds kept.new ends.new }
     ensures ordered { InOrder (slice_cmp nat_cmp) kept.old.entries }
 {
@@ -79,8 +79,8 @@ fn end_pause(kept: &mut TubeTable<TubeEntry>, ends: &mut PauseEnds, end: PauseEn
     ensures numbers { kept.new.numbers ≡ kept.old.numbers }
     ensures records { records_ended moment kept.new.entries
         ≡ records_ended moment kept.old.entries }
-    ensures tallies { map tally_kept kept.new.entries ≡ map tally_kept kept.old.entries }
-    ensures crowds { map crowd_kept kept.new.entries ≡ map crowd_kept kept.old.entries }
+    ensures tallies { map entry_tally kept.new.entries ≡ map entry_tally kept.old.entries }
+    ensures crowds { map entry_crowd kept.new.entries ≡ map entry_crowd kept.old.entries }
     ensures fewer { paused_count kept.new.entries < paused_count kept.old.entries }
     ensures ends { AreEnds kept.new ends.new }
 {
@@ -95,8 +95,8 @@ pub(crate) fn end_all(kept: &mut TubeTable<TubeEntry>, ends: &mut PauseEnds, mom
     requires { AreEnds kept.old ends.old }
     ensures numbers { kept.new.numbers ≡ kept.old.numbers }
     ensures records { map record_at kept.new.entries ≡ records_ended moment kept.old.entries }
-    ensures tallies { map tally_kept kept.new.entries ≡ map tally_kept kept.old.entries }
-    ensures crowds { map crowd_kept kept.new.entries ≡ map crowd_kept kept.old.entries }
+    ensures tallies { map entry_tally kept.new.entries ≡ map entry_tally kept.old.entries }
+    ensures crowds { map entry_crowd kept.new.entries ≡ map entry_crowd kept.old.entries }
     ensures ends { AreEnds kept.new ends.new }
 {
     while let Some(end) = first_over(ends, moment) {

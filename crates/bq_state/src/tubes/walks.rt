@@ -3,8 +3,8 @@ ghost use Rattle.std.specs.{Cmp.Lexicographic.slice_cmp, List.list_any, Map.{loo
 ghost use Rattle.std.specs.Prelude.{false, filter, find, map, ◌≡◌};
 ghost use Rattle.bq_index.specs.Order.{InOrder};
 ghost use Rattle.bq_job.specs.reading.TubeName.{is_same_name};
-ghost use Rattle.bq_state.specs.KeptTubes.{is_alive_at, is_alive_with, is_gone_by, is_gone_from, is_named_at, record_at, tally_kept};
-ghost use Rattle.bq_state.specs.{KeptTubes.{with_alive, without_gone}, PauseEnds.AreEnds, Tallies.tallies_of};
+ghost use Rattle.bq_state.specs.TubesSeen.{entry_tally, is_alive_at, is_alive_with, is_gone_by, is_gone_from, is_named_at, record_at};
+ghost use Rattle.bq_state.specs.{PauseEnds.AreEnds, Tallies.tallies_of, TubesSeen.{with_alive, without_gone}};
 
 use super::entry::TubeEntry;
 use super::pauses::{self, PauseEnds};
@@ -71,7 +71,7 @@ struct GoneTube;
 
 impl Test<TubeName, TubeEntry> for GoneTube {
     ghost use Rattle.std.specs.Prelude.{not};
-    ghost use Rattle.bq_state.specs.KeptTubes.{is_alive_with};
+    ghost use Rattle.bq_state.specs.TubesSeen.{is_alive_with};
 
     ghost passed = { λ _ n t. not (is_alive_with n t) };
 
@@ -119,7 +119,7 @@ pub(crate) fn forget_one(
 )
     requires ends { AreEnds catalog.old ends.old }
     requires numbered { jobs.old.tubes ≡ catalog.old.numbers }
-    requires tallies { map tally_kept catalog.old.entries
+    requires tallies { map entry_tally catalog.old.entries
         ≡ tallies_of jobs.old.jobs (map record_at catalog.old.entries) }
     ensures ends { AreEnds catalog.new ends.new }
     ensures kept { catalog.new.entries ≡ without_gone tube.now catalog.old.entries }
@@ -156,7 +156,7 @@ pub(crate) fn forget_all(
 )
     requires ends { AreEnds catalog.old ends.old }
     requires numbered { jobs.old.tubes ≡ catalog.old.numbers }
-    requires tallies { map tally_kept catalog.old.entries
+    requires tallies { map entry_tally catalog.old.entries
         ≡ tallies_of jobs.old.jobs (map record_at catalog.old.entries) }
     ensures ends { AreEnds catalog.new ends.new }
     ensures kept { catalog.new.entries ≡ filter is_alive_at catalog.old.entries }

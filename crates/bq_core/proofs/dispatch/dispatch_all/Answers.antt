@@ -2,7 +2,7 @@ use Rattle.std.proofs.{Common.{ap, arith, subst, ◌<◌}, lemmas.Grind.common_s
 use Rattle.bq_core.proofs.{AskLemmas.{asks_more, asks_none, asks_then}, CostLemmas.{handed_stop, no_shorter, one_longer, one_more_turn}}
 use Rattle.bq_core.{proofs.{CostLemmas.waited_less, TurnLemmas.{gives_joined, gives_nothing, refused_joined, room_kept}}, specs.Turns.Gives}
 use Rattle.bq_job.specs.{beside.waiting_count, machine.{DispatchTurn, Machine.Machine, has_refused_share}}
-use Rattle.bq_state.specs.CoreParts.{machine_held, machine_of}
+use Rattle.bq_state.specs.CoreParts.{machine_of, machine_of_fields}
 use Rattle.bq_core.proofs.dispatch.dispatch_all.Goals as goal
 
 pub loop-id-init : goal.loop-id-init
@@ -13,7 +13,7 @@ loop-id-preserved c =
     let was = c.loop-id.invariant in
     let found = c.in-Some.ensures in
     let last = machine_of c.hand_out_one.new.state in
-    let same = ap machine_held found.kept.same in
+    let same = ap machine_of_fields found.kept.same in
     let given = subst (λ (x : Machine). Gives DispatchTurn has_refused_share x last c.loop-id.outs c.hand_out_one.new.outs)
     same c.hand_out_one.ensures.given in
     let falls = subst (λ (x : Machine). waiting_count last < waiting_count x) same c.hand_out_one.ensures.fewer in

@@ -1,7 +1,7 @@
 use Rattle.std.{proofs.Common.{None, ap, fold, option_map, refl, sym, ◌∙◌}, specs.List.list_any}
 use Rattle.bq_core.proofs.{DispatchLemmas.{next_offer, offered_is, only_if}, SearchLemmas.{client_waits, counted_there, tube_waits}}
 use Rattle.bq_job.specs.machine.{seat_with}
-use Rattle.bq_jobs.specs.Kept.{ranked}
+use Rattle.bq_jobs.specs.JobsSeen.{ranked}
 use Rattle.bq_state.{proofs.WantedLemmas.none_known, specs.{CoreParts.machine_of, Crowds.is_waiter, Offers.{these, with_offers}}}
 use Rattle.bq_state.specs.WantedJobs.{is_nothing}
 use Rattle.bq_core.proofs.dispatch.next_offer.Goals as goal

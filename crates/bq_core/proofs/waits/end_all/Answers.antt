@@ -1,6 +1,6 @@
 use Rattle.std.proofs.Common.{arith, refl}
 use Rattle.bq_core.proofs.{AskLemmas.{asks_more, asks_then}, TurnLemmas.{gives_joined, room_kept}}
-use Rattle.bq_core.proofs.WaitLemmas.{looked_on, none_left, room_left}
+use Rattle.bq_core.proofs.WaitLemmas.{checked_on, none_left, room_left}
 use Rattle.bq_core.proofs.waits.end_all.Goals as goal
 
 pub end_one-requires-clause-room : goal.end_one-requires-clause-room
@@ -10,8 +10,8 @@ end_one-requires-clause-room c = room_left c.loop-k.state _ c.loop-k.invariant.l
 pub loop-k-preserved : goal.loop-k-preserved
 loop-k-preserved c =
     let was = c.loop-k.invariant in
-    let on = looked_on c.loop-k.state _ was.looked _ _ c.in-Some.ensures.bound c.index.ensures c.in-Some.ensures.least
-    c.loop-k.outs c.end_one.new.outs _ c.end_one.ensures.looked _ c.turn.ensures in
+    let on = checked_on c.loop-k.state _ was.looked _ _ c.in-Some.ensures.bound c.index.ensures c.in-Some.ensures.least
+    c.loop-k.outs c.end_one.new.outs _ c.end_one.ensures.looked _ c.waiter.ensures in
     record {
       given = gives_joined _ _ (λ xs ys. refl) _ _ _ _ _ _ was.given on.0;
       looked = on.1;
@@ -21,8 +21,8 @@ loop-k-preserved c =
     }
 
 pub loop-k-smaller : goal.loop-k-smaller
-loop-k-smaller c = (looked_on c.loop-k.state _ c.loop-k.invariant.looked _ _ c.in-Some.ensures.bound c.index.ensures
-    c.in-Some.ensures.least c.loop-k.outs c.end_one.new.outs _ c.end_one.ensures.looked _ c.turn.ensures).2
+loop-k-smaller c = (checked_on c.loop-k.state _ c.loop-k.invariant.looked _ _ c.in-Some.ensures.bound c.index.ensures
+    c.in-Some.ensures.least c.loop-k.outs c.end_one.new.outs _ c.end_one.ensures.looked _ c.waiter.ensures).2
 
 pub returns-clause-done : goal.returns-clause-done
 returns-clause-done c = none_left c.loop-k.state _ c.loop-k.invariant.looked c.in_default.ensures.least

@@ -1,6 +1,6 @@
 use Rattle.std.proofs.Common.{◌∙◌, arith, subst, sym}
 use Rattle.bq_host.specs.Hubs.{state_of}
-use Rattle.bq_host.proofs.WentLemmas.{new_mails_are}
+use Rattle.bq_host.proofs.TraceLemmas.{new_mails_are}
 use Rattle.bq_event_loop.specs.SoFar.{Beginning}
 use Rattle.bq_event_loop.proofs.RowLemmas.{same_selves, tended_at_first}
 use Rattle.bq_event_loop.proofs.SoFarLemmas.{serving_first, serving_since}

@@ -12,7 +12,7 @@ pub returns : goal.returns
 returns g c =
     let row = c.args.row.now in
     let ready = c.requires.ready in
-    let goes = c.attend.ensures.went in
+    let goes = c.attend.ensures.trace in
     let seat_is = c.index_mut.ensures.value in
     let door_is = c.index_mut-2.ensures.value in
     record {

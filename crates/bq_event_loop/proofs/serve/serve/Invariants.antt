@@ -13,7 +13,7 @@ invariant-loop g l = record {
   serving : IsServing g.K.QueueCore g.C.Clock g.L.Line g.D.Door g.I.ControlInput (began_with g.I.ControlInput l.fn.began) l.core l.row
       l.control;
   known : AreKnownBy g.L.Line g.T.Turns l.turns [] l.row.seats.items l.core.mails.items;
-  woken : l.core.woken ≡ none_waits (length l.core.mails.items);
+  woken : l.core.wake_queue ≡ none_waits (length l.core.mails.items);
   due : IsWaitFor g.K.QueueCore l.news.due l.core;
   free : IsFreeSeat l.news.free l.row.seats.items;
   still : IsStillSeat g.L.Line l.news.still l.row.seats.items l.core.mails.items;

@@ -6,20 +6,20 @@ use Rattle.bq_event_loop.proofs.serve.serve_seat.Goals as goal
 pub returns-then-not-may_act : goal.returns-then-not-may_act
 returns-then-not-may_act g c = search acted_none
 
-pub sort-all-requires : goal.sort-all-requires
-sort-all-requires g c = record { order = c.act_with_buffer-progress.ensures.order }
+pub deliver_all-all-requires : goal.deliver_all-all-requires
+deliver_all-all-requires g c = record { order = c.act_with_buffer-progress.ensures.order }
 
 pub returns-then-not-takes_next : goal.returns-then-not-takes_next
 returns-then-not-takes_next g c =
     let a = c.act_with_buffer-progress.ensures in
-    let sorted = c.sort-all.ensures.went in
+    let delivered = c.deliver_all-all.ensures.trace in
     record {
       acted = record {
-        order = sorted.0;
+        order = delivered.0;
         tended = a.tended;
-        serves = serves_then a.serves (serves_time 0 sorted.1);
+        serves = serves_then a.serves (serves_time 0 delivered.1);
         only = a.only;
-        wakes = wakes_then _ _ _ _ _ _ a.wakes sorted.1.1;
+        wakes = wakes_then _ _ _ _ _ _ a.wakes delivered.1.1;
       };
       between = λ a is within. absurd (c.may_act.ensures.line c.if-not-may_act.false a is);
     }

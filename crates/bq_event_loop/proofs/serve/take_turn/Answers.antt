@@ -12,4 +12,4 @@ pub returns-in-Control-clause-served : goal.returns-in-Control-clause-served
 returns-in-Control-clause-served g c = grind (arith, serves_control)
 
 pub returns-else-is_over-clause-served : goal.returns-else-is_over-clause-served
-returns-else-is_over-clause-served g c = loop_serves (serves_time 0 c.pass_time-news.ensures.went.1)
+returns-else-is_over-clause-served g c = loop_serves (serves_time 0 c.pass_time-news.ensures.trace.1)

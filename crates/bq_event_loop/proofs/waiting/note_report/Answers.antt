@@ -8,5 +8,5 @@ returns-in-Line-clause-known g c = search known_reported
 
 pub returns-in-Line-clause-woken : goal.returns-in-Line-clause-woken
 returns-in-Line-clause-woken g c =
-    subst (λ r. IsToldOf r (g.T.Turns.seats c.args.turns.now) (g.T.Turns.looks c.args.turns.now) (g.T.Turns.listed c.wake.new.self))
+    subst (λ r. IsToldOf r (g.T.Turns.seats c.args.turns.now) (g.T.Turns.tries c.args.turns.now) (g.T.Turns.listed c.wake.new.self))
     (sym c.in-Line.is) c.wake.ensures.woken

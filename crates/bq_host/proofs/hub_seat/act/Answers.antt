@@ -1,5 +1,5 @@
 use Rattle.std.proofs.Common.{subst, sym}
-use Rattle.bq_host.specs.Hubs.{KeepsFresh, WentAt}
+use Rattle.bq_host.specs.Hubs.{HubTrace, KeepsFresh}
 use Rattle.bq_host.proofs.HubSeatLemmas.{link_gone}
 use Rattle.bq_host.proofs.hub_seat.act.Goals as goal
 
@@ -11,7 +11,7 @@ returns-clause-carried g c =
     c.carry_out.new.link c.args.action.now h.0 h.1 h.2 h.3.1 in (
       h.0,
       h.1,
-      subst (WentAt g.K.QueueCore g.C.Clock c.args.seat c.args.hub.now h.0 h.1) (sym (c.hub-1.given.1 (sym p.0))) p.2,
+      subst (HubTrace g.K.QueueCore g.C.Clock c.args.seat c.args.hub.now h.0 h.1) (sym (c.hub-1.given.1 (sym p.0))) p.2,
       h.3,
     )
 

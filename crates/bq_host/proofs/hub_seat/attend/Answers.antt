@@ -8,7 +8,7 @@ returns-clause-still g c h = grind (arith, still_at g.K.QueueCore g.C.Clock _ c.
 
 pub returns-clause-fresh : goal.returns-clause-fresh
 returns-clause-fresh g c =
-    let h = c.go_on.ensures.went in
+    let h = c.go_on.ensures.trace in
     fresh_at g.K.QueueCore g.C.Clock _ c.go_on.new.link _ h.0 h.1 c.hub-1.given.1 h.2
 
 pub returns-clause-refused : goal.returns-clause-refused

@@ -9,13 +9,13 @@ returns-in-Write-clause-carried g c = rw c.in-Write.ensures.action.1 ([], [], re
 
 pub returns-then-mail-clause-carried : goal.returns-then-mail-clause-carried
 returns-then-mail-clause-carried g c =
-    let came = rw c.if-mail.true at c.mail.ensures.went in
+    let came = rw c.if-mail.true at c.mail.ensures.trace in
     rw c.in-PollMail.ensures.action
     ([], came.0 ∷ [], came.2, (refl, refl, (came.0, refl, c.mail-then-mail.ensures.moved came.0 came.1)))
 
 pub returns-else-mail-clause-carried : goal.returns-else-mail-clause-carried
 returns-else-mail-clause-carried g c =
-    let none = rw c.if-mail.false at c.mail.ensures.went in
+    let none = rw c.if-mail.false at c.mail.ensures.trace in
     rw c.in-PollMail.ensures.action ([], [], none.1, (c.expect_more.ensures.seen, refl, (refl, c.nothing_yet.ensures)))
 
 pub returns-in-LineOver-clause-carried : goal.returns-in-LineOver-clause-carried

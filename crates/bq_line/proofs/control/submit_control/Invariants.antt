@@ -6,5 +6,5 @@ invariant-loop g l = record {
   iterator : (goal.iterator-loop g).can_next l.iterator' × (goal.iterator-loop g).is_finite l.iterator';
   ready : g.K.ControlLink.is_ready l.link;
   submitted : Submitted g.I.ControlInput (g.I.ControlInput.remaining l.fn.input) (g.I.ControlInput.may_fail l.fn.input)
-      g.K.ControlLink.went l.fn.link l.link l.steps;
+      g.K.ControlLink.trace l.fn.link l.link l.steps;
 }

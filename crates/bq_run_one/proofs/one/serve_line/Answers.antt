@@ -2,7 +2,7 @@ use Rattle.std.proofs.Common.{[], ◌++◌, refl, sym, subst, arith}
 use Rattle.bq_seat.specs.declared.machine.Action.{Action}
 use Rattle.bq_seat.specs.declared.machine.Action.TheVariants as actions
 use Rattle.bq_host.specs.Hubs.{state_of}
-use Rattle.bq_host.proofs.{HubLemmas.{went_then}, WentLemmas.{new_mails_are, order_new}}
+use Rattle.bq_host.proofs.{HubLemmas.{trace_then}, TraceLemmas.{new_mails_are, order_new}}
 use Rattle.bq_run_one.proofs.AloneLemmas.{IsServingAlone, begins_alone, goes_on_alone, over_alone}
 use Rattle.bq_line.proofs.SeatLemmas.{opened_on}
 use Rattle.bq_job.proofs.JoinLemmas.{line_joined}
@@ -34,8 +34,8 @@ loop-preserved g c =
     let i = c.loop.invariant.serves in
     let h = c.act-progress.ensures.carried in
     let next = c.act-progress.new.hub in
-    let w = went_then g.K.QueueCore g.C.Clock 0 0 c.loop.hub c.pass_time_before.new.hub next [] h.0 [] h.1 refl
-    c.pass_time_before.ensures.went h.2 in
+    let w = trace_then g.K.QueueCore g.C.Clock 0 0 c.loop.hub c.pass_time_before.new.hub next [] h.0 [] h.1 refl
+    c.pass_time_before.ensures.trace h.2 in
     record {
       iterator = (tt, tt);
       serves = (
@@ -47,7 +47,7 @@ loop-preserved g c =
             c.act-progress.new.sent h.0 h.1 i.2 w.0.2 h.3.2,
       );
       stays = λ first over. c.act-progress.ensures.stays first (c.loop.invariant.stays first over);
-      ready = (c.act-progress.ensures.order, omega (arith, w.0.2.went.many, c.loop.invariant.ready.1));
+      ready = (c.act-progress.ensures.order, omega (arith, w.0.2.trace.many, c.loop.invariant.ready.1));
     }
 
 pub returns-in-LineOver-clause-served : goal.returns-in-LineOver-clause-served
@@ -62,7 +62,7 @@ returns-in-LineOver-clause-served g c =
     let seats = c.requires.lone in (
       i.0,
       subst (λ clock. g.C.Clock.given c.args.hub.timed.time.clock i.0 clock) (sym c.into_clock.ensures) i.1,
-      line_joined settings 0 (record { seen = g.L.Line.seen c.loop.line; over = end }) i.0 s.went.history s.went.went.given
+      line_joined settings 0 (record { seen = g.L.Line.seen c.loop.line; over = end }) i.0 s.trace.history s.trace.trace.given
           state.core
           (over_alone settings 0 i.0 state c.loop.machine (g.L.Line.seen c.loop.line) end c.loop.sent s
           (omega (arith, seats)) (new_mails_are settings s.first s.new)),

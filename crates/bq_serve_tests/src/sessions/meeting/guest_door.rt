@@ -94,7 +94,7 @@ impl<'m> Door for GuestDoor<'m> {
         }
     }
 
-    fn look<W: Watcher>(
+    fn try_open<W: Watcher>(
         &mut self,
         _may_have_come: bool,
         _watcher: &W,

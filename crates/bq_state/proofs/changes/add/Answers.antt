@@ -1,5 +1,5 @@
 use Rattle.std.proofs.Common.{◌∙◌}
-use Rattle.bq_jobs.{proofs.Changes.added_within, specs.Kept.with_added}
+use Rattle.bq_jobs.{proofs.Changes.added_within, specs.JobsSeen.with_added}
 use Rattle.bq_state.proofs.{CrowdPlaces.waiters_counted, KnowledgeLemmas.{so_with_job, with_count}, PartsLemmas.entries_of_added}
 use Rattle.bq_state.{proofs.{PartsLemmas.{few_jobs, name_kept_at, recorded}, TubeLemmas.same_entries}, specs.TubeEntries.tube_changed_at}
 use Rattle.bq_state.specs.declared.tubes.entry.TubeChange.TheVariants.{CountPut}

@@ -1,7 +1,7 @@
 use Rattle.std.proofs.Common.{Some, ap, not, sym, ◌==◌, ◌∙◌, ◌≡◌}
 use Rattle.bq_job.{proofs.KeptLemmas.ids_of_filter, specs.machine.job_with}
 use Rattle.bq_index.{proofs.Removed.value_there, specs.Removed.passing}
-use Rattle.bq_jobs.{proofs.{Changes.found_id, Told.told_of}, specs.{Changed.removed_from, declared.job_orders.Removed.Removed}}
+use Rattle.bq_jobs.{proofs.{Changes.found_id, Told.told_of}, specs.{Changed.removed_from, declared.job_orders.JobRemoval.JobRemoval}}
 use Rattle.bq_state.proofs.{CrowdPlaces.seated_by_counts, KnowledgeLemmas.{so_without_job, with_count}, PartsLemmas.entries_of_fewer}
 use Rattle.bq_state.{proofs.PartsLemmas.{has_of_job, recorded}, specs.{Counting.with_removal_counted, JobChanges.passes}}
 use Rattle.bq_state.specs.declared.tubes.entry.TubeChange.TheVariants.{CountDelete}
@@ -36,7 +36,7 @@ returns-clause-after c =
     let p = passes c.args.test in
     let of = told_of removed_from (passing p (job_with id st.jobs.jobs)) c.in-Some.report.1 (sym c.in-Some.ensures.removed) in
     let found : job_with id st.jobs.jobs ≡ Some of.job = sym (value_there p (job_with id st.jobs.jobs) of.job (sym of.there)) in
-    let after = c.count_removal-has_seats.ensures.after ∙ ap (λ (r : Removed). with_removal_counted r st.tubes) of.is in
+    let after = c.count_removal-has_seats.ensures.after ∙ ap (λ (r : JobRemoval). with_removal_counted r st.tubes) of.is in
     rw (
       of.there,
       found_id id st.jobs.jobs of.job found,

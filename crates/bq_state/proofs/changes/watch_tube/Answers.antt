@@ -28,7 +28,7 @@ returns-in-Ok-clause-wanted c s found rests =
     let t = c.index.result.now in
     let is : t ≡ s = (rw c.from-2.ensures at c.index.ensures) ∙ get_or_from_slice_get c.provide_tube.new.state.seats.items c.args.seat s t
     (rw c.in_ok-number.ensures.seats (seat_there _ _ _ c.args.state.now.sound.numbered found)) in
-    rw (c.add_all_if.ensures, c.of_watcher-share.ensures, ap is_waiting is ∙ rests) c.in_ok-number.ensures.wanted
+    rw (c.add_all_if.ensures, c.of_watcher-roles.ensures, ap is_waiting is ∙ rests) c.in_ok-number.ensures.wanted
 
 pub invariant_of-state-clause-sound : goal.invariant_of-state-clause-sound
 invariant_of-state-clause-sound c =

@@ -2,9 +2,9 @@ use Rattle.std.{proofs.{Common.{ap, arith, sym, ◌==◌, ◌∙◌}, lemmas.Gri
 use Rattle.bq_state.proofs.WaitingLemmas.{removed_found, removed_missed}
 use Rattle.bq_state.proofs.waiting.remove.Goals as goal
 
-pub returns-in-Some-clause-turns : goal.returns-in-Some-clause-turns
-returns-in-Some-clause-turns c = grind (arith, common_steps, removed_found)
+pub returns-in-Some-clause-waiters : goal.returns-in-Some-clause-waiters
+returns-in-Some-clause-waiters c = grind (arith, common_steps, removed_found)
 
-pub returns-in_default-clause-turns : goal.returns-in_default-clause-turns
-returns-in_default-clause-turns c = sym (removed_missed _ _
+pub returns-in_default-clause-waiters : goal.returns-in_default-clause-waiters
+returns-in_default-clause-waiters c = sym (removed_missed _ _
     (c.in_default.ensures ∙ ap (position (λ t. t.1 == c.args.number)) c.as_slice.ensures.value))

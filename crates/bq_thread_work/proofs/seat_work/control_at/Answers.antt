@@ -1,5 +1,5 @@
 use Rattle.std.proofs.Common.{refl, subst, sym, []}
-use Rattle.bq_thread_work.specs.Ends.{EndWent}
+use Rattle.bq_thread_work.specs.Ends.{EndTrace}
 use Rattle.bq_thread_work.specs.declared.seat_work.SeatLink.{SeatLink}
 use Rattle.bq_thread_work.proofs.EndLemmas.{end_still}
 use Rattle.bq_thread_work.proofs.seat_work.control_at.Goals as goal
@@ -16,5 +16,5 @@ returns-clause-done g c =
     let p = h.2 first [] (refl, refl, end_still c.args.end.now) in (
       h.0,
       h.1,
-      subst (EndWent c.args.end.now h.0 []) (sym (c.end-1.given.1 (sym p.0))) p.2,
+      subst (EndTrace c.args.end.now h.0 []) (sym (c.end-1.given.1 (sym p.0))) p.2,
     )

@@ -1,6 +1,6 @@
 use Rattle.std.proofs.Common.{refl, arith}
 use Rattle.bq_line.specs.Tending.{attendant, door_seen}
-use Rattle.bq_line.specs.declared.attendant.LinePlace.TheVariants as places
+use Rattle.bq_line.specs.declared.attendant.SeatPhase.TheVariants as phases
 use Rattle.bq_line.proofs.TendingLemmas.{tended_new}
 use Rattle.bq_thread_work.proofs.SeatWorkLemmas.{tended_on}
 use Rattle.bq_thread_work.proofs.seat_work.seat_work.Goals as goal
@@ -9,9 +9,9 @@ pub loop-init : goal.loop-init
 loop-init g c =
     let at = door_seen g.D.Door in
     let size = c.args.machine.reader.max_job_size in
-    let a = attendant c.args.machine places.Between in
+    let a = attendant c.args.machine phases.Between in
     let first = tended_new g.L.Line.seen size a (at c.args.door)
-    (record { place = refl; awaits = c.requires.machine; limit = refl }) c.requires.door in
+    (record { phase = refl; awaits = c.requires.machine; limit = refl }) c.requires.door in
     grind arith
 
 pub loop-preserved : goal.loop-preserved
@@ -22,5 +22,5 @@ loop-preserved g c =
     let before = c.loop.invariant.same in
     let same = c.attend_at-progress.ensures.same in
     let on = tended_on g.L.Line.seen size c.loop.end new.end c.loop.attendant new.attendant (at c.loop.door)
-    (at new.door) c.attend_at-progress.ensures.went c.loop.invariant.tended in
+    (at new.door) c.attend_at-progress.ensures.trace c.loop.invariant.tended in
     grind arith

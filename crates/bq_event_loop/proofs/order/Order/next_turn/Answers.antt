@@ -6,10 +6,10 @@ pub returns-in-Control : goal.returns-in-Control
 returns-in-Control c = rw c.in-Control.is (chooses_more c.control_turn.ensures (inl refl))
 
 pub returns-in-Doors : goal.returns-in-Doors
-returns-in-Doors c = rw c.in-Doors.is (chooses_more c.look_at_next.ensures (inl refl))
+returns-in-Doors c = rw c.in-Doors.is (chooses_more c.try_next_free.ensures (inl refl))
 
-pub returns-in-DoorLook : goal.returns-in-DoorLook
-returns-in-DoorLook c = rw c.in-DoorLook.is (chooses_after c.note_looked.ensures c.look_at_next-in-DoorLook.ensures)
+pub returns-in-DoorTry : goal.returns-in-DoorTry
+returns-in-DoorTry c = rw c.in-DoorTry.is (chooses_after c.note_tried.ensures c.try_next_free-in-DoorTry.ensures)
 
 pub returns-in-Away : goal.returns-in-Away
 returns-in-Away c = rw c.in-Away.is (chooses_more c.begin_visits.ensures (inl refl))
@@ -20,9 +20,9 @@ returns-in-Visits c = rw c.in-Visits.is (chooses_more c.begin_next.ensures (inl 
 pub returns-in-Visit : goal.returns-in-Visit
 returns-in-Visit c = rw c.in-Visit.is (chooses_more c.go_on.ensures (inr refl))
 
-pub returns-in-VisitLook : goal.returns-in-VisitLook
-returns-in-VisitLook c =
-    rw c.in-VisitLook.is (chooses_after c.note_looked-in-VisitLook.ensures c.begin_next-in-VisitLook.ensures)
+pub returns-in-VisitTry : goal.returns-in-VisitTry
+returns-in-VisitTry c =
+    rw c.in-VisitTry.is (chooses_after c.note_tried-in-VisitTry.ensures c.begin_next-in-VisitTry.ensures)
 
 pub returns-in-HandOn : goal.returns-in-HandOn
 returns-in-HandOn c = rw c.in-HandOn.is (chooses_more (chooses_then c.put_back.ensures c.begin_next-in-HandOn.ensures) (inl refl))

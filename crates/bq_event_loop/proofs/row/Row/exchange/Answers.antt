@@ -6,6 +6,6 @@ use Rattle.bq_event_loop.proofs.row.Row.exchange.Goals as goal
 pub returns-then-seat-len : goal.returns-then-seat-len
 returns-then-seat-len g c = record {
   keeps = keeps_set (omega (arith, c.len.ensures, c.if-seat-len.true)) c.requires.tended c.index_mut.ensures.value
-      c.index_mut-then-seat-len.ensures.value c.exchange_at.ensures.went c.exchange_at.ensures.same;
+      c.index_mut-then-seat-len.ensures.value c.exchange_at.ensures.trace c.exchange_at.ensures.same;
   only = changed_one c.exchange_at.new.seat;
 }

@@ -11,7 +11,7 @@ returns-then-seat-len g c =
     let new = c.note_ready.new.self in
     record {
       keeps = keeps_seat below c.requires.tended
-          c.index_mut.ensures.value c.note_ready.ensures.went;
+          c.index_mut.ensures.value c.note_ready.ensures.trace;
       only = changed_one new;
       between = grind (arith, common_steps);
     }

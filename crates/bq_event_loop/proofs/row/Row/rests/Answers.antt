@@ -10,7 +10,7 @@ returns-then-seat-len g c =
     let new = c.rests.new.seat in
     record {
       keeps = keeps_seat below c.requires.tended
-          c.index_mut.ensures.value c.rests.ensures.went;
+          c.index_mut.ensures.value c.rests.ensures.trace;
       only = changed_one new;
       still = λ is mail a. still_there g.L.Line row.seats.items c.args.seat new a mail below (c.rests.ensures.still is mail);
     }

@@ -1,10 +1,10 @@
 use Rattle.std.proofs.Common.{[], refl}
-use Rattle.bq_host.proofs.HubLemmas.{went_then}
+use Rattle.bq_host.proofs.HubLemmas.{trace_then}
 use Rattle.bq_host.proofs.hub.Hub.pass_time.Goals as goal
 
-pub returns-clause-went : goal.returns-clause-went
-returns-clause-went g c = (
-  c.sort-all.ensures.went.0,
-  went_then g.K.QueueCore g.C.Clock 0 0 c.args.self.now c.tick_if_due-ticks.new.self c.sort-all.new.self [] []
-      [] [] refl c.tick_if_due-ticks.ensures.went.1 c.sort-all.ensures.went.1,
+pub returns-clause-trace : goal.returns-clause-trace
+returns-clause-trace g c = (
+  c.deliver_all-all.ensures.trace.0,
+  trace_then g.K.QueueCore g.C.Clock 0 0 c.args.self.now c.tick_if_due-ticks.new.self c.deliver_all-all.new.self [] []
+      [] [] refl c.tick_if_due-ticks.ensures.trace.1 c.deliver_all-all.ensures.trace.1,
 )

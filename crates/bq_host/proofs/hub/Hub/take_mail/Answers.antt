@@ -4,8 +4,8 @@ use Rattle.bq_host.proofs.{MailLemmas.{seat_takes}, TimedRunLemmas.gave_none}
 use Rattle.bq_host.proofs.WakeLemmas.{wakes_taken}
 use Rattle.bq_host.proofs.hub.Hub.take_mail.Goals as goal
 
-pub returns-clause-went : goal.returns-clause-went
-returns-clause-went g c = (
+pub returns-clause-trace : goal.returns-clause-trace
+returns-clause-trace g c = (
   search rules,
   (
     (
@@ -15,7 +15,7 @@ returns-clause-went g c = (
           c.from.ensures (let e = c.from.ensures in let b = c.requires.ready.1 in
           omega arith) c.index_mut.ensures.value c.take_first.ensures.oldest,
     ),
-    wakes_taken c.args.self.now.mails.items c.from.result c.index_mut.result.now c.take_first.new.self _ c.args.self.now.woken
+    wakes_taken c.args.self.now.mails.items c.from.result c.index_mut.result.now c.take_first.new.self _ c.args.self.now.wake_queue
         (let e = c.from.ensures in let b = c.requires.ready.1 in
         omega arith) c.index_mut.ensures.value c.take_first.ensures.oldest,
   ),

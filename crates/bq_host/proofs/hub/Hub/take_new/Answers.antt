@@ -2,25 +2,25 @@ use Rattle.std.proofs.Common.{◌≡◌, ◌∷◌, ◌∙◌, ℕ, List, None, 
 use Rattle.bq_job.specs.machine.Dispatch.{GivenAnswer}
 use Rattle.bq_host.specs.Hubs.{state_of, with_pending}
 use Rattle.bq_host.specs.declared.hub.Hub.{Hub}
-use Rattle.bq_host.proofs.HubLemmas.{went_moved, went_taken}
+use Rattle.bq_host.proofs.HubLemmas.{trace_moved, trace_taken}
 use Rattle.bq_host.proofs.hub.Hub.take_new.Goals as goal
 
-pub returns-in_default-clause-went : goal.returns-in_default-clause-went
-returns-in_default-clause-went g c =
-    grind (arith, went_moved g.K.QueueCore g.C.Clock c.args.seat c.args.self.now c.next_new.new.self None _ _ c.next_new.ensures.rest)
+pub returns-in_default-clause-trace : goal.returns-in_default-clause-trace
+returns-in_default-clause-trace g c =
+    grind (arith, trace_moved g.K.QueueCore g.C.Clock c.args.seat c.args.self.now c.next_new.new.self None _ _ c.next_new.ensures.rest)
 
-pub returns-then-seat-first-clause-went : goal.returns-then-seat-first-clause-went
-returns-then-seat-first-clause-went g c =
+pub returns-then-seat-first-clause-trace : goal.returns-then-seat-first-clause-trace
+returns-then-seat-first-clause-trace g c =
     let pending : Hub _ _ → List GivenAnswer = λ h. (state_of g.K.QueueCore h).pending in
     let old = c.args.self.now in
     let popped = c.next_new.new.self in
     let last = c.note_none_pending.new.self in
-    let moved : last ≡ with_pending None popped.timed.outs.given last.is_sorted old =
-    c.note_none_pending.ensures.rest ∙ ap (λ (h : Hub _ _). record h { is_sorted = last.is_sorted }) c.next_new.ensures.rest in
+    let moved : last ≡ with_pending None popped.timed.outs.given last.all_delivered old =
+    c.note_none_pending.ensures.rest ∙ ap (λ (h : Hub _ _). record h { all_delivered = last.all_delivered }) c.next_new.ensures.rest in
     let same : pending popped ≡ pending last = sym (ap pending c.note_none_pending.ensures.rest) in (
       c.in-Some.answer,
       c.write.ensures,
-      went_taken g.K.QueueCore g.C.Clock c.args.seat c.in-Some.answer old last None _ _ moved c.requires.empty
+      trace_taken g.K.QueueCore g.C.Clock c.args.seat c.in-Some.answer old last None _ _ moved c.requires.empty
           (subst (λ (n : ℕ). pending old ≡ (n, c.in-Some.answer) ∷ pending popped) (sym c.if-seat-first.true) c.in-Some.ensures.pending
           ∙ ap (λ xs. (c.args.seat, c.in-Some.answer) ∷ xs) same),
     )

@@ -1,7 +1,7 @@
 use Rattle.std.proofs.Common.{arith, ◌∙◌, ap, sym}
 use Rattle.bq_jobs.specs.Changed.{with_changed, with_edited}
 use Rattle.bq_jobs.specs.Inside.{jobs_of}
-use Rattle.bq_jobs.specs.Kept.{Kept}
+use Rattle.bq_jobs.specs.JobsSeen.{JobsSeen}
 use Rattle.bq_jobs.proofs.ThreeShelves.{each_moved}
 use Rattle.bq_jobs.proofs.Told.{can_move_group, can_move_timer, jobs_then, nothing_told, shelved_then, unchanged}
 use Rattle.bq_jobs.proofs.job_orders.JobOrders.change.Goals as goal
@@ -12,7 +12,7 @@ returns-in_err-moved-clause-jobs g c =
     let none = nothing_told c.args.id f c.self.inside.by_id.entries (sym c.edit_at.ensures.moved ∙ c.in_err-moved.was) in
     ap jobs_of (c.edit_at.ensures.entries ∙ ap (λ o. with_edited c.args.id f o c.self.inside.by_id.entries) none)
     ∙ unchanged c.args.id f c.self.inside c.self.invariant none
-    ∙ ap (λ (m : Kept). with_changed c.args.id f m.jobs) c.self.view_is
+    ∙ ap (λ (m : JobsSeen). with_changed c.args.id f m.jobs) c.self.view_is
 
 pub shift_places-requires-clause-groups : goal.shift_places-requires-clause-groups
 shift_places-requires-clause-groups g c =
@@ -41,7 +41,7 @@ returns-clause-jobs g c =
     jobs_then c.args.id f c.requires.id c.requires.tube c.self.inside c.self.invariant c.in_ok-moved.moved told
     (record { by_id = c.edit_at.new.by_id; groups = c.shift_places.new.groups; timers = c.shift_places.new.timers })
     c.edit_at.ensures.entries
-    ∙ ap (λ (k : Kept). with_changed c.args.id f k.jobs) c.self.view_is
+    ∙ ap (λ (k : JobsSeen). with_changed c.args.id f k.jobs) c.self.view_is
 
 pub returns-in_err-moved-clause-comparisons : goal.returns-in_err-moved-clause-comparisons
 returns-in_err-moved-clause-comparisons g c =

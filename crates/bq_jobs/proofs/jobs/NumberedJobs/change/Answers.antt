@@ -1,6 +1,6 @@
 use Rattle.std.proofs.Common.{◌∙◌, ap, subst, sym}
 use Rattle.std.specs.Option.{IfSome, option_map}
-use Rattle.bq_jobs.specs.Kept.{Kept}
+use Rattle.bq_jobs.specs.JobsSeen.{JobsSeen}
 use Rattle.bq_jobs.specs.Numbering.{HasNumber}
 use Rattle.bq_jobs.specs.Told.{moved_told}
 use Rattle.bq_jobs.proofs.NamedJobs.{number_moved}
@@ -11,5 +11,5 @@ returns-clause-number g c =
     let k = c.self.inside.tubes.value in
     let told = c.told_of.ensures ∙ ap (option_map (moved_told k)) c.change-moved.ensures.moved in
     let its = number_moved k (g.E.JobEdit.edited c.args.edit.now) c.args.id c.self.inside.orders.jobs c.self.invariant in
-    subst (λ (m : Kept). IfSome c.told_of.result (λ r. HasNumber r.1.tube r.0 m.tubes)) c.self.view_is
+    subst (λ (m : JobsSeen). IfSome c.told_of.result (λ r. HasNumber r.1.tube r.0 m.tubes)) c.self.view_is
     (subst (λ o. IfSome o (λ r. HasNumber r.1.tube r.0 k.numbers)) (sym told) its)

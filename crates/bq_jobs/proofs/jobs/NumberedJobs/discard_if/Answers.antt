@@ -1,7 +1,7 @@
 use Rattle.std.proofs.Common.{ap, subst, sym, ◌∙◌, arith}
 use Rattle.std.proofs.lemmas.Grind.{common_steps}
 use Rattle.std.specs.Option.{IfSome, option_map}
-use Rattle.bq_jobs.specs.Kept.{Kept}
+use Rattle.bq_jobs.specs.JobsSeen.{JobsSeen}
 use Rattle.bq_jobs.specs.Numbering.{HasNumber}
 use Rattle.bq_jobs.specs.Told.{removed_told}
 use Rattle.bq_jobs.proofs.TestedRemovals.{number_removed_if, removes_named_if}
@@ -15,5 +15,5 @@ returns-clause-number g c =
     let k = c.self.inside.tubes.value in
     let told = c.removed_of.ensures ∙ ap (option_map (removed_told k)) c.discard_if-removed.ensures.removed in
     let its = number_removed_if k c.args.id c.self.inside.orders.jobs (g.T.PackedTest.passed c.args.test.now) c.self.invariant in
-    subst (λ (m : Kept). IfSome c.removed_of.result (λ r. HasNumber r.1.tube r.0 m.tubes)) c.self.view_is
+    subst (λ (m : JobsSeen). IfSome c.removed_of.result (λ r. HasNumber r.1.tube r.0 m.tubes)) c.self.view_is
     (subst (λ o. IfSome o (λ r. HasNumber r.1.tube r.0 k.numbers)) (sym told) its)

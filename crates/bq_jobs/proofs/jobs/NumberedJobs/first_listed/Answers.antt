@@ -1,5 +1,5 @@
 use Rattle.std.proofs.Common.{◌≡◌, ◌∙◌, None, ap, arith, option_map, sym}
-use Rattle.bq_jobs.specs.Kept.{Kept, ranked}
+use Rattle.bq_jobs.specs.JobsSeen.{JobsSeen, ranked}
 use Rattle.bq_jobs.specs.Numbering.{number_of}
 use Rattle.bq_jobs.specs.Ranks.{first_in, list_rank}
 use Rattle.bq_jobs.proofs.NamedFirsts.{none_listed}
@@ -13,4 +13,4 @@ returns-in_err-number-clause-rank c =
     let none : number_of name k ≡ None = grind arith in
     let is : c.from_residual.result ≡ None = grind arith in
     is ∙ sym (none_listed k c.self.inside.orders.jobs c.self.invariant name none list)
-    ∙ ap (λ (m : Kept). option_map (ranked (list_rank list)) (first_in list name m.jobs)) c.self.view_is
+    ∙ ap (λ (m : JobsSeen). option_map (ranked (list_rank list)) (first_in list name m.jobs)) c.self.view_is

@@ -4,7 +4,7 @@ use Rattle.std.specs.Cmp.Lexicographic.{slice_cmp}
 use Rattle.std.specs.List.{list_any}
 use Rattle.std.specs.Map.{remove_entry}
 use Rattle.bq_job.specs.reading.TubeName.{is_same_name}
-use Rattle.bq_jobs.specs.Kept.{Kept}
+use Rattle.bq_jobs.specs.JobsSeen.{JobsSeen}
 use Rattle.bq_jobs.proofs.NamedJobs.{named_left, registered_left}
 use Rattle.bq_jobs.proofs.jobs.NumberedJobs.forget.Goals as goal
 
@@ -13,8 +13,8 @@ invariant_of-self c =
     let k = c.self.inside.tubes.value in
     let rows = c.self.inside.orders.jobs in
     let gone = c.args.gone.now in
-    let left = c.requires.left ∙ ap (λ (m : Kept). remove_entry (is_at (slice_cmp nat_cmp gone)) m.tubes) (sym c.self.view_is) in
-    let none = ap (λ (m : Kept). list_any (λ j. is_same_name gone j.tube) m.jobs) c.self.view_is ∙ c.requires.none in
+    let left = c.requires.left ∙ ap (λ (m : JobsSeen). remove_entry (is_at (slice_cmp nat_cmp gone)) m.tubes) (sym c.self.view_is) in
+    let none = ap (λ (m : JobsSeen). list_any (λ j. is_same_name gone j.tube) m.jobs) c.self.view_is ∙ c.requires.none in
     grind (arith, registered_left)
 
 pub returns : goal.returns
@@ -22,6 +22,6 @@ returns c =
     let k = c.self.inside.tubes.value in
     let rows = c.self.inside.orders in
     let gone = c.args.gone.now in
-    let left = c.requires.left ∙ ap (λ (m : Kept). remove_entry (is_at (slice_cmp nat_cmp gone)) m.tubes) (sym c.self.view_is) in
-    let none = ap (λ (m : Kept). list_any (λ j. is_same_name gone j.tube) m.jobs) c.self.view_is ∙ c.requires.none in
+    let left = c.requires.left ∙ ap (λ (m : JobsSeen). remove_entry (is_at (slice_cmp nat_cmp gone)) m.tubes) (sym c.self.view_is) in
+    let none = ap (λ (m : JobsSeen). list_any (λ j. is_same_name gone j.tube) m.jobs) c.self.view_is ∙ c.requires.none in
     grind (arith, named_left)

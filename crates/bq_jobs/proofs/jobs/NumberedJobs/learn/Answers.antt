@@ -1,5 +1,5 @@
 use Rattle.std.proofs.Common.{sym, subst, arith}
-use Rattle.bq_jobs.specs.Kept.{Kept}
+use Rattle.bq_jobs.specs.JobsSeen.{JobsSeen}
 use Rattle.bq_jobs.specs.Numbering.{Extends}
 use Rattle.bq_jobs.proofs.NamedJobs.{named_more, registered_more}
 use Rattle.bq_jobs.proofs.jobs.NumberedJobs.learn.Goals as goal
@@ -8,12 +8,12 @@ pub invariant_of-self : goal.invariant_of-self
 invariant_of-self c =
     let k = c.self.inside.tubes.value in
     let rows = c.self.inside.orders.jobs in
-    let extends = subst (λ (m : Kept). Extends m.tubes c.args.tubes.now.numbers) (sym c.self.view_is) c.requires.extends in
+    let extends = subst (λ (m : JobsSeen). Extends m.tubes c.args.tubes.now.numbers) (sym c.self.view_is) c.requires.extends in
     grind (arith, registered_more)
 
 pub returns : goal.returns
 returns c =
     let k = c.self.inside.tubes.value in
     let rows = c.self.inside.orders in
-    let extends = subst (λ (m : Kept). Extends m.tubes c.args.tubes.now.numbers) (sym c.self.view_is) c.requires.extends in
+    let extends = subst (λ (m : JobsSeen). Extends m.tubes c.args.tubes.now.numbers) (sym c.self.view_is) c.requires.extends in
     grind (arith, named_more)

@@ -1,6 +1,6 @@
 use Rattle.std.proofs.Common.{refl}
 use Rattle.bq_seat.specs.SeatParts.{holding}
-use Rattle.bq_seat.proofs.LooksLemmas.{answered_all, one_unanswered}
+use Rattle.bq_seat.proofs.NextByPastLemmas.{answered_all, one_unanswered}
 use Rattle.bq_seat.proofs.MoveLemmas.{goes_on, turn}
 use Rattle.bq_seat.proofs.OpenLemmas.{handed_in, handed_in_waiting}
 use Rattle.bq_seat.proofs.machine.SeatMachine.came.Goals as goal

@@ -1,5 +1,5 @@
 use Rattle.std.proofs.Common.{refl, true}
-use Rattle.bq_seat.proofs.LooksLemmas.{answered_all, one_unanswered}
+use Rattle.bq_seat.proofs.NextByPastLemmas.{answered_all, one_unanswered}
 use Rattle.bq_seat.proofs.MoveLemmas.{turn}
 use Rattle.bq_seat.proofs.OpenLemmas.{ends_line, tells_end}
 use Rattle.bq_seat.proofs.machine.SeatMachine.end_of_input.Goals as goal

@@ -1,5 +1,5 @@
 use Rattle.std.proofs.Common.{refl}
-use Rattle.bq_seat.proofs.LooksLemmas.{answered_all, one_unanswered}
+use Rattle.bq_seat.proofs.NextByPastLemmas.{answered_all, one_unanswered}
 use Rattle.bq_seat.proofs.MoveLemmas.{nothing_in_polling, stays, turn}
 use Rattle.bq_seat.proofs.machine.SeatMachine.nothing_yet.Goals as goal
 

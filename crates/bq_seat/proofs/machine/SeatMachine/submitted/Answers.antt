@@ -1,5 +1,5 @@
 use Rattle.std.proofs.Common.{refl}
-use Rattle.bq_seat.proofs.LooksLemmas.{behind_close, behind_connect, behind_end, behind_quit, behind_request}
+use Rattle.bq_seat.proofs.NextByPastLemmas.{behind_close, behind_connect, behind_end, behind_quit, behind_request}
 use Rattle.bq_seat.proofs.MoveLemmas.{goes_on, turn}
 use Rattle.bq_seat.proofs.machine.SeatMachine.submitted.Goals as goal
 

@@ -1,5 +1,5 @@
 use Rattle.std.proofs.Common.{refl}
-use Rattle.bq_state.{proofs.{EndMoves.edit_stays, NamedLemmas.job_counted}, specs.KeptTubes.kept_removed}
+use Rattle.bq_state.{proofs.{EndMoves.edit_stays, NamedLemmas.job_counted}, specs.TubesSeen.entry_without}
 use Rattle.bq_state.specs.{TubeEntries.tube_changed, declared.tubes.entry.TubeChange.TheVariants.CountDelete}
 use Rattle.bq_state.proofs.tubes.Tubes.count_removal.Goals as goal
 
@@ -7,6 +7,6 @@ pub returns-clause-after : goal.returns-clause-after
 returns-clause-after c = search job_counted
 
 pub invariant_of-self : goal.invariant_of-self
-invariant_of-self c = edit_stays c.args.removed.now.tube (kept_removed c.args.removed.now) (tube_changed CountDelete) (λ n t. refl)
+invariant_of-self c = edit_stays c.args.removed.now.tube (entry_without c.args.removed.now) (tube_changed CountDelete) (λ n t. refl)
     (λ t. refl) _ _ c.edit_numbered.ensures.ordered c.edit_numbered.ensures.numbers c.edit_numbered.ensures.entries (λ t. refl) _
     c.self.invariant

@@ -1,5 +1,5 @@
 use Rattle.std.proofs.{Common.arith, lemmas.Grind.common_steps}
-use Rattle.bq_state.{proofs.GoneLemmas.{filter_tallied, left_tallied}, specs.KeptTubes.is_alive_at}
+use Rattle.bq_state.{proofs.GoneLemmas.{filter_tallied, left_tallied}, specs.TubesSeen.is_alive_at}
 use Rattle.bq_state.proofs.tubes.Tubes.forget_gone.Goals as goal
 
 pub returns-in-Tube-clause-kept : goal.returns-in-Tube-clause-kept

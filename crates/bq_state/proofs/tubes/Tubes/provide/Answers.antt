@@ -1,5 +1,5 @@
 use Rattle.std.proofs.{Common.arith, lemmas.Grind.common_steps}
-use Rattle.bq_state.{proofs.{EndMoves.ends_provided, NamedLemmas.new_part, TubeLemmas.provided_new}, specs.KeptTubes.record_at}
+use Rattle.bq_state.{proofs.{EndMoves.ends_provided, NamedLemmas.new_part, TubeLemmas.provided_new}, specs.TubesSeen.record_at}
 use Rattle.bq_state.proofs.tubes.Tubes.provide.Goals as goal
 
 pub invariant_of-self-2 : goal.invariant_of-self-2

@@ -1,12 +1,12 @@
 use Rattle.std.proofs.Common.{arith, refl}
 use Rattle.bq_state.proofs.{EndMoves.edit_stays, NamedLemmas.{edit_crowd, edit_same, kept_alike}}
-use Rattle.bq_state.specs.{Crowds.recounted, KeptTubes.kept_recounted}
+use Rattle.bq_state.specs.{Crowds.recounted, TubesSeen.entry_recounted}
 use Rattle.bq_state.proofs.tubes.Tubes.recount.Goals as goal
 
 pub invariant_of-self : goal.invariant_of-self
-invariant_of-self c = edit_stays c.args.name.now (kept_recounted c.args.moving c.args.share) (λ t. t) (λ n t. refl) (λ t. refl) _ _
+invariant_of-self c = edit_stays c.args.name.now (entry_recounted c.args.how c.args.roles) (λ t. t) (λ n t. refl) (λ t. refl) _ _
     c.edit-counted.ensures.ordered c.edit-counted.ensures.numbers c.edit-counted.ensures.entries (λ t. refl) _ c.self.invariant
 
 pub returns : goal.returns
-returns c = let name = c.args.name.now in let f = kept_recounted c.args.moving c.args.share in
-    grind (arith, kept_alike, edit_same name f, edit_crowd name f (recounted c.args.moving c.args.share))
+returns c = let name = c.args.name.now in let f = entry_recounted c.args.how c.args.roles in
+    grind (arith, kept_alike, edit_same name f, edit_crowd name f (recounted c.args.how c.args.roles))

@@ -1,6 +1,6 @@
 use Rattle.std.proofs.Common.{ap, map, refl, ◌∙◌}
 use Rattle.bq_state.proofs.{EndMoves.{over_ends, over_fewer, over_records}, NamedLemmas.{edit_same_crowds, edit_same_tallies}}
-use Rattle.bq_state.specs.KeptTubes.{crowd_kept, tally_kept}
+use Rattle.bq_state.specs.TubesSeen.{entry_crowd, entry_tally}
 use Rattle.bq_state.proofs.tubes.pauses.end_pause.Goals as goal
 
 pub returns-clause-records : goal.returns-clause-records
@@ -12,10 +12,10 @@ returns-clause-fewer c = over_fewer _ _ _ _ _ _ c.requires.ends c.edit-ended.ens
     c.requires.first c.tube_of-tube.ensures.number c.edit-ended.ensures.numbers (rw c.name.ensures at c.edit-ended.ensures.entries)
 
 pub returns-clause-tallies : goal.returns-clause-tallies
-returns-clause-tallies c = ap (map tally_kept) c.edit-ended.ensures.entries ∙ edit_same_tallies _ _ (λ t. refl) _
+returns-clause-tallies c = ap (map entry_tally) c.edit-ended.ensures.entries ∙ edit_same_tallies _ _ (λ t. refl) _
 
 pub returns-clause-crowds : goal.returns-clause-crowds
-returns-clause-crowds c = ap (map crowd_kept) c.edit-ended.ensures.entries ∙ edit_same_crowds _ _ (λ t. refl) _
+returns-clause-crowds c = ap (map entry_crowd) c.edit-ended.ensures.entries ∙ edit_same_crowds _ _ (λ t. refl) _
 
 pub returns-clause-ends : goal.returns-clause-ends
 returns-clause-ends c = over_ends _ _ _ _ _ _ c.requires.ends c.edit-ended.ensures.ordered c.tube_of-tube.ensures.told

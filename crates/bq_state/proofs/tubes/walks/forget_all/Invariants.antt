@@ -1,7 +1,7 @@
 -- the entries of tubes that no longer exist are dropped up to the last one that was found, and
 -- their numbers with them
 use Rattle.std.proofs.Common.{filter, length, map, ◌≡◌}
-use Rattle.bq_state.{proofs.GoneLemmas.AllLeftBefore, specs.{KeptTubes.{is_alive_at, record_at, tally_kept}, PauseEnds.AreEnds}}
+use Rattle.bq_state.{proofs.GoneLemmas.AllLeftBefore, specs.{PauseEnds.AreEnds, TubesSeen.{entry_tally, is_alive_at, record_at}}}
 use Rattle.bq_state.specs.Tallies.{tallies_of}
 use Rattle.bq_state.proofs.tubes.walks.forget_all.Given as goal
 
@@ -11,7 +11,7 @@ invariant-loop-name l = record {
   before : AllLeftBefore l.last l.catalog.entries;
   ends : AreEnds l.catalog l.ends;
   numbered : l.jobs.tubes ≡ l.catalog.numbers;
-  tallies : map tally_kept l.catalog.entries ≡ tallies_of l.jobs.jobs (map record_at l.catalog.entries);
+  tallies : map entry_tally l.catalog.entries ≡ tallies_of l.jobs.jobs (map record_at l.catalog.entries);
   jobs : l.jobs ≡ record l.fn.jobs { tubes = l.jobs.tubes };
 }
 
