@@ -98,7 +98,7 @@ asking_client o h = grind (arith, common_steps)
 
 -- the tube that it uses has an entry
 pub used_has_entry : (st : CoreParts) (seat : ℕ) (s : SeatRecord) → seat_with seat st.seats.items ≡ Some s
-    → is_asking (seat_with seat st.seats.items) ≡ true → has_entry s.used st.tubes.entries ≡ true
+    → is_asking (seat_with seat st.seats.items) ≡ true → has_entry s.used st.store.tubes.entries ≡ true
 used_has_entry st seat s found asking = grind (arith, common_steps, found_passes)
 
 pub acts_silent : (m : Machine) (seat : ℕ) (what : Step) (outs : Outbox) (last : Machine)

@@ -74,7 +74,8 @@ module _ (st : CoreParts) (seat : ℕ) (what : Step) (r : Reserves st seat what)
       (known_nothing (machine_of st) (none_known st.known.wanted (machine_of st) r.quiet st.sound.known.wanted_jobs))
 
   -- what its tubes offer is the next job
-  next : (id : ℕ) → Some id ≡ option_map (λ (r : ℕ × ℕ). r.1) (fold (with_offer st.jobs.jobs st.tubes.entries) None r.client.watched)
+  next : (id : ℕ) → Some id ≡ option_map (λ (r : ℕ × ℕ). r.1)
+      (fold (with_offer st.store.jobs.jobs st.store.tubes.entries) None r.client.watched)
       → Some id ≡ option_map (λ j. j.id) (next_job then_waits)
   next id first = first ∙ ap (option_map (λ (r : ℕ × ℕ). r.1)) (next_offer st (client ∷ []) ∙ sym (client_waits then_waits seat _
       (numbered_after seat (Wait (raised st.tickets) r.until) _ st.sound.numbered) found known)) ∙ id_of_best (next_job then_waits)
@@ -88,7 +89,7 @@ module _ (st : CoreParts) (seat : ℕ) (what : Step) (r : Reserves st seat what)
   -- The client is given the job that its tubes offer.
   pub given_at_once : (id : ℕ) (body : List ℕ) (old new : Outbox) (last : CoreParts) → TakesAtOnce seat what id body st last
       → NoneIsGone (machine_of st) → new ≡ record old { given = old.given ++ (seat, answers.Reserved id body) ∷ [] }
-      → ActsOrGives (machine_of st) seat what old new (machine_of last) st.jobs last.jobs
+      → ActsOrGives (machine_of st) seat what old new (machine_of last) st.store.jobs last.store.jobs
   given_at_once id body old new last t none told =
       let next_id = next id (t.job r.client r.at) in
       let last_is = t.after ∙ handed id in
@@ -101,7 +102,7 @@ module _ (st : CoreParts) (seat : ℕ) (what : Step) (r : Reserves st seat what)
         acted_machine = then_waits;
         left = then_waits;
         told = old;
-        comparisons = st.jobs.comparisons;
+        comparisons = st.store.jobs.comparisons;
         acts = acts_silent _ _ _ _ _ r.is;
         forgotten = sym (forgets_nothing _ (waiting_alike (machine_of st) seat r.until none));
         turns = gives;
@@ -117,15 +118,15 @@ looked_then before between after last a same b kept = grind (arith, common_steps
 
 -- The command's own effect was carried out after a search that found no job, and then tubes were forgotten.
 pub acted_alone : (start looked acted st : CoreParts) (seat : ℕ) (what : Step) (old told new : Outbox)
-    → (machine_of looked ≡ machine_of start) × (told ≡ old) × Asks 9 start.jobs looked.jobs
-    → Acts (machine_of looked) seat what told new (machine_of acted) → AsksAsChanged looked.jobs acted.jobs
-    → machine_of st ≡ forgetting (machine_of acted) → st.jobs ≡ record acted.jobs { tubes = st.jobs.tubes }
-    → ActsOrGives (machine_of start) seat what old new (machine_of st) start.jobs st.jobs
+    → (machine_of looked ≡ machine_of start) × (told ≡ old) × Asks 9 start.store.jobs looked.store.jobs
+    → Acts (machine_of looked) seat what told new (machine_of acted) → AsksAsChanged looked.store.jobs acted.store.jobs
+    → machine_of st ≡ forgetting (machine_of acted) → st.store.jobs ≡ record acted.store.jobs { tubes = st.store.jobs.tubes }
+    → ActsOrGives (machine_of start) seat what old new (machine_of st) start.store.jobs st.store.jobs
 acted_alone start looked acted st seat what old told new same acts asks left kept = record {
   acted_machine = machine_of acted;
   left = machine_of st;
   told = new;
-  comparisons = st.jobs.comparisons;
+  comparisons = st.store.jobs.comparisons;
   acts = rw (same.0, same.1) at acts;
   forgotten = left;
   turns = gives_nothing _ _ refl _ _;

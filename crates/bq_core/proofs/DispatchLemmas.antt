@@ -80,42 +80,43 @@ module _ (paused : List ℕ → Bool) where
 
 module _ (st : CoreParts) where
   abbrev jobs : List Job
-  jobs = st.jobs.jobs
+  jobs = st.store.jobs.jobs
 
   abbrev paused : List ℕ → Bool
   paused name = is_paused name (machine_of st)
 
-  pub offered_is : (name : List ℕ) → offered st.jobs.jobs st.tubes.entries name
-      ≡ best_of st.jobs.jobs (offers (λ name. is_paused name (machine_of st)) name)
+  pub offered_is : (name : List ℕ) → offered st.store.jobs.jobs st.store.tubes.entries name
+      ≡ best_of st.store.jobs.jobs (offers (λ name. is_paused name (machine_of st)) name)
   offered_is name = grind (
     arith,
     common_steps,
-    paused_is name st.tubes.entries st.sound.entries.order st.sound.entries.fresh,
+    paused_is name st.store.tubes.entries st.sound.entries.order st.sound.entries.fresh,
     only_if jobs (not (paused name)) (is_ready_in name),
   )
 
   with_names : (names : List (List ℕ)) (p : Job → Bool)
-      → fold (with_offer jobs st.tubes.entries) (best_of jobs p) names ≡ best_of jobs (λ j. p j || ready_among paused names j)
+      → fold (with_offer jobs st.store.tubes.entries) (best_of jobs p) names ≡ best_of jobs (λ j. p j || ready_among paused names j)
   with_names [] p = grind (arith, common_steps, agreed_all)
-  with_names (name ∷ names) p = ap (λ b. fold (with_offer jobs st.tubes.entries) b names)
+  with_names (name ∷ names) p = ap (λ b. fold (with_offer jobs st.store.tubes.entries) b names)
       (ap (better_rank (best_of jobs p)) (offered_is name) ∙ joined jobs p (offers paused name))
       ∙ with_names names (λ j. p j || offers paused name j) ∙ agreed_all jobs _ _ (one_more_name paused name names p)
 
   with_seat_at : (s : SeatRecord) (p : Job → Bool) (b : Bool)
-      → (if b then fold (with_offer jobs st.tubes.entries) (best_of jobs p) s.watched else best_of jobs p) ≡ best_of jobs
+      → (if b then fold (with_offer jobs st.store.tubes.entries) (best_of jobs p) s.watched else best_of jobs p) ≡ best_of jobs
       (λ j. p j || (b && may_have (machine_of st) s j))
   with_seat_at s p true = with_names s.watched p
   with_seat_at s p false = agreed_all jobs _ _ (λ j. sym (or-false (p j)))
 
-  with_seats : (seats : List SeatRecord) (p : Job → Bool) → fold (with_offers jobs st.tubes.entries) (best_of jobs p) seats ≡ best_of jobs
+  with_seats : (seats : List SeatRecord) (p : Job → Bool) → fold (with_offers jobs st.store.tubes.entries) (best_of jobs p) seats
+      ≡ best_of jobs
       (λ j. p j || list_any (is_waiting_for (machine_of st) j) seats)
   with_seats [] p = agreed_all jobs _ _ (λ j. sym (or-false (p j)))
-  with_seats (s ∷ seats) p = ap (λ o. fold (with_offers jobs st.tubes.entries) o seats) (with_seat_at s p (is_waiting s))
+  with_seats (s ∷ seats) p = ap (λ o. fold (with_offers jobs st.store.tubes.entries) o seats) (with_seat_at s p (is_waiting s))
       ∙ with_seats seats (λ j. p j || is_waiting_for (machine_of st) j s) ∙ agreed_all jobs _ _ (λ j. or_assoc (p j) _ _)
 
-  pub next_offer : (seats : List SeatRecord) → fold (with_offers st.jobs.jobs st.tubes.entries) None seats
-      ≡ best_of st.jobs.jobs (λ j. list_any (is_waiting_for (machine_of st) j) seats)
-  next_offer seats = ap (λ o. fold (with_offers jobs st.tubes.entries) o seats) (only_if jobs false (λ _. true))
+  pub next_offer : (seats : List SeatRecord) → fold (with_offers st.store.jobs.jobs st.store.tubes.entries) None seats
+      ≡ best_of st.store.jobs.jobs (λ j. list_any (is_waiting_for (machine_of st) j) seats)
+  next_offer seats = ap (λ o. fold (with_offers jobs st.store.tubes.entries) o seats) (only_if jobs false (λ _. true))
       ∙ with_seats seats (λ _. false)
 
 -- the id of the best one

@@ -12,7 +12,8 @@ use Rattle.bq_job.{proofs.ListLemmas.{list_any_not, list_any_with, map_all_same,
 use Rattle.bq_job.specs.{declared.job.{Job.Job, JobState.JobState}, machine.{Machine.Machine, due_of, ends_waiting, first_of, given_back}}
 use Rattle.bq_job.specs.machine.{greatest, in_state, is_delayed, is_due, is_due_before, is_ending_lease, is_expired, is_held_by, is_holder}
 use Rattle.bq_job.specs.machine.{is_pair_before, is_reserved, is_wait_before, is_waiting, job_after_timers, job_with, next_end, with_job}
-use Rattle.bq_jobs.{proofs.Changes.{found_by_id, none_changed, others_above}, specs.{JobsSeen.{JobsSeen, ranked}, Leases.deadline_of}}
+use Rattle.bq_jobs.{proofs.Changes.{found_by_id, none_changed, others_above}, specs.{JobsSeen.ranked, Leases.deadline_of}}
+use Rattle.bq_state.specs.{Store.StoreSeen, TubeEntries.counted}
 use Rattle.bq_jobs.specs.Leases.{is_lease_before}
 use Rattle.bq_state.specs.{CoreParts.{Fields, OnlyCompares, count_jobs, machine_of, machine_of_fields}, EndingWaits.has_waited}
 use Rattle.bq_state.specs.{EndingWaits.{is_lease_short, is_soon}, declared.core_parts.CoreParts.CoreParts}
@@ -138,22 +139,22 @@ none_fires m fits due expired =
 
 -- the first delayed job and the first reserved one
 module _ (st mid : CoreParts) (same : OnlyCompares st mid) (delayed lease : Option (ℕ × ℕ))
-    (delayed_is : delayed ≡ option_map (ranked (λ j. due_of j.state)) (first_of (λ j. is_delayed j.state) is_due_before st.jobs.jobs))
+    (delayed_is : delayed ≡ option_map (ranked (λ j. due_of j.state)) (first_of (λ j. is_delayed j.state) is_due_before st.store.jobs.jobs))
     (lease_is : lease ≡ option_map (ranked (λ j. deadline_of j.state))
-    (first_of (λ j. is_reserved j.state) is_lease_before mid.jobs.jobs)) where
+    (first_of (λ j. is_reserved j.state) is_lease_before mid.store.jobs.jobs)) where
   first_of_leases : lease ≡ option_map (ranked (λ j. deadline_of j.state))
-      (first_of (λ j. is_reserved j.state) is_lease_before st.jobs.jobs)
+      (first_of (λ j. is_reserved j.state) is_lease_before st.store.jobs.jobs)
   first_of_leases = grind arith
 
   pub lease_due : (id : ℕ) → Some id ≡ id_if_past st.moment lease → IsDue (machine_of st) (Expired id)
-  lease_due id past = first_past _ _ _ expiries_are st.jobs.jobs st.moment 1 st.next_id id st.sound.ids lease first_of_leases past
+  lease_due id past = first_past _ _ _ expiries_are st.store.jobs.jobs st.moment 1 st.next_id id st.sound.ids lease first_of_leases past
 
   pub none_due : (new : CoreParts) → OnlyCompares mid new → st.timeouts ≤ greatest → None ≡ id_if_past st.moment delayed
       → None ≡ id_if_past st.moment lease → HaveFired st new
   none_due new then_same fits no_delay no_lease = ap machine_of_fields then_same ∙ ap machine_of_fields same
       ∙ none_fires (machine_of st) fits
-      (none_past _ _ _ dues_are st.jobs.jobs st.moment delayed delayed_is no_delay)
-      (none_past _ _ _ expiries_are st.jobs.jobs st.moment lease first_of_leases no_lease)
+      (none_past _ _ _ dues_are st.store.jobs.jobs st.moment delayed delayed_is no_delay)
+      (none_past _ _ _ expiries_are st.store.jobs.jobs st.moment lease first_of_leases no_lease)
 
 pub none_delayed : (has : Bool) (jobs : List Job) → has ≡ list_any (λ j. is_delayed j.state) jobs → has ≡ false
     → None ≡ option_map (ranked (λ j. due_of j.state)) (first_of (λ j. is_delayed j.state) is_due_before jobs)
@@ -189,21 +190,27 @@ pub given_none : (state : JobState) (seat : ℕ) (jobs : List Job)
 given_none state seat jobs e = map_all_same _ _ (all_weaker _ _ _ (λ k h. rw h refl)
     (none_pass _ _ (first_of_none (is_held_by seat) is_lease_before jobs (no_id _ e))))
 
-module _ (state : JobState) (seat : ℕ) (old new : CoreParts) (kept : JobsSeen) (id : ℕ) (free : is_reserved state ≡ false)
-    (first : Some id ≡ option_map (λ j. j.id) (first_of (is_held_by seat) is_lease_before old.jobs.jobs))
-    (same : kept ≡ record old.jobs { comparisons = kept.comparisons })
-    (after : machine_of new ≡ with_job id (in_state state) (record (machine_of old) { jobs = kept.jobs })) where
+module _ (state : JobState) (seat : ℕ) (old new : CoreParts) (kept : StoreSeen) (id : ℕ) (free : is_reserved state ≡ false)
+    (first : Some id ≡ option_map (λ j. j.id) (first_of (is_held_by seat) is_lease_before old.store.jobs.jobs))
+    (same : kept ≡ record old.store { jobs = record old.store.jobs { comparisons = kept.jobs.comparisons } })
+    (after : machine_of new ≡ with_job id (in_state state) (record (machine_of old) {
+      jobs = kept.jobs.jobs;
+      tubes = counted kept.tubes.entries;
+    })) where
   gives : machine_of new ≡ with_job id (in_state state) (machine_of old)
-  gives = after ∙ ap (λ (k : JobsSeen). with_job id (in_state state) (record (machine_of old) { jobs = k.jobs })) same
+  gives = after ∙ ap (λ (k : StoreSeen). with_job id (in_state state) (record (machine_of old) {
+    jobs = k.jobs.jobs;
+    tubes = counted k.tubes.entries;
+  })) same
 
-  one : Chosen (is_held_by seat) is_lease_before old.jobs.jobs id
+  one : Chosen (is_held_by seat) is_lease_before old.store.jobs.jobs id
   one = chosen _ _ _ _ _ _ old.sound.ids first
 
   gone : is_holder seat state ≡ false
   gone = grind (arith, common_steps)
 
   pub given_one : after_giving_back state seat (machine_of new) ≡ after_giving_back state seat (machine_of old)
-  given_one = grind (arith, absorbed, all_weaker, gone, one_of_id id 1 old.next_id old.jobs.jobs one.job old.sound.ids one.found)
+  given_one = grind (arith, absorbed, all_weaker, gone, one_of_id id 1 old.next_id old.store.jobs.jobs one.job old.sound.ids one.found)
 
   pub given_fewer : count_jobs (is_held_by seat) new < count_jobs (is_held_by seat) old
   given_fewer = grind (arith, common_steps, one_fewer, gives, one.passes_is, gone, one.found, old.sound.ids)

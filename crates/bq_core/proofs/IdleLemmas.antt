@@ -10,5 +10,5 @@ pub none_next : (st : CoreParts) → true ≡ is_nothing st.known.wanted → nex
 none_next st nothing = none_known st.known.wanted (machine_of st) (sym nothing) st.sound.known.wanted_jobs
 
 -- If no job is ready, there is none either.
-pub none_ready : (st : CoreParts) → false ≡ list_any is_ready st.jobs.jobs → next_job (machine_of st) ≡ None
+pub none_ready : (st : CoreParts) → false ≡ list_any is_ready st.store.jobs.jobs → next_job (machine_of st) ≡ None
 none_ready st none = no_ready_job (machine_of st) (sym none)

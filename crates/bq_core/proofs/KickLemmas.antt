@@ -100,8 +100,7 @@ no_id o e = grind (arith, common_steps)
 
 pub none_in_list : (list : JobList) (tube : List ℕ) (jobs : List Job)
     → None ≡ option_map (λ j. j.id) (first_in list tube jobs) → filter (is_listed list tube) jobs ≡ []
-none_in_list list tube jobs none =
-    none_left _ jobs (first_of_none (is_listed list tube) (is_before_by (list_rank list)) jobs (no_id _ none))
+none_in_list list tube jobs none = search (none_left, first_of_none, no_id)
 
 pub kickable_delayed : (tube : List ℕ) (jobs : List Job)
     → None ≡ option_map (λ j. j.id) (first_of (is_buried_in tube) is_buried_before jobs) → jobs_of Delayed tube jobs ≡ kickable tube jobs
@@ -125,9 +124,4 @@ pub all_counted : (list : JobList) (tube : List ℕ) (bound done : ℕ) (first j
     → ((n : ℕ) → length (take (done + n) (jobs_of list tube first)) ≡ done + length (take n (jobs_of list tube jobs)))
     → None ≡ option_map (λ j. j.id) (first_in list tube jobs)
     → done ≡ length (take bound (jobs_of list tube first))
-all_counted list tube bound done first jobs l in_turn none =
-    let nothing : jobs_of list tube jobs ≡ [] = ap (in_order (is_before_by (list_rank list))) (none_in_list list tube jobs none) in
-    let whole : bound ≡ done + (bound - done) = omega arith in
-    let left : length (take (bound - done) (jobs_of list tube jobs)) ≡ 0 = ap (λ ks. length (take (bound - done) ks)) nothing
-    ∙ ap (λ (ks : List Job). length ks) (take-nil (bound - done)) in
-    sym (ap (λ n. length (take n (jobs_of list tube first))) whole ∙ in_turn (bound - done) ∙ omega (arith, left))
+all_counted list tube bound done first jobs l in_turn none = grind (arith, common_steps, none_in_list)

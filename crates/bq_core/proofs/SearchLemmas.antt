@@ -57,7 +57,7 @@ pub tube_entries : (seats : List SeatRecord) (name : List ℕ) → list_any (is_
 tube_entries seats name h = grind (arith, common_steps, cases_Bool, some_passes, all_at)
 
 -- the tube's count decides whether a client waits for its jobs
-pub counted_there : (name : List ℕ) (st : CoreParts) → is_waited_at name st.tubes ≡ list_any (is_waiter name) st.seats.items
+pub counted_there : (name : List ℕ) (st : CoreParts) → is_waited_at name st.store.tubes ≡ list_any (is_waiter name) st.seats.items
 counted_there name st = grind (arith, common_steps, crowd_there, some_pass)
 
 -- what a search for the next job finds, and how many searches it makes

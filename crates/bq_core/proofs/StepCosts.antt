@@ -77,8 +77,8 @@ summed n l g most {first} {before} {left} {last} a b d few =
 module _ (first fired before after : CoreParts) (at seat most : ℕ) (what : Step) (begun between asked : Outbox)
     (lawful : IsLawful (machine_of first)) (fires : machine_of fired ≡ after_timers (at_moment at (machine_of first)))
     (starts : begun ≡ record { given = []; most = most; left_out = false; unshared = false })
-    (x : ServesAsking (machine_of fired) begun between (machine_of before) fired.jobs before.jobs)
-    (e : ActsOrGives (machine_of before) seat what between asked (machine_of after) before.jobs after.jobs) where
+    (x : ServesAsking (machine_of fired) begun between (machine_of before) fired.store.jobs before.store.jobs)
+    (e : ActsOrGives (machine_of before) seat what between asked (machine_of after) before.store.jobs after.store.jobs) where
   begins : forgetting (after_timers (at_moment at (machine_of first))) ≡ machine_of fired
   begins = forgets_nothing _ (timers_alike at (machine_of first) lawful.tubes) ∙ sym fires
 
@@ -96,8 +96,9 @@ module _ (first fired before after : CoreParts) (at seat most : ℕ) (what : Ste
       grind (arith, length-append, length_addressed)
 
   -- The step is within its bound.
-  pub step_within : (last : CoreParts) (new : Outbox) → Asks (10 * due_timers at (machine_of first) + 2) first.jobs fired.jobs
-      → ServesAsking (machine_of after) asked new (machine_of last) after.jobs last.jobs → TakesStepWithin at seat what first last new
+  pub step_within : (last : CoreParts) (new : Outbox) → Asks (10 * due_timers at (machine_of first) + 2) first.store.jobs fired.store.jobs
+      → ServesAsking (machine_of after) asked new (machine_of last) after.store.jobs last.store.jobs
+      → TakesStepWithin at seat what first last new
   step_within last new timers rest =
       let m = machine_of first in
       let a = e.acts in

@@ -40,8 +40,9 @@ pub closes : (st between last : CoreParts) (seat : ℕ) (becomes : JobState) →
 closes st between last seat becomes there state gives after = let e = closed_connected (machine_of st) seat (sym there) in cc
 
 pub close_asks : (st between last : CoreParts) (seat : ℕ) (becomes : JobState) → becomes ≡ state_once_left (machine_of st)
-    → machine_of between ≡ after_giving_back becomes seat (machine_of st) → last.jobs ≡ between.jobs
-    → Asks (9 * count_by (is_held_by seat) st.jobs.jobs + 1) st.jobs between.jobs → AsksAsChanged st.jobs last.jobs
+    → machine_of between ≡ after_giving_back becomes seat (machine_of st) → last.store.jobs ≡ between.store.jobs
+    → Asks (9 * count_by (is_held_by seat) st.store.jobs.jobs + 1) st.store.jobs between.store.jobs
+    → AsksAsChanged st.store.jobs last.store.jobs
 close_asks st between last seat becomes state gives same asks = grind (arith, common_steps, within, given_back_changed, free_by_delay)
 
 -- the tubes that a client uses and watches

@@ -20,7 +20,7 @@ use Rattle.bq_job.specs.declared.answer.Answer.TheVariants as answers
 -- the answer to a waiting client, by its first lease and its timeout
 pub told_now : (st : CoreParts) (k number : ℕ) (s x y : SeatRecord) (soon over : Bool) → k < length st.seats.items
     → x ≡ get_or st.seats.items k x → y ≡ get_or st.seats.items k y → slice_get st.seats.items k ≡ Some s → number ≡ x.number
-    → soon ≡ list_any (λ j. is_ending_lease st.moment number j.state) st.jobs.jobs → over ≡ is_timed_out_at st.moment y
+    → soon ≡ list_any (λ j. is_ending_lease st.moment number j.state) st.store.jobs.jobs → over ≡ is_timed_out_at st.moment y
     → (if soon then Some answers.DeadlineSoon else (if over then Some answers.TimedOut else None)) ≡ told_at_end (machine_of st) s
 told_now st k number s x y soon over there read again here number_is soon_is over_is =
     rw (soon_is, over_is, number_is, same_read _ _ _ _ there read here, same_read _ _ _ _ there again here) refl

@@ -28,15 +28,16 @@ may_take seat what st = is_reserve what && (is_nothing st.known.wanted && is_ask
 pub record IsHandedOver (seat id : ℕ) (body : List ℕ) (old new : CoreParts) : Type 0 where
   pub body_is : IsBodyOf (job_with id (machine_of old).jobs) body
   pub after : machine_of new ≡ record (with_job id (reserved_by old.moment seat) (machine_of old)) { tickets = raised old.tickets }
-  pub asks : Asks 7 old.jobs new.jobs
+  pub asks : Asks 7 old.store.jobs new.store.jobs
 
 -- The client at this seat, which reserves, was handed this job, which its tubes offer.
 pub record TakesAtOnce (seat : ℕ) (what : Step) (id : ℕ) (body : List ℕ) (old new : CoreParts) : Type 0 where
   pub may : may_take seat what old ≡ true
-  pub job : AtSeat seat old (λ s. Some id ≡ option_map (λ r. r.1) (fold (with_offer old.jobs.jobs old.tubes.entries) None s.watched))
+  pub job : AtSeat seat old (λ s. Some id ≡ option_map (λ r. r.1)
+      (fold (with_offer old.store.jobs.jobs old.store.tubes.entries) None s.watched))
   pub body_is : IsBodyOf (job_with id (machine_of old).jobs) body
   pub after : machine_of new ≡ record (with_job id (reserved_by old.moment seat) (machine_of old)) { tickets = raised old.tickets }
-  pub asks : AtSeat seat old (λ s. Asks (length s.watched + 7) old.jobs new.jobs)
+  pub asks : AtSeat seat old (λ s. Asks (length s.watched + 7) old.store.jobs new.store.jobs)
 
 -- the model once the client at this seat waits, with the next ticket
 abbrev pub waiting_at : ℕ → Option ℕ → Machine → Machine

@@ -32,4 +32,5 @@ pub record ServesAsking (first : Machine) (old new : Outbox) (last : Machine) (b
 -- a step with these answers led from the first state to the last, within its bound of comparisons
 abbrev pub TakesStepWithin : ℕ → ℕ → Step → CoreParts → CoreParts → Outbox → Type 0
 TakesStepWithin at seat what old new outs =
-    IsStepWithin (machine_of old) at seat what (outcome_of outs) outs.given (machine_of new) old.jobs.comparisons new.jobs.comparisons
+    IsStepWithin (machine_of old) at seat what (outcome_of outs) outs.given (machine_of new)
+    old.store.jobs.comparisons new.store.jobs.comparisons

@@ -22,7 +22,7 @@ use std::mem::replace;
 fn connect(state: &mut CoreParts, seat: Seat)
     ensures after { machine_of state.new
         ≡ (effect (machine_of state.old) seat steps.Connect).machine }
-    ensures jobs { state.new.jobs ≡ state.old.jobs }
+    ensures jobs { state.new.store.jobs ≡ state.old.store.jobs }
 {
     if state.is_free(seat) {
         changes::change_seat(state, seat, &SeatChange::Connect);
@@ -33,7 +33,7 @@ fn connect(state: &mut CoreParts, seat: Seat)
 #[tactic(auto, using(crate::proofs::ToldLemmas::ends))]
 fn end(state: &mut CoreParts, seat: Seat)
     ensures after { machine_of state.new ≡ (effect (machine_of state.old) seat steps.End).machine }
-    ensures jobs { state.new.jobs ≡ state.old.jobs }
+    ensures jobs { state.new.store.jobs ≡ state.old.store.jobs }
 {
     if state.is_connected(seat) {
         changes::change_seat(state, seat, &SeatChange::End);
@@ -45,7 +45,7 @@ fn end(state: &mut CoreParts, seat: Seat)
 fn close(state: &mut CoreParts, seat: Seat) -> Reply
     ensures reply { RepliesBy false
         (λ m. effect m seat steps.Close) state.old result answers.Closed state.new }
-    ensures asks { AsksAsChanged state.old.jobs state.new.jobs }
+    ensures asks { AsksAsChanged state.old.store.jobs state.new.store.jobs }
 {
     if !state.is_connected(seat) {
         return Reply::Silent;
@@ -95,7 +95,7 @@ fn carry_out(
     requires other { needs_no_room request.now ≡ false }
     ensures reply { RepliesAt seat (takes_memory request.now)
         (asked request.now) state.old result answer.new state.new }
-    ensures asks { AsksAsChanged state.old.jobs state.new.jobs }
+    ensures asks { AsksAsChanged state.old.store.jobs state.new.store.jobs }
 {
     match *request {
         Request::Put { .. } | Request::Delete { .. } | Request::Reserve => Reply::Silent,
@@ -170,7 +170,7 @@ fn ask_with(
     requires room { length outs.old.given < outs.old.most }
     ensures acts { Acts (machine_of state.old) seat (steps.Ask request.now) outs.old outs.new
         (machine_of state.new) }
-    ensures asks { AsksAsChanged state.old.jobs state.new.jobs }
+    ensures asks { AsksAsChanged state.old.store.jobs state.new.store.jobs }
 {
     let reply = carry_out(state, alloc, seat, request, answer);
     append_reply(outs, seat, reply, answer);
@@ -185,7 +185,7 @@ fn ask_other(state: &mut CoreParts, alloc: Global, seat: Seat, request: &Request
     requires room { length outs.old.given < outs.old.most }
     ensures acts { Acts (machine_of state.old) seat (steps.Ask request.now) outs.old outs.new
         (machine_of state.new) }
-    ensures asks { AsksAsChanged state.old.jobs state.new.jobs }
+    ensures asks { AsksAsChanged state.old.store.jobs state.new.store.jobs }
 {
     // Dropped once, at the end: a branch that owned the answer would take it apart by itself.
     let mut answer = Answer::Closed;
@@ -198,7 +198,7 @@ fn ask(state: &mut CoreParts, alloc: Global, seat: Seat, request: &Request, outs
     requires room { length outs.old.given < outs.old.most }
     ensures acts { Acts (machine_of state.old) seat (steps.Ask request.now) outs.old outs.new
         (machine_of state.new) }
-    ensures asks { AsksAsChanged state.old.jobs state.new.jobs }
+    ensures asks { AsksAsChanged state.old.store.jobs state.new.store.jobs }
 {
     match *request {
         Request::Put {
@@ -220,7 +220,7 @@ fn reply_without_request(state: &mut CoreParts, seat: Seat, what: &Step) -> Repl
     requires other { is_request what.now ≡ false }
     ensures reply { RepliesBy (step_takes_memory what.now)
         (λ m. effect m seat what.now) state.old result answers.Closed state.new }
-    ensures asks { AsksAsChanged state.old.jobs state.new.jobs }
+    ensures asks { AsksAsChanged state.old.store.jobs state.new.store.jobs }
 {
     match *what {
         Step::Connect => {
@@ -248,7 +248,7 @@ fn act_without_request(state: &mut CoreParts, seat: Seat, what: &Step, outs: &mu
     requires room { length outs.old.given < outs.old.most }
     ensures acts { Acts (machine_of state.old) seat what.now outs.old outs.new
         (machine_of state.new) }
-    ensures asks { AsksAsChanged state.old.jobs state.new.jobs }
+    ensures asks { AsksAsChanged state.old.store.jobs state.new.store.jobs }
 {
     let mut closed = Answer::Closed;
     let reply = reply_without_request(state, seat, what);
@@ -261,7 +261,7 @@ pub(crate) fn act(state: &mut CoreParts, alloc: Global, seat: Seat, what: &Step,
     requires room { HasRoom 1 (machine_of state.old) outs.old }
     ensures acts { Acts (machine_of state.old) seat what.now outs.old outs.new
         (machine_of state.new) }
-    ensures asks { AsksAsChanged state.old.jobs state.new.jobs }
+    ensures asks { AsksAsChanged state.old.store.jobs state.new.store.jobs }
 {
     match *what {
         Step::Ask(ref request) => if state.is_asking(seat) {

@@ -4,11 +4,11 @@ ghost use Rattle.std.specs.{List.sum_by, Option.option_map, Prelude.{IfOk, IfSom
 ghost use Rattle.std.specs.Prelude.{fold, if◌then◌else◌, is_some, length, true, ◌&&◌, ◌++◌, ◌+◌, ◌<◌, ◌∷◌, ◌≡◌};
 ghost use Rattle.bq_core.specs.{AtOnce.{ActsOrGives, IsHandedOver, TakesAtOnce, is_reserve, may_take}, HandOuts.{HandsOut, IsPicked, handed_to}};
 ghost use Rattle.bq_core.specs.{Serving.NoneIsGone, Turns.{Gives, HasRoom}};
-ghost use Rattle.bq_job.specs.{beside.Computed.waiting_count, machine.Changes.{job_with, seat_with, with_job, with_seat}};
-ghost use Rattle.bq_job.specs.machine.{Changes.without_wait, Dispatch.{DispatchTurn, next_job, reserved_by}, Limits.raised};
+ghost use Rattle.bq_job.specs.{beside.Computed.waiting_count, machine.Changes.{seat_with, with_seat}};
+ghost use Rattle.bq_job.specs.machine.{Changes.without_wait, Dispatch.{DispatchTurn, next_job}};
 ghost use Rattle.bq_job.specs.machine.Steps.{has_refused_share};
-ghost use Rattle.bq_jobs.specs.{Searching.{Asks, Searches}, Seen.IsBodyOf};
-ghost use Rattle.bq_state.specs.{Asking.AsksByTurn, CoreParts.{AtSeat, machine_of}, Cost.{waited, waited_tubes}, Keeping.OnlySearches};
+ghost use Rattle.bq_jobs.specs.{Searching.Asks, Seen.IsBodyOf};
+ghost use Rattle.bq_state.specs.{Asking.AsksByTurn, CoreParts.{AtSeat, machine_of}, Cost.{waited, waited_tubes}, Keeping.{OnlySearches, SearchesStore}};
 ghost use Rattle.bq_state.specs.Offers.{better_rank, is_waited_at, next_rank, offered, these, with_offer, with_offers};
 ghost use Rattle.bq_state.specs.{SeatChanges.AreNumbered, WaitingList.{by_seat, waited_at, waiters_of}};
 ghost use Rattle.bq_state.specs.WantedJobs.{is_nothing};
@@ -17,12 +17,12 @@ ghost use Rattle.bq_job.specs.declared.answer.Answer.TheVariants as answers;
 use crate::{acts, answering};
 use bq_core_api::Outs;
 use bq_job::{Body, JobId, NoMemory, Request, Seat, Step};
-use bq_jobs::{JobList, NumberedJobs, Tube};
+use bq_jobs::{JobList, Tube};
 use bq_state::core_parts::CoreParts;
 use bq_state::job_store::JobChange;
 use bq_state::known::Wanted;
 use bq_state::seats::{SeatRecord, Waiter};
-use bq_state::tubes::Tubes;
+use bq_state::store::Store;
 use bq_state::{changes, seats};
 use std::alloc::Global;
 
@@ -51,50 +51,37 @@ fn better(best: Option<Offer>, other: Option<Offer>) -> Option<Offer>
 }
 
 // Returns the most urgent ready job in the tube, unless the tube is paused.
-fn offer_of(jobs: &mut NumberedJobs, tubes: &Tubes, tube: &Tube) -> Option<Offer>
-    requires same { tubes.now.numbers ≡ jobs.old.tubes }
-    ensures offer { result ≡ offered jobs.old.jobs tubes.now.entries tube.now }
-    ensures kept { Searches 1 jobs.old jobs.new }
+fn offer_of(store: &mut Store, tube: &Tube) -> Option<Offer>
+    ensures offer { result ≡ offered store.old.jobs.jobs store.old.tubes.entries tube.now }
+    ensures kept { SearchesStore 1 store.old store.new }
 {
-    if tubes.is_paused(tube.name(), tube.number()) {
+    if store.is_paused(tube.name(), tube.number()) {
         None
     } else {
-        jobs.first_listed(tubes.names(), JobList::Ready, tube)
+        store.first_listed(JobList::Ready, tube)
     }
 }
 
 /// Returns the best of this job and those that these tubes offer.
 #[inline(always)]
-pub(crate) fn best_among(
-    jobs: &mut NumberedJobs,
-    tubes: &Tubes,
-    watched: &[Tube],
-    first: Option<Offer>,
-) -> Option<Offer>
-    requires same { tubes.now.numbers ≡ jobs.old.tubes }
-    ensures best { result ≡ fold (with_offer jobs.old.jobs tubes.now.entries) first watched.now }
-    ensures kept { Searches (length watched.now) jobs.old jobs.new }
+pub(crate) fn best_among(store: &mut Store, watched: &[Tube], first: Option<Offer>) -> Option<Offer>
+    ensures best { result ≡ fold (with_offer store.old.jobs.jobs store.old.tubes.entries) first watched.now }
+    ensures kept { SearchesStore (length watched.now) store.old store.new }
 {
     let mut best = first;
     for i in 0..watched.len() {
-        best = better(best, offer_of(jobs, tubes, &watched[i]));
+        best = better(best, offer_of(store, &watched[i]));
     }
     best
 }
 
 // Returns the best of this job and those that the client waits for.
-fn best_for(
-    jobs: &mut NumberedJobs,
-    tubes: &Tubes,
-    client: &SeatRecord,
-    first: Option<Offer>,
-) -> Option<Offer>
-    requires same { tubes.now.numbers ≡ jobs.old.tubes }
-    ensures best { result ≡ with_offers jobs.old.jobs tubes.now.entries first client.now }
-    ensures kept { Searches (waited_tubes client.now) jobs.old jobs.new }
+fn best_for(store: &mut Store, client: &SeatRecord, first: Option<Offer>) -> Option<Offer>
+    ensures best { result ≡ with_offers store.old.jobs.jobs store.old.tubes.entries first client.now }
+    ensures kept { SearchesStore (waited_tubes client.now) store.old store.new }
 {
     if client.is_waiting() {
-        best_among(jobs, tubes, client.watched(), first)
+        best_among(store, client.watched(), first)
     } else {
         first
     }
@@ -102,15 +89,14 @@ fn best_for(
 
 // Returns the most urgent ready job in the tube, unless the tube is paused or no client waits for
 // its jobs.
-fn offer_to(jobs: &mut NumberedJobs, tubes: &Tubes, tube: &Tube) -> Option<Offer>
-    requires same { tubes.now.numbers ≡ jobs.old.tubes }
+fn offer_to(store: &mut Store, tube: &Tube) -> Option<Offer>
     ensures offer { result
-        ≡ (if is_waited_at tube.now tubes.now
-        then offered jobs.old.jobs tubes.now.entries tube.now else None) }
-    ensures kept { Searches (if is_waited_at tube.now tubes.now then 1 else 0) jobs.old jobs.new }
+        ≡ (if is_waited_at tube.now store.old.tubes
+        then offered store.old.jobs.jobs store.old.tubes.entries tube.now else None) }
+    ensures kept { SearchesStore (if is_waited_at tube.now store.old.tubes then 1 else 0) store.old store.new }
 {
-    if tubes.crowd_of(tube.name(), tube.number()).waiting > 0 {
-        offer_of(jobs, tubes, tube)
+    if store.crowd_of(tube.name(), tube.number()).waiting > 0 {
+        offer_of(store, tube)
     } else {
         None
     }
@@ -120,61 +106,47 @@ fn offer_to(jobs: &mut NumberedJobs, tubes: &Tubes, tube: &Tube) -> Option<Offer
 // client.
 #[tactic(auto, using(crate::proofs::AskLemmas::asks_more, crate::proofs::AskLemmas::asks_none))]
 fn best_of_client(
-    jobs: &mut NumberedJobs,
-    tubes: &Tubes,
+    store: &mut Store,
     seats: &[SeatRecord],
     seat: Seat,
     first: Option<Offer>,
 ) -> Option<Offer>
     requires numbered { AreNumbered seats.now }
-    requires same { tubes.now.numbers ≡ jobs.old.tubes }
     ensures best { result
-        ≡ fold (with_offers jobs.old.jobs tubes.now.entries) first
+        ≡ fold (with_offers store.old.jobs.jobs store.old.tubes.entries) first
         (these (seat_with seat seats.now)) }
-    ensures kept { Searches (sum_by waited_tubes (these (seat_with seat seats.now))) jobs.old jobs.new }
+    ensures kept { SearchesStore (sum_by waited_tubes (these (seat_with seat seats.now))) store.old store.new }
 {
     match seats::find(seats, seat) {
         None => first,
-        Some(client) => best_for(jobs, tubes, client, first),
+        Some(client) => best_for(store, client, first),
     }
 }
 
 // Returns the best of the jobs that these waiters wait for.
 #[tactic(auto, using(crate::proofs::AskLemmas::asks_summed, bq_state::proofs::LoopLemmas::folded_beside))]
-fn best_of_waiters(
-    jobs: &mut NumberedJobs,
-    tubes: &Tubes,
-    seats: &[SeatRecord],
-    waiters: &[Waiter],
-) -> Option<Offer>
+fn best_of_waiters(store: &mut Store, seats: &[SeatRecord], waiters: &[Waiter]) -> Option<Offer>
     requires numbered { AreNumbered seats.now }
-    requires same { tubes.now.numbers ≡ jobs.old.tubes }
     ensures best { result
-        ≡ fold (by_seat (with_offers jobs.old.jobs tubes.now.entries) seats.now) None waiters.now }
-    ensures kept { Searches (sum_by (waited_at seats.now) waiters.now) jobs.old jobs.new }
+        ≡ fold (by_seat (with_offers store.old.jobs.jobs store.old.tubes.entries) seats.now) None waiters.now }
+    ensures kept { SearchesStore (sum_by (waited_at seats.now) waiters.now) store.old store.new }
 {
     let mut best = None;
     for i in 0..waiters.len() {
-        best = best_of_client(jobs, tubes, seats, waiters[i].1, best);
+        best = best_of_client(store, seats, waiters[i].1, best);
     }
     best
 }
 
 // Returns the best of the jobs that waiting clients may have. Only waiting clients are checked.
 #[tactic(auto, using(crate::proofs::OfferLemmas::asks_walked, crate::proofs::OfferLemmas::offers_walked))]
-fn best_offer(
-    jobs: &mut NumberedJobs,
-    tubes: &Tubes,
-    seats: &[SeatRecord],
-    waiters: &[Waiter],
-) -> Option<Offer>
+fn best_offer(store: &mut Store, seats: &[SeatRecord], waiters: &[Waiter]) -> Option<Offer>
     requires numbered { AreNumbered seats.now }
-    requires same { tubes.now.numbers ≡ jobs.old.tubes }
     requires waiters { waiters.now ≡ waiters_of seats.now }
-    ensures best { result ≡ fold (with_offers jobs.old.jobs tubes.now.entries) None seats.now }
-    ensures kept { Searches (sum_by waited_tubes seats.now) jobs.old jobs.new }
+    ensures best { result ≡ fold (with_offers store.old.jobs.jobs store.old.tubes.entries) None seats.now }
+    ensures kept { SearchesStore (sum_by waited_tubes seats.now) store.old store.new }
 {
-    best_of_waiters(jobs, tubes, seats, waiters)
+    best_of_waiters(store, seats, waiters)
 }
 
 // Returns the job that is handed out next. Only jobs that may have become available are checked.
@@ -185,17 +157,15 @@ fn next_offer(state: &mut CoreParts) -> Option<Offer>
 {
     match &state.known.wanted {
         Wanted::Nothing => None,
-        Wanted::Tube(tube) => offer_to(&mut state.jobs, &state.tubes, tube),
+        Wanted::Tube(tube) => offer_to(&mut state.store, tube),
         Wanted::Client(seat) => best_of_client(
-            &mut state.jobs,
-            &state.tubes,
+            &mut state.store,
             state.seats.as_slice(),
             *seat,
             None,
         ),
         Wanted::Any => best_offer(
-            &mut state.jobs,
-            &state.tubes,
+            &mut state.store,
             state.seats.as_slice(),
             state.waiting.as_slice(),
         ),
@@ -232,7 +202,7 @@ fn pick_at_tube(state: &mut CoreParts, id: JobId) -> Option<(Seat, Result<Body, 
     ensures share { IfSome result (λ p. IfOk p.1 (IsBodyOf (next_job (machine_of state.old)))) }
     ensures kept { OnlySearches 1 state.old state.new }
 {
-    let (tube, shared) = state.jobs.share(state.tubes.names(), id)?;
+    let (tube, shared) = state.store.share(id)?;
     let seat = seats::first_waiting(
         state.seats.as_slice(),
         state.waiting.as_slice(),
@@ -254,7 +224,7 @@ fn pick(state: &mut CoreParts, id: JobId) -> Option<(Seat, Result<Body, NoMemory
     match &state.known.wanted {
         Wanted::Client(seat) => {
             let seat = *seat;
-            let shared = state.jobs.share_body(id)?;
+            let shared = state.store.share_body(id)?;
             Some((seat, shared))
         }
         Wanted::Tube(tube) => {
@@ -263,7 +233,7 @@ fn pick(state: &mut CoreParts, id: JobId) -> Option<(Seat, Result<Body, NoMemory
                 state.waiting.as_slice(),
                 tube.name(),
             )?;
-            let shared = state.jobs.share_body(id)?;
+            let shared = state.store.share_body(id)?;
             Some((seat, shared))
         }
         _ => pick_at_tube(state, id),
@@ -276,7 +246,7 @@ fn give(state: &mut CoreParts, outs: &mut Outs, number: Seat, id: JobId, body: B
     ensures after { machine_of state.new ≡ handed_to number id (machine_of state.old) }
     ensures told { outs.new
         ≡ record outs.old { given = outs.old.given ++ (number, answers.Reserved id body) ∷ [] } }
-    ensures asks { Asks 8 state.old.jobs state.new.jobs }
+    ensures asks { Asks 8 state.old.store.jobs state.new.store.jobs }
 {
     let change = JobChange::HandOut(number, state.moment);
     // First, because no client holds a job while it waits.
@@ -295,7 +265,7 @@ fn refuse(state: &mut CoreParts, outs: &mut Outs, number: Seat)
               ++ (number, answers.OutOfMemory) ∷ [];
           unshared = true;
         } }
-    ensures jobs { state.new.jobs ≡ state.old.jobs }
+    ensures jobs { state.new.store.jobs ≡ state.old.store.jobs }
 {
     changes::stop_waiting(state, number);
     answering::unshared(outs, number);
@@ -313,7 +283,7 @@ fn hand_out(
     requires room { length outs.old.given < outs.old.most }
     ensures given { HandsOut (machine_of state.old) id number shared outs.old outs.new
         (machine_of state.new) }
-    ensures asks { Asks 8 state.old.jobs state.new.jobs }
+    ensures asks { Asks 8 state.old.store.jobs state.new.store.jobs }
 {
     match shared {
         Ok(body) => give(state, outs, number, id, body),
@@ -328,7 +298,7 @@ fn hand_out_one(state: &mut CoreParts, outs: &mut Outs, id: JobId)
     ensures given { Gives DispatchTurn has_refused_share (machine_of state.old)
         (machine_of state.new) outs.old outs.new }
     ensures fewer { waiting_count (machine_of state.new) < waiting_count (machine_of state.old) }
-    ensures asks { Asks 9 state.old.jobs state.new.jobs }
+    ensures asks { Asks 9 state.old.store.jobs state.new.store.jobs }
 {
     if let Some((number, shared)) = pick(state, id) {
         hand_out(state, outs, id, number, shared);
@@ -345,7 +315,7 @@ fn dispatch_all(state: &mut CoreParts, outs: &mut Outs)
         (machine_of state.old) (machine_of state.new) outs.old outs.new }
     ensures done { next_job (machine_of state.new) ≡ None }
     ensures asks { AsksByTurn
-        (waited (machine_of state.old)) outs.old outs.new state.old.jobs state.new.jobs }
+        (waited (machine_of state.old)) outs.old outs.new state.old.store.jobs state.new.store.jobs }
 {
     while let Some(id) = next_job(state) {
         hand_out_one(state, outs, id);
@@ -360,9 +330,9 @@ pub(crate) fn dispatch(state: &mut CoreParts, outs: &mut Outs)
     ensures given { Gives DispatchTurn has_refused_share
         (machine_of state.old) (machine_of state.new) outs.old outs.new }
     ensures done { next_job (machine_of state.new) ≡ None }
-    ensures idle { is_nothing state.old.known.wanted ≡ true → state.new.jobs ≡ state.old.jobs }
+    ensures idle { is_nothing state.old.known.wanted ≡ true → state.new.store.jobs ≡ state.old.store.jobs }
     ensures asks { AsksByTurn
-        (waited (machine_of state.old)) outs.old outs.new state.old.jobs state.new.jobs }
+        (waited (machine_of state.old)) outs.old outs.new state.old.store.jobs state.new.store.jobs }
 {
     if !state.known.wanted.is_nothing() {
         if state.has_ready() {
@@ -394,8 +364,8 @@ fn may_take(state: &CoreParts, seat: Seat, what: &Step) -> bool
 fn job_at_once(state: &mut CoreParts, seat: Seat, what: &Step) -> Option<JobId>
     ensures may { IfSome result (λ _. may_take seat what.now state.old ≡ true) }
     ensures job { IfSome result (λ id. AtSeat seat state.old (λ s. Some id
-        ≡ option_map (λ r. r.1) (fold (with_offer state.old.jobs.jobs state.old.tubes.entries) None s.watched))) }
-    ensures few { IfSome result (λ _. AtSeat seat state.old (λ s. Asks (length s.watched) state.old.jobs state.new.jobs)) }
+        ≡ option_map (λ r. r.1) (fold (with_offer state.old.store.jobs.jobs state.old.store.tubes.entries) None s.watched))) }
+    ensures few { IfSome result (λ _. AtSeat seat state.old (λ s. Asks (length s.watched) state.old.store.jobs state.new.store.jobs)) }
     ensures kept { OnlySearches 8 state.old state.new }
 {
     if !may_take(state, seat, what) {
@@ -408,7 +378,7 @@ fn job_at_once(state: &mut CoreParts, seat: Seat, what: &Step) -> Option<JobId>
     if client.watch_count() > MOST_TUBES {
         return None;
     }
-    let (_, id) = best_among(&mut state.jobs, &state.tubes, client.watched(), None)?;
+    let (_, id) = best_among(&mut state.store, client.watched(), None)?;
     Some(id)
 }
 
@@ -451,7 +421,7 @@ pub(crate) fn act_or_hand_out(
 )
     requires tubes { NoneIsGone (machine_of state.old) }
     requires room { HasRoom 1 (machine_of state.old) outs.old }
-    ensures { ActsOrGives (machine_of state.old) seat what.now outs.old outs.new (machine_of state.new) state.old.jobs state.new.jobs }
+    ensures { ActsOrGives (machine_of state.old) seat what.now outs.old outs.new (machine_of state.new) state.old.store.jobs state.new.store.jobs }
 {
     match take_at_once(state, seat, what) {
         Some((id, body)) => answering::reserved(outs, seat, id, body),

@@ -55,10 +55,10 @@ fn new_job(state: &CoreParts, id: JobId, tube: &Tube, new: NewJob, body: Body) -
 
 // Returns the number of a tube that has an entry.
 fn number_of(state: &CoreParts, tube: &Tube) -> TubeNumber
-    requires { has_entry tube.now state.now.tubes.entries ≡ true }
-    ensures { HasNumber tube.now result state.now.tubes.numbers }
+    requires { has_entry tube.now state.now.store.tubes.entries ≡ true }
+    ensures { HasNumber tube.now result state.now.store.tubes.numbers }
 {
-    state.tubes.number_of(tube.name(), tube.number()).unwrap()
+    state.store.number_of(tube.name(), tube.number()).unwrap()
 }
 
 // Returns true if the job limit is reached.
@@ -67,7 +67,7 @@ fn is_full(state: &CoreParts) -> bool
 {
     match state.config.max_jobs {
         None => false,
-        Some(most) => state.jobs.len() >= most as usize,
+        Some(most) => state.store.len() >= most as usize,
     }
 }
 
@@ -87,7 +87,7 @@ pub(crate) fn put(
     requires room { length outs.old.given < outs.old.most }
     ensures acts { Acts (machine_of state.old) seat (put_of new body.now) outs.old outs.new
         (machine_of state.new) }
-    ensures asks { AsksAsChanged state.old.jobs state.new.jobs }
+    ensures asks { AsksAsChanged state.old.store.jobs state.new.store.jobs }
 {
     if state.draining {
         return answering::draining(outs, seat);
@@ -117,7 +117,7 @@ fn put_shared(
     requires room { length outs.old.given < outs.old.most }
     ensures acts { Acts (machine_of state.old) seat (put_of new body) outs.old outs.new
         (machine_of state.new) }
-    ensures asks { AsksAsChanged state.old.jobs state.new.jobs }
+    ensures asks { AsksAsChanged state.old.store.jobs state.new.store.jobs }
 {
     let Ok(()) = changes::make_room(state, alloc) else {
         drop(body);
@@ -145,7 +145,7 @@ pub(crate) fn reserve(state: &mut CoreParts, seat: Seat, until: Option<Moment>) 
     requires asks { is_asking (seat_with seat state.old.seats.items) ≡ true }
     ensures reply { Waits seat until state.old state.new }
     ensures silent { result ≡ Reply.Silent }
-    ensures asks { AsksAsChanged state.old.jobs state.new.jobs }
+    ensures asks { AsksAsChanged state.old.store.jobs state.new.store.jobs }
 {
     changes::note_leases(state, seat);
     let ticket = changes::give_ticket(state);
@@ -158,7 +158,7 @@ pub(crate) fn reserve_until(state: &mut CoreParts, seat: Seat, seconds: u32) -> 
     requires asks { is_asking (seat_with seat state.old.seats.items) ≡ true }
     ensures reply { Waits seat (Some (later_by state.old.moment seconds)) state.old state.new }
     ensures silent { result ≡ Reply.Silent }
-    ensures asks { AsksAsChanged state.old.jobs state.new.jobs }
+    ensures asks { AsksAsChanged state.old.store.jobs state.new.store.jobs }
 {
     let until = job_store::later(state.moment, seconds);
     reserve(state, seat, Some(until))
@@ -174,7 +174,7 @@ pub(crate) fn reserve_job(
 ) -> Reply
     ensures reply { RepliesTo seat false
         (reserve_job_effect id) state.old result answer.new state.new }
-    ensures asks { AsksAsChanged state.old.jobs state.new.jobs }
+    ensures asks { AsksAsChanged state.old.store.jobs state.new.store.jobs }
 {
     if !state.has_job(id, JobTest::Free) {
         return not_found(answer);
@@ -199,7 +199,7 @@ pub(crate) fn delete(state: &mut CoreParts, seat: Seat, id: JobId, outs: &mut Ou
     requires room { length outs.old.given < outs.old.most }
     ensures acts { Acts (machine_of state.old) seat (steps.Ask (requests.Delete id)) outs.old outs.new
         (machine_of state.new) }
-    ensures asks { AsksAsChanged state.old.jobs state.new.jobs }
+    ensures asks { AsksAsChanged state.old.store.jobs state.new.store.jobs }
 {
     if changes::delete(state, id, JobTest::FreeFor(seat)) {
         answering::deleted(outs, seat);
@@ -230,7 +230,7 @@ pub(crate) fn release(
 ) -> Reply
     ensures reply { RepliesTo seat false
         (release_effect id with.pri with.delay) state.old result answer.new state.new }
-    ensures asks { AsksAsChanged state.old.jobs state.new.jobs }
+    ensures asks { AsksAsChanged state.old.store.jobs state.new.store.jobs }
 {
     if !state.has_job(id, JobTest::HeldBy(seat)) {
         return not_found(answer);
@@ -252,7 +252,7 @@ pub(crate) fn bury(
 ) -> Reply
     ensures reply { RepliesTo seat false
         (bury_effect id pri) state.old result answer.new state.new }
-    ensures asks { AsksAsChanged state.old.jobs state.new.jobs }
+    ensures asks { AsksAsChanged state.old.store.jobs state.new.store.jobs }
 {
     if !state.has_job(id, JobTest::HeldBy(seat)) {
         return not_found(answer);
@@ -268,7 +268,7 @@ pub(crate) fn bury(
 #[inline(never)]
 pub(crate) fn touch(state: &mut CoreParts, seat: Seat, id: JobId, answer: &mut Answer) -> Reply
     ensures reply { RepliesTo seat false (touch_effect id) state.old result answer.new state.new }
-    ensures asks { AsksAsChanged state.old.jobs state.new.jobs }
+    ensures asks { AsksAsChanged state.old.store.jobs state.new.store.jobs }
 {
     let Some(ttr) = state.time_to_run(id, seat) else {
         return not_found(answer);
@@ -284,7 +284,7 @@ pub(crate) fn touch(state: &mut CoreParts, seat: Seat, id: JobId, answer: &mut A
 pub(crate) fn kick_job(state: &mut CoreParts, id: JobId, answer: &mut Answer) -> Reply
     ensures reply { (s : SeatRecord)
         → RepliesBy false (λ m. kick_job_effect id m s) state.old result answer.new state.new }
-    ensures asks { AsksAsChanged state.old.jobs state.new.jobs }
+    ensures asks { AsksAsChanged state.old.store.jobs state.new.store.jobs }
 {
     if !state.has_job(id, JobTest::Kickable) {
         return not_found(answer);

@@ -2,26 +2,26 @@ ghost use Rattle.std.specs.Prelude.{false, length, take, ◌*◌, ◌+◌, ◌�
 ghost use Rattle.bq_core.specs.{Kicking.jobs_of, Replying.RepliesAt};
 ghost use Rattle.bq_core_api.specs.Cost.{changed_jobs};
 ghost use Rattle.bq_job.specs.{declared.job.Job.Job, machine.JobCommands.{after_kick, kick_effect, kickable, kicked}};
-ghost use Rattle.bq_jobs.specs.{Ranks.is_listed, Searching.{Asks, Searches}};
-ghost use Rattle.bq_state.specs.{Asking.AsksAsChanged, CoreParts.{count_jobs, machine_of}};
+ghost use Rattle.bq_jobs.specs.{Ranks.is_listed, Searching.Asks};
+ghost use Rattle.bq_state.specs.{Asking.AsksAsChanged, CoreParts.{count_jobs, machine_of}, Keeping.SearchesStore};
 
 use crate::acts::{Reply, set_answer};
 use bq_job::{Answer, Seat};
-use bq_jobs::{JobList, NumberedJobs, NumberedTubes, Tube};
+use bq_jobs::{JobList, Tube};
 use bq_state::core_parts::CoreParts;
 use bq_state::job_store::JobChange;
+use bq_state::store::Store;
 use bq_state::{changes, job_store, seats};
 
 // Returns which jobs of a tube a kick makes ready: the buried ones or, if there are none, the
 // delayed ones.
 #[tactic(auto, using(crate::proofs::KickLemmas::kickable_buried, crate::proofs::KickLemmas::kickable_delayed))]
-fn list_to_kick(jobs: &mut NumberedJobs, tubes: &NumberedTubes, tube: &Tube) -> JobList
-    requires same { tubes.now.numbers ≡ jobs.old.tubes }
-    ensures order { jobs_of result tube.now jobs.old.jobs ≡ kickable tube.now jobs.old.jobs }
+fn list_to_kick(store: &mut Store, tube: &Tube) -> JobList
+    ensures order { jobs_of result tube.now store.old.jobs.jobs ≡ kickable tube.now store.old.jobs.jobs }
     ensures out { (k : Job) → is_listed result tube.now (kicked k) ≡ false }
-    ensures kept { Searches 1 jobs.old jobs.new }
+    ensures kept { SearchesStore 1 store.old store.new }
 {
-    match job_store::first(jobs, tubes, JobList::Buried, tube) {
+    match job_store::first(store, JobList::Buried, tube) {
         Some(_) => JobList::Buried,
         None => JobList::Delayed,
     }
@@ -32,13 +32,13 @@ fn list_to_kick(jobs: &mut NumberedJobs, tubes: &NumberedTubes, tube: &Tube) -> 
 fn kick_some(state: &mut CoreParts, list: JobList, tube: &Tube, bound: u32) -> u64
     requires out { (k : Job) → is_listed list tube.now (kicked k) ≡ false }
     ensures kicked { machine_of state.new
-        ≡ after_kick (take bound (jobs_of list tube.now state.old.jobs.jobs))
+        ≡ after_kick (take bound (jobs_of list tube.now state.old.store.jobs.jobs))
         (machine_of state.old) }
     ensures count { result
         ≡ length (take bound (jobs_of list tube.now (machine_of state.old).jobs)) }
     ensures fewer { count_jobs (is_listed list tube.now) state.new
         + result ≤ count_jobs (is_listed list tube.now) state.old }
-    ensures asks { Asks (9 * result + 1) state.old.jobs state.new.jobs }
+    ensures asks { Asks (9 * result + 1) state.old.store.jobs state.new.store.jobs }
 {
     for done in 0..bound {
         let Some(id) = state.first(list, tube) else {
@@ -58,9 +58,9 @@ fn kick_in(state: &mut CoreParts, tube: &Tube, bound: u32) -> u64
     ensures count { result ≡ length (take bound (kickable tube.now (machine_of state.old).jobs)) }
     ensures changed { result
         ≤ changed_jobs (machine_of state.old).jobs (machine_of state.new).jobs }
-    ensures asks { Asks (9 * result + 2) state.old.jobs state.new.jobs }
+    ensures asks { Asks (9 * result + 2) state.old.store.jobs state.new.store.jobs }
 {
-    let list = list_to_kick(&mut state.jobs, state.tubes.names(), tube);
+    let list = list_to_kick(&mut state.store, tube);
     kick_some(state, list, tube, bound)
 }
 
@@ -69,7 +69,7 @@ fn kick_in(state: &mut CoreParts, tube: &Tube, bound: u32) -> u64
 #[inline(never)]
 pub(crate) fn kick(state: &mut CoreParts, seat: Seat, bound: u32, answer: &mut Answer) -> Reply
     ensures reply { RepliesAt seat false (kick_effect bound) state.old result answer.new state.new }
-    ensures asks { AsksAsChanged state.old.jobs state.new.jobs }
+    ensures asks { AsksAsChanged state.old.store.jobs state.new.store.jobs }
 {
     let Some(client) = seats::find(state.seats.as_slice(), seat) else {
         return Reply::Silent;

@@ -3,15 +3,15 @@ ghost use Rattle.std.specs.Prelude.{IfOk, IfSome, is_some, true, ◌≡◌};
 ghost use Rattle.bq_core.specs.{Numbers.{AreOfServer, AreOfTube}, Replying.{RepliesAt, RepliesBy}, Texts.TellsJob};
 ghost use Rattle.bq_job.specs.machine.{Changes.job_with, StatisticsCommands.{list_tubes_effect, list_watched_effect, stats_effect}};
 ghost use Rattle.bq_job.specs.machine.StatisticsCommands.{stats_job_effect, stats_tube_effect};
-ghost use Rattle.bq_jobs.specs.Searching.{Searches};
-ghost use Rattle.bq_state.specs.{Asking.AsksAsChanged, CoreParts.machine_of};
+ghost use Rattle.bq_state.specs.{Asking.AsksAsChanged, CoreParts.machine_of, Keeping.SearchesStore};
 
 use crate::acts::{Reply, set_answer};
 use crate::job_acts::not_found;
 use crate::texts::{ServerNumbers, TubeNumbers, job_text, names_text, server_text, tube_text};
 use bq_job::{Answer, JobId, Moment, NoMemory, Seat, Text, TubeName};
-use bq_jobs::{NumberedJobs, NumberedTubes, TubeNumber};
+use bq_jobs::TubeNumber;
 use bq_state::core_parts::CoreParts;
+use bq_state::store::Store;
 use bq_state::tubes::TubeEntry;
 use bq_state::{changes, name_lists, seats};
 use std::alloc::Global;
@@ -20,19 +20,17 @@ use std::alloc::Global;
 // no job.
 #[tactic(auto, using(crate::proofs::TextLemmas::id_of_packed))]
 fn text_of_job(
-    jobs: &mut NumberedJobs,
-    tubes: &NumberedTubes,
+    store: &mut Store,
     alloc: Global,
     id: JobId,
     moment: Moment,
 ) -> Option<Result<Text, NoMemory>>
-    requires same { tubes.now.numbers ≡ jobs.old.tubes }
-    ensures none { is_some result ≡ is_some (job_with id jobs.old.jobs) }
-    ensures text { IfSome result (λ text. IfOk text (TellsJob moment (job_with id jobs.old.jobs))) }
-    ensures kept { Searches 2 jobs.old jobs.new }
+    ensures none { is_some result ≡ is_some (job_with id store.old.jobs.jobs) }
+    ensures text { IfSome result (λ text. IfOk text (TellsJob moment (job_with id store.old.jobs.jobs))) }
+    ensures kept { SearchesStore 2 store.old store.new }
 {
-    let tube = jobs.tube_of(tubes, id)?;
-    match jobs.get(id) {
+    let tube = store.tube_of(id)?;
+    match store.get(id) {
         None => None,
         Some(job) => Some(job_text(alloc, id, job, tube.name(), moment)),
     }
@@ -47,15 +45,9 @@ pub(crate) fn stats_job(
     answer: &mut Answer,
 ) -> Reply
     ensures reply { RepliesBy true (stats_job_effect id) state.old result answer.new state.new }
-    ensures asks { AsksAsChanged state.old.jobs state.new.jobs }
+    ensures asks { AsksAsChanged state.old.store.jobs state.new.store.jobs }
 {
-    match text_of_job(
-        &mut state.jobs,
-        state.tubes.names(),
-        alloc,
-        id,
-        state.moment,
-    ) {
+    match text_of_job(&mut state.store, alloc, id, state.moment) {
         None => not_found(answer),
         Some(Ok(text)) => {
             set_answer(answer, Answer::Ok(text));
@@ -71,7 +63,7 @@ fn tube_numbers(state: &CoreParts, tube: &TubeName, hint: TubeNumber) -> TubeNum
     ensures { AreOfTube result tube.now (machine_of state.now) }
 {
     let fresh = TubeEntry::new();
-    let entry = state.tubes.entry_of(tube, hint).unwrap_or(&fresh);
+    let entry = state.store.entry_of(tube, hint).unwrap_or(&fresh);
     let crowd = state.crowd_at(tube, hint);
     TubeNumbers {
         jobs: state.tally_in(tube, hint),

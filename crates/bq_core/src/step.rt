@@ -10,7 +10,7 @@ use crate::{dispatch, timers, waits};
 use bq_core_api::{Config, CoreFault, Outs, QueueCore};
 use bq_job::{LARGEST_BODY, MOST_SEATS, Moment, NoMemory, Seat, Step};
 use bq_state::core_parts::CoreParts;
-use bq_state::tubes::Tubes;
+use bq_state::store::Store;
 use bq_state::waiting::WaitingList;
 use bq_state::{changes, seats};
 use std::alloc::Global;
@@ -29,7 +29,7 @@ impl Model for Core {
 
     ghost Value = { CoreState };
 
-    ghost view = { λ c. record { machine = machine_of c.parts; comparisons = c.parts.jobs.comparisons } };
+    ghost view = { λ c. record { machine = machine_of c.parts; comparisons = c.parts.store.jobs.comparisons } };
 
     ghost invariant = { λ c. IsLawful (machine_of c.parts) };
 }
@@ -39,7 +39,7 @@ fn serve(state: &mut CoreParts, outs: &mut Outs)
     requires tubes { NoneIsGone (machine_of state.old) }
     requires room { HasRoom 0 (machine_of state.old) outs.old }
     ensures served { ServesAsking (machine_of state.old) outs.old outs.new
-        (machine_of state.new) state.old.jobs state.new.jobs }
+        (machine_of state.new) state.old.store.jobs state.new.store.jobs }
 {
     dispatch::dispatch(state, outs);
     waits::end_waits(state, outs);
@@ -125,19 +125,13 @@ fn empty_core(alloc: Global, config: Config) -> Result<Core, NoMemory>
         drop(seats);
         return Err(NoMemory);
     };
-    let Ok(tubes) = Tubes::new(alloc) else {
+    let Ok(store) = Store::new(alloc) else {
         drop(seats);
         drop(waiting);
-        return Err(NoMemory);
-    };
-    let Ok(jobs) = changes::no_jobs(alloc, &tubes) else {
-        drop(seats);
-        drop(waiting);
-        drop(tubes);
         return Err(NoMemory);
     };
     Ok(Core {
-        parts: changes::new_parts(config, jobs, seats, waiting, tubes),
+        parts: changes::new_parts(config, store, seats, waiting),
     })
 }
 
@@ -207,7 +201,7 @@ impl Core {
     pub fn comparisons(&self) -> u64
         ensures { result ≡ self.now.comparisons }
     {
-        self.parts.jobs.comparisons()
+        self.parts.store.comparisons()
     }
 
     /// Returns the earliest moment, in milliseconds, at which something happens by itself: a delay,

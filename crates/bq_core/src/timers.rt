@@ -5,17 +5,19 @@ ghost use Rattle.std.specs.Prelude.{if◌then◌else◌, length, ◌*◌, ◌+�
 ghost use Rattle.bq_core.specs.FiredTimers.{HaveFired, IsDue, after_giving_back, fired, has_due_timer, id_if_past};
 ghost use Rattle.bq_job.specs.{beside.NextDue.next_due as next_due_of, machine.{Asked.state_once_left, Changes.{first_of, is_held_by}}};
 ghost use Rattle.bq_job.specs.machine.{Changes.is_waiting, JobStates.{due_of, is_delayed, is_due_before, is_reserved}, Timers.after_timers};
-ghost use Rattle.bq_jobs.specs.{JobsSeen.ranked, Leases.{deadline_of, is_lease_before}, Searching.{Asks, Searches}};
+ghost use Rattle.bq_jobs.specs.{JobsSeen.ranked, Leases.{deadline_of, is_lease_before}, Searching.Asks};
 ghost use Rattle.bq_state.specs.{CoreParts.{count_jobs, machine_of}, Dues.{timers_due, warning_due, warning_due_at}};
-ghost use Rattle.bq_state.specs.{Dues.{with_seat_due, with_warning_due}, FirstTimeouts.AreTimeouts, Keeping.OnlySearches, SeatWaiters.AreWaitersOf};
+ghost use Rattle.bq_state.specs.{Dues.{with_seat_due, with_warning_due}, FirstTimeouts.AreTimeouts};
+ghost use Rattle.bq_state.specs.{Keeping.{OnlySearches, SearchesStore}, SeatWaiters.AreWaitersOf};
 ghost use Rattle.bq_state.specs.{WaitingList.at_waiter, Warnings.{AreWarned, is_waiting_there}};
 
 use bq_job::{JobId, JobState, Moment, Seat};
-use bq_jobs::{NumberedJobs, Timer};
+use bq_jobs::Timer;
 use bq_state::core_parts::CoreParts;
 use bq_state::job_store::JobChange;
 use bq_state::known::{FirstTimeout, Warns, earlier_of, first_to_give_up};
 use bq_state::seats::{SeatRecord, Waiter};
+use bq_state::store::Store;
 use bq_state::{changes, job_store, seats};
 
 // A timer of a job that is due: its delay has ended, or its time to run has expired.
@@ -29,13 +31,13 @@ enum Due {
 #[tactic(auto, using(bq_state::proofs::PartsLemmas::compared_sound, crate::proofs::FiredTimerLemmas::none_delayed))]
 fn first_delayed(state: &mut CoreParts) -> Option<(Moment, JobId)>
     ensures rank { result ≡ option_map (ranked (λ j. due_of j.state))
-        (first_of (λ j. is_delayed j.state) is_due_before state.old.jobs.jobs) }
+        (first_of (λ j. is_delayed j.state) is_due_before state.old.store.jobs.jobs) }
     ensures kept { OnlySearches 1 state.old state.new }
 {
     if !state.has_delayed() {
         return None;
     }
-    state.jobs.first_timed(Timer::Delay)
+    state.store.first_timed(Timer::Delay)
 }
 
 // Returns the reserved job whose time to run ends first, and when it does. If no client holds a
@@ -43,13 +45,13 @@ fn first_delayed(state: &mut CoreParts) -> Option<(Moment, JobId)>
 #[tactic(auto, using(bq_state::proofs::PartsLemmas::compared_sound, crate::proofs::FiredTimerLemmas::none_leased))]
 fn first_lease(state: &mut CoreParts) -> Option<(Moment, JobId)>
     ensures rank { result ≡ option_map (ranked (λ j. deadline_of j.state))
-        (first_of (λ j. is_reserved j.state) is_lease_before state.old.jobs.jobs) }
+        (first_of (λ j. is_reserved j.state) is_lease_before state.old.store.jobs.jobs) }
     ensures kept { OnlySearches 1 state.old state.new }
 {
     if !state.has_lease() {
         return None;
     }
-    state.jobs.first_timed(Timer::Lease)
+    state.store.first_timed(Timer::Lease)
 }
 
 // Returns the id of the job that was found, if its moment has come.
@@ -82,7 +84,7 @@ fn first_due(state: &mut CoreParts) -> Option<Due>
 // Makes a job ready because of this timer. If its time to run has expired, that is counted.
 fn fire_one(state: &mut CoreParts, due: Due)
     ensures fired { machine_of state.new ≡ fired due (machine_of state.old) }
-    ensures asks { Asks 8 state.old.jobs state.new.jobs }
+    ensures asks { Asks 8 state.old.store.jobs state.new.store.jobs }
 {
     let change = JobChange::FireTimers(state.moment);
     match due {
@@ -99,7 +101,7 @@ fn fire_one(state: &mut CoreParts, due: Due)
 fn fire_jobs(state: &mut CoreParts)
     ensures after { HaveFired state.old state.new }
     ensures asks { Asks
-        (10 * count_jobs (has_due_timer state.old.moment) state.old + 2) state.old.jobs state.new.jobs }
+        (10 * count_jobs (has_due_timer state.old.moment) state.old + 2) state.old.store.jobs state.new.store.jobs }
 {
     while let Some(due) = first_due(state) {
         fire_one(state, due);
@@ -110,7 +112,7 @@ fn fire_jobs(state: &mut CoreParts)
 pub(crate) fn fire(state: &mut CoreParts)
     ensures after { machine_of state.new ≡ after_timers (machine_of state.old) }
     ensures asks { Asks
-        (10 * count_jobs (has_due_timer state.old.moment) state.old + 2) state.old.jobs state.new.jobs }
+        (10 * count_jobs (has_due_timer state.old.moment) state.old + 2) state.old.store.jobs state.new.store.jobs }
 {
     fire_jobs(state);
     changes::end_pauses(state);
@@ -129,9 +131,9 @@ pub(crate) fn give_back_all(state: &mut CoreParts, seat: Seat, becomes: JobState
     requires free { is_reserved becomes ≡ false }
     ensures after { machine_of state.new ≡ after_giving_back becomes seat (machine_of state.old) }
     ensures asks { Asks
-        (9 * count_jobs (is_held_by seat) state.old + 1) state.old.jobs state.new.jobs }
+        (9 * count_jobs (is_held_by seat) state.old + 1) state.old.store.jobs state.new.store.jobs }
 {
-    while let Some((_, id)) = state.jobs.first_held(seat) {
+    while let Some((_, id)) = state.store.first_held(seat) {
         changes::change_job(state, id, &JobChange::GiveBack(becomes));
     }
 }
@@ -146,28 +148,28 @@ fn moment_of(found: Option<(Moment, JobId)>) -> Option<Moment>
 }
 
 // Returns when a waiting client gets DEADLINE_SOON for a job that it holds.
-fn warning_due(jobs: &mut NumberedJobs, client: &SeatRecord) -> Option<Moment>
-    ensures due { result ≡ warning_due jobs.old.jobs client.now }
-    ensures kept { Searches (if is_waiting client.now then 1 else 0) jobs.old jobs.new }
+fn warning_due(store: &mut Store, client: &SeatRecord) -> Option<Moment>
+    ensures due { result ≡ warning_due store.old.jobs.jobs client.now }
+    ensures kept { SearchesStore (if is_waiting client.now then 1 else 0) store.old store.new }
 {
     if !client.is_waiting() {
         return None;
     }
-    match jobs.first_held(client.number()) {
+    match store.first_held(client.number()) {
         None => None,
         Some((deadline, _)) => Some(deadline.saturating_sub(1000)),
     }
 }
 
 // Does the same for the client at a seat, if there is one.
-fn warning_due_at(jobs: &mut NumberedJobs, client: Option<&SeatRecord>) -> Option<Moment>
-    ensures due { result ≡ warning_due_at jobs.old.jobs (option_copied client.entry) }
-    ensures kept { Searches
-        (if is_waiting_there (option_copied client.entry) then 1 else 0) jobs.old jobs.new }
+fn warning_due_at(store: &mut Store, client: Option<&SeatRecord>) -> Option<Moment>
+    ensures due { result ≡ warning_due_at store.old.jobs.jobs (option_copied client.entry) }
+    ensures kept { SearchesStore
+        (if is_waiting_there (option_copied client.entry) then 1 else 0) store.old store.new }
 {
     match client {
         None => None,
-        Some(client) => warning_due(jobs, client),
+        Some(client) => warning_due(store, client),
     }
 }
 
@@ -175,33 +177,29 @@ fn warning_due_at(jobs: &mut NumberedJobs, client: Option<&SeatRecord>) -> Optio
 // DEADLINE_SOON.
 fn with_warning_of(
     best: Option<Moment>,
-    jobs: &mut NumberedJobs,
+    store: &mut Store,
     seats: &[SeatRecord],
     waiter: Waiter,
 ) -> Option<Moment>
-    ensures due { result ≡ at_waiter (with_warning_due jobs.old.jobs) seats.now best waiter }
-    ensures kept { Searches 1 jobs.old jobs.new }
+    ensures due { result ≡ at_waiter (with_warning_due store.old.jobs.jobs) seats.now best waiter }
+    ensures kept { SearchesStore 1 store.old store.new }
 {
     match seats.get(usize::from(waiter.1)) {
         None => best,
-        Some(client) => earlier_of(best, warning_due(jobs, client)),
+        Some(client) => earlier_of(best, warning_due(store, client)),
     }
 }
 
 // Returns when the first of these waiters gets DEADLINE_SOON.
 #[tactic(auto, using(crate::proofs::AskLemmas::asks_then, bq_state::proofs::LoopLemmas::folded_beside))]
-fn first_warning(
-    jobs: &mut NumberedJobs,
-    seats: &[SeatRecord],
-    waiters: &[Waiter],
-) -> Option<Moment>
+fn first_warning(store: &mut Store, seats: &[SeatRecord], waiters: &[Waiter]) -> Option<Moment>
     ensures due { result
-        ≡ fold (at_waiter (with_warning_due jobs.old.jobs) seats.now) None waiters.now }
-    ensures kept { Searches (length waiters.now) jobs.old jobs.new }
+        ≡ fold (at_waiter (with_warning_due store.old.jobs.jobs) seats.now) None waiters.now }
+    ensures kept { SearchesStore (length waiters.now) store.old store.new }
 {
     let mut best = None;
     for i in 0..waiters.len() {
-        best = with_warning_of(best, jobs, seats, waiters[i]);
+        best = with_warning_of(best, store, seats, waiters[i]);
     }
     best
 }
@@ -210,27 +208,27 @@ fn first_warning(
 // checked or, if that is more than one, only waiting ones.
 #[tactic(auto, using(crate::proofs::AskLemmas::warnings_asked))]
 fn warnings_due(
-    jobs: &mut NumberedJobs,
+    store: &mut Store,
     seats: &[SeatRecord],
     waiters: &[Waiter],
     warns: &Warns,
 ) -> Option<Moment>
-    requires warned { AreWarned warns.now jobs.old.jobs seats.now }
+    requires warned { AreWarned warns.now store.old.jobs.jobs seats.now }
     requires waiters { AreWaitersOf waiters.now seats.now }
-    ensures due { result ≡ fold (with_warning_due jobs.old.jobs) None seats.now }
-    ensures kept { Searches (count_by is_waiting seats.now) jobs.old jobs.new }
+    ensures due { result ≡ fold (with_warning_due store.old.jobs.jobs) None seats.now }
+    ensures kept { SearchesStore (count_by is_waiting seats.now) store.old store.new }
 {
     match warns {
         Warns::Nothing => None,
-        Warns::Client(seat) => warning_due_at(jobs, seats::find(seats, *seat)),
-        Warns::Any => first_warning(jobs, seats, waiters),
+        Warns::Client(seat) => warning_due_at(store, seats::find(seats, *seat)),
+        Warns::Any => first_warning(store, seats, waiters),
     }
 }
 
 // Returns when a timer of a job is due, not counting DEADLINE_SOON.
 #[tactic(auto, using(std::proofs::lemmas::Grind::common_steps))]
 fn jobs_due(state: &mut CoreParts) -> Option<Moment>
-    ensures due { result ≡ timers_due state.old.jobs.jobs }
+    ensures due { result ≡ timers_due state.old.store.jobs.jobs }
     ensures kept { OnlySearches 2 state.old state.new }
 {
     let due = first_delayed(state);
@@ -256,11 +254,11 @@ pub(crate) fn next_due(state: &mut CoreParts) -> Option<Moment>
     ensures due { result ≡ next_due_of (machine_of state.old) }
     ensures same { machine_of state.new ≡ machine_of state.old }
     ensures asks { Asks
-        (count_by is_waiting state.old.seats.items + 2) state.old.jobs state.new.jobs }
+        (count_by is_waiting state.old.seats.items + 2) state.old.store.jobs state.new.store.jobs }
 {
     let jobs = jobs_due(state);
     let warning = warnings_due(
-        &mut state.jobs,
+        &mut state.store,
         state.seats.as_slice(),
         state.waiting.as_slice(),
         &state.known.warns,
@@ -273,6 +271,6 @@ pub(crate) fn next_due(state: &mut CoreParts) -> Option<Moment>
     changes::settle_warnings(state, warning.is_some());
     earlier_of(
         earlier_of(jobs, warning),
-        earlier_of(state.tubes.first_pause_end(), seats),
+        earlier_of(state.store.first_pause_end(), seats),
     )
 }

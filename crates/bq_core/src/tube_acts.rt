@@ -27,7 +27,7 @@ pub(crate) fn use_tube(
     answer: &mut Answer,
 ) -> Reply
     ensures reply { RepliesTo seat true (use_effect tube.now) state.old result answer.new state.new }
-    ensures asks { AsksAsChanged state.old.jobs state.new.jobs }
+    ensures asks { AsksAsChanged state.old.store.jobs state.new.store.jobs }
 {
     let Ok(number) = changes::provide_tube(state, alloc, tube) else {
         return Reply::LeftOut;
@@ -64,7 +64,7 @@ pub(crate) fn watch(
 ) -> Reply
     ensures reply { RepliesAt seat true
         (watch_effect tube.now) state.old result answer.new state.new }
-    ensures asks { AsksAsChanged state.old.jobs state.new.jobs }
+    ensures asks { AsksAsChanged state.old.store.jobs state.new.store.jobs }
 {
     let Some(client) = seats::find(state.seats.as_slice(), seat) else {
         return Reply::Silent;
@@ -93,7 +93,7 @@ pub(crate) fn ignore(
 ) -> Reply
     ensures reply { RepliesAt seat false
         (ignore_effect tube.now) state.old result answer.new state.new }
-    ensures asks { AsksAsChanged state.old.jobs state.new.jobs }
+    ensures asks { AsksAsChanged state.old.store.jobs state.new.store.jobs }
 {
     let Some(client) = seats::find(state.seats.as_slice(), seat) else {
         return Reply::Silent;
@@ -113,7 +113,7 @@ pub(crate) fn ignore(
 pub(crate) fn pause(state: &mut CoreParts, tube: &TubeName, seconds: u32, answer: &mut Answer)
     ensures reply { pause_effect tube.now seconds (machine_of state.old)
         ≡ telling answer.new (machine_of state.new) }
-    ensures asks { AsksAsChanged state.old.jobs state.new.jobs }
+    ensures asks { AsksAsChanged state.old.store.jobs state.new.store.jobs }
 {
     let hint = changes::number_of(state, tube);
     if !changes::is_tube(state, tube, hint) {
@@ -130,7 +130,7 @@ pub(crate) fn pause(state: &mut CoreParts, tube: &TubeName, seconds: u32, answer
 #[tactic(auto, using(crate::proofs::ToldLemmas::shown_so))]
 fn show(state: &mut CoreParts, id: JobId, answer: &mut Answer) -> Reply
     ensures reply { RepliesBy false (peek_effect id) state.old result answer.new state.new }
-    ensures asks { Asks 1 state.old.jobs state.new.jobs }
+    ensures asks { Asks 1 state.old.store.jobs state.new.store.jobs }
 {
     match state.share(id) {
         None => not_found(answer),
@@ -145,7 +145,7 @@ fn show(state: &mut CoreParts, id: JobId, answer: &mut Answer) -> Reply
 /// Shows the job with this id.
 pub(crate) fn peek(state: &mut CoreParts, id: JobId, answer: &mut Answer) -> Reply
     ensures reply { RepliesBy false (peek_effect id) state.old result answer.new state.new }
-    ensures asks { AsksAsChanged state.old.jobs state.new.jobs }
+    ensures asks { AsksAsChanged state.old.store.jobs state.new.store.jobs }
 {
     show(state, id, answer)
 }
@@ -153,11 +153,11 @@ pub(crate) fn peek(state: &mut CoreParts, id: JobId, answer: &mut Answer) -> Rep
 // Returns the id of the first job in this list of the tube that the client uses.
 fn first_used(state: &mut CoreParts, seat: Seat, list: JobList) -> Option<JobId>
     ensures id { AtSeat seat state.old
-        (λ s. result ≡ option_map (λ j. j.id) (first_in list s.used state.old.jobs.jobs)) }
+        (λ s. result ≡ option_map (λ j. j.id) (first_in list s.used state.old.store.jobs.jobs)) }
     ensures kept { OnlySearches 1 state.old state.new }
 {
     let client = seats::find(state.seats.as_slice(), seat)?;
-    job_store::first(&mut state.jobs, state.tubes.names(), list, client.used())
+    job_store::first(&mut state.store, list, client.used())
 }
 
 /// Shows the first job in this list of the tube that the client uses.
@@ -169,7 +169,7 @@ pub(crate) fn peek_first(
 ) -> Reply
     ensures reply { RepliesAt seat false
         (peek_first_effect list) state.old result answer.new state.new }
-    ensures asks { AsksAsChanged state.old.jobs state.new.jobs }
+    ensures asks { AsksAsChanged state.old.store.jobs state.new.store.jobs }
 {
     match first_used(state, seat, list) {
         None => not_found(answer),

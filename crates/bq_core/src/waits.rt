@@ -3,16 +3,17 @@ ghost use Rattle.std.specs.{List.list_any, Prelude.{IfSome, None, Some, false, l
 ghost use Rattle.bq_core.specs.{Turns.{Gives, HasRoom, none_refused}, WaitEnds.{Checks, EndsWait}};
 ghost use Rattle.bq_job.specs.{beside.Computed.waiting_count, machine.{Changes.first_of, Dispatch.is_wait_before, Machine.SeatRecord}};
 ghost use Rattle.bq_job.specs.machine.Waits.{WaitEndTurn, is_ending_lease, next_end};
-ghost use Rattle.bq_jobs.specs.Searching.{Asks, Searches};
+ghost use Rattle.bq_jobs.specs.Searching.{Asks};
 ghost use Rattle.bq_state.specs.{CoreParts.{fields, machine_of}, EndingWaits.{has_waited, is_lease_short, is_soon}};
-ghost use Rattle.bq_state.specs.{EndingWaits.{may_end, told_at_end, waits_after}, Keeping.OnlySearches, Places.item_at};
+ghost use Rattle.bq_state.specs.{EndingWaits.{may_end, told_at_end, waits_after}, Keeping.{OnlySearches, SearchesStore}, Places.item_at};
 
 use bq_core_api::Outs;
 use bq_job::{Answer, JobId, Moment, Seat};
-use bq_jobs::{NumberedJobs, Timer};
+use bq_jobs::Timer;
 use bq_state::core_parts::CoreParts;
 use bq_state::known::{self, FirstTimeout};
 use bq_state::seats::Waiter;
+use bq_state::store::Store;
 use bq_state::{changes, seats};
 
 // Returns true if a moment was found and comes within a second.
@@ -26,22 +27,22 @@ fn is_soon(found: Option<(Moment, JobId)>, moment: Moment) -> bool
 }
 
 // Returns true if the client at the seat holds a job whose time to run ends within a second.
-fn is_deadline_soon(jobs: &mut NumberedJobs, seat: Seat, moment: Moment) -> bool
-    ensures soon { result ≡ list_any (λ j. is_ending_lease moment seat j.state) jobs.old.jobs }
-    ensures kept { Searches 1 jobs.old jobs.new }
+fn is_deadline_soon(store: &mut Store, seat: Seat, moment: Moment) -> bool
+    ensures soon { result ≡ list_any (λ j. is_ending_lease moment seat j.state) store.old.jobs.jobs }
+    ensures kept { SearchesStore 1 store.old store.new }
 {
-    is_soon(jobs.first_held(seat), moment)
+    is_soon(store.first_held(seat), moment)
 }
 
 // Returns true if the time to run of some reserved job ends within a second. Like the two functions
 // below it is not inlined: usually no client waits, so that a step needs little code for its checks.
 #[inline(never)]
 #[tactic(auto, using(crate::proofs::FiredTimerLemmas::some_warned))]
-fn is_some_deadline_soon(jobs: &mut NumberedJobs, moment: Moment) -> bool
-    ensures soon { result ≡ list_any (is_lease_short moment) jobs.old.jobs }
-    ensures kept { Searches 1 jobs.old jobs.new }
+fn is_some_deadline_soon(store: &mut Store, moment: Moment) -> bool
+    ensures soon { result ≡ list_any (is_lease_short moment) store.old.jobs.jobs }
+    ensures kept { SearchesStore 1 store.old store.new }
 {
-    is_soon(jobs.first_timed(Timer::Lease), moment)
+    is_soon(store.first_timed(Timer::Lease), moment)
 }
 
 // Returns the answer to the waiting client at place k if its wait ends now. Its first lease is
@@ -54,7 +55,7 @@ fn told_at_end(state: &mut CoreParts, k: usize) -> Option<Answer>
 {
     let number = state.seats[k].number();
     let is_over = state.seats[k].is_timed_out(state.moment);
-    if is_deadline_soon(&mut state.jobs, number, state.moment) {
+    if is_deadline_soon(&mut state.store, number, state.moment) {
         Some(Answer::DeadlineSoon)
     } else if is_over {
         Some(Answer::TimedOut)
@@ -69,7 +70,7 @@ fn end_wait(state: &mut CoreParts, outs: &mut Outs, k: usize, answer: Answer)
     requires room { length outs.old.given < outs.old.most }
     ensures given { EndsWait (machine_of state.old) k answer outs.old outs.new
         (machine_of state.new) }
-    ensures jobs { state.new.jobs ≡ state.old.jobs }
+    ensures jobs { state.new.store.jobs ≡ state.old.store.jobs }
 {
     let number = state.seats[k].number();
     changes::stop_waiting(state, number);
@@ -82,7 +83,7 @@ fn end_one(state: &mut CoreParts, outs: &mut Outs, k: usize)
     requires seat { k < length state.old.seats.items }
     requires room { length outs.old.given < outs.old.most }
     ensures looked { Checks (machine_of state.old) k outs.old outs.new (machine_of state.new) }
-    ensures asks { Asks 1 state.old.jobs state.new.jobs }
+    ensures asks { Asks 1 state.old.store.jobs state.new.store.jobs }
 {
     match told_at_end(state, k) {
         None => {}
@@ -113,7 +114,7 @@ fn end_all(state: &mut CoreParts, outs: &mut Outs)
     ensures given { Gives WaitEndTurn none_refused
         (machine_of state.old) (machine_of state.new) outs.old outs.new }
     ensures done { next_end (machine_of state.new) ≡ None }
-    ensures asks { Asks (waiting_count (machine_of state.old)) state.old.jobs state.new.jobs }
+    ensures asks { Asks (waiting_count (machine_of state.old)) state.old.store.jobs state.new.store.jobs }
 {
     let mut last = None;
     while let Some(k) = next_waiting(state, last) {
@@ -148,7 +149,7 @@ fn may_end(state: &mut CoreParts) -> bool
     ensures none { result ≡ false → next_end (machine_of state.old) ≡ None }
     ensures some { result ≡ may_end (machine_of state.old) }
     ensures same { machine_of state.new ≡ machine_of state.old }
-    ensures asks { Asks 1 state.old.jobs state.new.jobs }
+    ensures asks { Asks 1 state.old.store.jobs state.new.store.jobs }
 {
     if !state.has_waiter() {
         return false;
@@ -156,7 +157,7 @@ fn may_end(state: &mut CoreParts) -> bool
     if is_some_wait_over(state) {
         return true;
     }
-    is_some_deadline_soon(&mut state.jobs, state.moment)
+    is_some_deadline_soon(&mut state.store, state.moment)
 }
 
 /// Ends the waits that end now, the longest one first.
@@ -166,7 +167,7 @@ pub(crate) fn end_waits(state: &mut CoreParts, outs: &mut Outs)
     ensures given { Gives WaitEndTurn none_refused
         (machine_of state.old) (machine_of state.new) outs.old outs.new }
     ensures done { next_end (machine_of state.new) ≡ None }
-    ensures asks { Asks (waiting_count (machine_of state.old) + 1) state.old.jobs state.new.jobs }
+    ensures asks { Asks (waiting_count (machine_of state.old) + 1) state.old.store.jobs state.new.store.jobs }
 {
     if may_end(state) {
         end_all(state, outs);

@@ -25,10 +25,10 @@ use Rattle.bq_jobs.specs.Searching.{FindsById}
 use Rattle.bq_jobs.specs.Told.{moved_told, removed_told, shared_told}
 use Rattle.bq_jobs.specs.Seen.{IsBodyOf, IsTubeOf, but_for_tube}
 use Rattle.bq_jobs.specs.Sharing.{ChangesShared, SharesAndChanges}
-use Rattle.bq_jobs.specs.declared.job_orders.JobMove.{JobMove}
-use Rattle.bq_jobs.specs.declared.job_orders.NumberedMove.{NumberedMove}
+use Rattle.bq_jobs.specs.declared.numbered_jobs.JobMove.{JobMove}
+use Rattle.bq_jobs.specs.declared.numbered_jobs.NumberedMove.{NumberedMove}
 use Rattle.bq_jobs.proofs.Changes.{stays_in}
-use Rattle.bq_jobs.proofs.NumberingLemmas.{name_kept, number_other, same_names}
+use Rattle.bq_jobs.proofs.NumberingLemmas.{name_kept, number_other}
 
 same_itself : (a : List ℕ) → is_same_name a a ≡ true
 same_itself a = (bytes_decides a a).1 refl
@@ -217,10 +217,10 @@ module _ (k l : Numbering) where
       named_left rows h none = named_stay rows (names_left h.paired rows h.numbered none)
 
 -- the tube of a job is the name of its number
-pub tube_named : (k l : Numbering) (id : ℕ) (rows : List Job) → AreRegistered k rows → IsPaired l → l.numbers ≡ k.numbers → (n : List ℕ)
+pub tube_named : (k : Numbering) (id : ℕ) (rows : List Job) → AreRegistered k rows → (n : List ℕ)
     → option_map (λ j. j.tube) (job_with id rows) ≡ Some n
-    → name_of (number_in n) l ≡ option_map (λ j. j.tube) (job_with id (map (named k) rows))
-tube_named k l id rows h g same n e = grind (arith, same_names, job_named, named_is, numbered_there)
+    → name_of (number_in n) k ≡ option_map (λ j. j.tube) (job_with id (map (named k) rows))
+tube_named k id rows h n e = grind (arith, job_named, named_is, numbered_there)
 
 pub no_tube_named : (k : Numbering) (id : ℕ) (rows : List Job) → option_map (λ j. j.tube) (job_with id rows) ≡ None
     → None ≡ option_map (λ j. j.tube) (job_with id (map (named k) rows))
@@ -245,7 +245,7 @@ named_from : (k : Numbering) (id : ℕ) (rows : List Job) (j : Job) → job_with
     → IsNamedFrom k (job_with id rows) j
 named_from k id rows j e = grind (arith, job_named)
 
-some_named : (k : Numbering) (id : ℕ) (rows : List Job) → is_some (job_with id (map (named k) rows)) ≡ is_some (job_with id rows)
+pub some_named : (k : Numbering) (id : ℕ) (rows : List Job) → is_some (job_with id (map (named k) rows)) ≡ is_some (job_with id rows)
 some_named k id rows = grind (arith, job_named)
 
 -- What a search does to records, it does to their jobs.
@@ -254,20 +254,19 @@ module _ {A B : Type 0} (k : Numbering) (id : ℕ) (rows new old : JobsSeen) (ro
   pub finds_named : FindsById id row rows new → FindsById id told old (seen_named new k)
   finds_named f = grind (arith, common_steps, some_named)
 
-pub no_name : (k l : Numbering) (id : ℕ) (rows : List Job) → AreRegistered k rows → IsPaired l → l.numbers ≡ k.numbers → (n : List ℕ)
-    → true ≡ is_some (job_with id rows) → IsTubeOf (job_with id rows) n → name_of (number_in n) l ≡ None → ⊥
-no_name k l id rows h g same n some is none = of (job_with id rows) refl some is
+pub no_name : (k : Numbering) (id : ℕ) (rows : List Job) → AreRegistered k rows → (n : List ℕ)
+    → true ≡ is_some (job_with id rows) → IsTubeOf (job_with id rows) n → name_of (number_in n) k ≡ None → ⊥
+no_name k id rows h n some is none = of (job_with id rows) refl some is
   where
     of : (o : Option Job) → job_with id rows ≡ o → true ≡ is_some o → IsTubeOf o n → ⊥
     of None there e is = absurd cc
     of (Some j) there e is =
         let has : is_some (name_of (number_in j.tube) k) ≡ true = (numbered_there k id rows j h.numbered there).1 in
-        grind (arith, same_names)
+        grind arith
 
-pub tube_is : (k l : Numbering) (id : ℕ) (rows : List Job) → AreRegistered k rows → IsPaired l → l.numbers ≡ k.numbers
-    → (n tube : List ℕ) → IsTubeOf (job_with id rows) n → name_of (number_in n) l ≡ Some tube
-    → IsTubeOf (job_with id (map (named k) rows)) tube
-tube_is k l id rows h g same n tube is its j e = grind (arith, named_from k id rows j e, same_names k l h.paired g (number_in n) same)
+pub tube_is : (k : Numbering) (id : ℕ) (rows : List Job) (n tube : List ℕ) → IsTubeOf (job_with id rows) n
+    → name_of (number_in n) k ≡ Some tube → IsTubeOf (job_with id (map (named k) rows)) tube
+tube_is k id rows n tube is its j e = grind (arith, named_from k id rows j e)
 
 body_is : (k : Numbering) (id : ℕ) (rows : List Job) (body : List ℕ) → IsBodyOf (job_with id rows) body
     → IsBodyOf (job_with id (map (named k) rows)) body
@@ -295,7 +294,7 @@ module _ (k : Numbering) (id : ℕ) (f : Job → Job) (ignores : IgnoresTube f) 
   })
 
   abbrev IsReportedOf : List ℕ × JobMove → Type 0
-  IsReportedOf r = (Some r.1 ≡ option_map (moved_by f) (job_with id old.jobs)) × HasNumber r.1.tube r.0 old.tubes
+  IsReportedOf r = (Some r.1 ≡ option_map (moved_by f) (job_with id old.jobs)) × HasNumber r.1.tube r.0 k.numbers
 
   named_report : (m : NumberedMove) → IsReported m → IsReportedOf (moved_told k m)
   named_report m told = grind (arith, told_moved k id f ignores rows.jobs, number_moved k f id rows.jobs h)
@@ -311,4 +310,4 @@ pub ruleset additions = (ids_named, none_named, row_registered, row_added)
 
 pub ruleset changes = (changed_named, ids_named, registered_changed, told_moved)
 
-pub ruleset shares = (no_name, tube_is, body_told)
+pub ruleset shares = (no_name, tube_is, body_told, some_named)

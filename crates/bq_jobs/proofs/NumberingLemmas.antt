@@ -183,20 +183,6 @@ module _ (k l : Numbering) (h : IsPaired k) (g : IsPaired l) (n : ℕ) where
       → ((name : List ℕ) → name_of n k ≡ Some name → number_of name k ≡ Some n → number_of name l ≡ Some n) → name_of n l ≡ name_of n k
   name_kept some keeps = kept_by (name_of n k) refl some keeps
 
-  -- So numberings with the same numbers have the same names.
-  pub same_names : l.numbers ≡ k.numbers → name_of n l ≡ name_of n k
-  same_names same = of (name_of n k) refl (name_of n l) refl
-    where
-      of : (o : Option (List ℕ)) → name_of n k ≡ o → (p : Option (List ℕ)) → name_of n l ≡ p → p ≡ o
-      of None its None there = refl
-      of None its (Some name) there = absurd (
-          let own : number_of name k ≡ Some n = ap (λ es. lookup (is_at (slice_cmp nat_cmp name)) es) (sym same) ∙ g.back n name there in
-          let two : None ≡ Some name = sym its ∙ h.there name n own in
-          cc)
-      of (Some name) its p there =
-          let own : number_of name l ≡ Some n = ap (λ es. lookup (is_at (slice_cmp nat_cmp name)) es) same ∙ h.back n name its in
-          sym there ∙ g.there name n own
-
 -- When a tube is removed, the others keep their numbers.
 module _ (k : Numbering) (h : IsPaired k) (name : List ℕ) where
   pub number_left : (other : List ℕ) → is_same_name name other ≡ false → number_of other (without_known name k) ≡ number_of other k

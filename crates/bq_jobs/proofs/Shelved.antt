@@ -15,7 +15,7 @@ use Rattle.bq_job.specs.beside.Lawful.{AreIdsWithin}
 use Rattle.bq_job.proofs.KeptLemmas.{ids_of_map}
 use Rattle.bq_jobs.specs.contracts.places.GroupOrd.TheImpl.Laws as group_laws
 use Rattle.bq_jobs.specs.contracts.places.TimerOrd.TheImpl.Laws as timer_laws
-use Rattle.bq_jobs.specs.declared.job_orders.JobOrders.TheInside.{Inside as Parts}
+use Rattle.bq_jobs.specs.declared.numbered_jobs.NumberedJobs.TheInside.{Inside as Parts}
 use Rattle.bq_jobs.specs.Changed.{KeepsId, with_changed}
 use Rattle.bq_jobs.specs.Inside.{ById, IsOrderOf, IsShelved, jobs_of, seen_in, with_id}
 use Rattle.bq_jobs.specs.JobsSeen.{JobsSeen, search_bound, with_added, without}

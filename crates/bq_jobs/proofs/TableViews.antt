@@ -30,9 +30,9 @@ extends_by old new name n absent is = λ q m own.
       | inr t ↦ ap (λ b. cond b (Some n) (lookup (is_at (slice_cmp nat_cmp q)) old)) t ∙ own
     ]
 
--- the value and the number that a table has
+-- what a contract sees of a table
 abbrev pub table_of : {V : Type 0} → Numbering → List V → Tabled V
-table_of k vs = record { entries = entries_at k.numbers vs; numbers = k.numbers }
+table_of k vs = record { entries = entries_at k.numbers vs; tubes = k }
 
 module _ {V : Type 0} (k : Numbering) (vs : List V) (h : IsPaired k × (length vs ≡ length k.names)) where
   pub valued : AreValued (length vs) k.numbers
@@ -52,8 +52,8 @@ module _ {V : Type 0} (k : Numbering) (vs : List V) (h : IsPaired k × (length v
   absent_by q (Some n) own none = absurd (let its = has_value vs n (slot_of q n own) in let e = sym none ∙ its.1 in cc)
 
   module _ (t : Tabled V) (is : table_of k vs ≡ t) where
-    pub table_keys : keys_of t.entries ≡ keys_of t.numbers
-    table_keys = subst (λ (s : Tabled V). keys_of s.entries ≡ keys_of s.numbers) is (same_keys vs k.numbers valued)
+    pub table_keys : keys_of t.entries ≡ keys_of t.tubes.numbers
+    table_keys = subst (λ (s : Tabled V). keys_of s.entries ≡ keys_of s.tubes.numbers) is (same_keys vs k.numbers valued)
 
     pub table_order : InOrder (slice_cmp nat_cmp) t.entries
     table_order = subst (λ (s : Tabled V). InOrder (slice_cmp nat_cmp) s.entries) is order
@@ -73,7 +73,7 @@ module _ {V : Type 0} (k : Numbering) (vs : List V) (h : IsPaired k × (length v
       slot_there n some = slot_of q (number_in n) (sym found ∙ ap (option_map number_in) some)
 
     pub table_extends : (new : List (List ℕ × ℕ)) (name : List ℕ) (n : ℕ) → lookup (is_at (slice_cmp nat_cmp name)) t.entries ≡ None
-        → new ≡ insert_entry (slice_cmp nat_cmp) k.numbers name n → Extends t.numbers new
+        → new ≡ insert_entry (slice_cmp nat_cmp) k.numbers name n → Extends t.tubes.numbers new
     table_extends new name n absent numbers = grind (arith, extends_by, absent_by, look)
 
   pub many_inserted : (new : Numbering) (name : List ℕ) (n : ℕ) (w : V) → n ≤ length k.names

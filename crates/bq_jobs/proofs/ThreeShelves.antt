@@ -12,7 +12,7 @@ use Rattle.bq_job.specs.declared.job.Job.{Job}
 use Rattle.bq_job.specs.machine.Changes.{job_with}
 use Rattle.bq_jobs.specs.contracts.places.GroupOrd.TheImpl.Laws as group_laws
 use Rattle.bq_jobs.specs.contracts.places.TimerOrd.TheImpl.Laws as timer_laws
-use Rattle.bq_jobs.specs.declared.job_orders.JobOrders.TheInside.{Inside as Parts}
+use Rattle.bq_jobs.specs.declared.numbered_jobs.NumberedJobs.TheInside.{Inside as Parts}
 use Rattle.bq_jobs.specs.declared.places.Holder.{Holder}
 use Rattle.bq_jobs.specs.declared.places.ShelfPlace.{ShelfPlace}
 use Rattle.bq_jobs.specs.declared.places.Timer.{Timer}

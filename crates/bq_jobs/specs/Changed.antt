@@ -5,10 +5,10 @@ use Rattle.std.specs.Map.{lookup, set_value}
 use Rattle.std.specs.BTreeMap.{is_at}
 use Rattle.bq_job.specs.declared.job.Job.{Job}
 use Rattle.bq_index.specs.Edited.{edited_if}
-use Rattle.bq_jobs.specs.declared.job_orders.JobMove.{JobMove}
-use Rattle.bq_jobs.specs.declared.job_orders.NumberedMove.{NumberedMove}
-use Rattle.bq_jobs.specs.declared.job_orders.JobRemoval.{JobRemoval}
-use Rattle.bq_jobs.specs.declared.job_orders.PriAndState.{PriAndState}
+use Rattle.bq_jobs.specs.declared.numbered_jobs.JobMove.{JobMove}
+use Rattle.bq_jobs.specs.declared.numbered_jobs.NumberedMove.{NumberedMove}
+use Rattle.bq_jobs.specs.declared.numbered_jobs.JobRemoval.{JobRemoval}
+use Rattle.bq_jobs.specs.declared.numbered_jobs.PriAndState.{PriAndState}
 
 abbrev pub pri_and_state : Job → PriAndState
 pri_and_state j = record { pri = j.pri; state = j.state }

@@ -4,8 +4,8 @@ use Rattle.std.specs.declared.cmp.Ordering.{Ordering}
 use Rattle.bq_jobs.specs.declared.places.Holder.{Holder}
 use Rattle.bq_jobs.specs.declared.places.ShelfPlace.{ShelfPlace}
 use Rattle.bq_jobs.specs.declared.places.Timer.{Timer}
-use Rattle.bq_jobs.specs.declared.job_orders.NumberedMove.{NumberedMove}
-use Rattle.bq_jobs.specs.declared.job_orders.PriAndState.{PriAndState}
+use Rattle.bq_jobs.specs.declared.numbered_jobs.NumberedMove.{NumberedMove}
+use Rattle.bq_jobs.specs.declared.numbered_jobs.PriAndState.{PriAndState}
 use Rattle.bq_jobs.specs.Inside.{Order}
 use Rattle.bq_jobs.specs.PlaceOrder.{ComparesTwice, holds_place, with_place, without_place}
 use Rattle.bq_jobs.specs.Places.{in_groups_at, in_timers_at}

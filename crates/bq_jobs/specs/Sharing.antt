@@ -7,7 +7,7 @@ use Rattle.bq_jobs.specs.Changed.{numbered_move, with_changed}
 use Rattle.bq_jobs.specs.JobsSeen.{ComparesAtMost, JobsSeen}
 use Rattle.bq_jobs.specs.Searching.{Searches}
 use Rattle.bq_jobs.specs.Seen.{IsBodyOf}
-use Rattle.bq_jobs.specs.declared.job_orders.NumberedMove.{NumberedMove}
+use Rattle.bq_jobs.specs.declared.numbered_jobs.NumberedMove.{NumberedMove}
 
 -- what a record may return: the report about its change, and its body
 abbrev pub MayShare : {E : Type 0} → (Job → Job) → Job → Result (NumberedMove × List ℕ) E → Type 0

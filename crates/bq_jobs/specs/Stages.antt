@@ -2,8 +2,8 @@
 use Rattle.std.specs.Prelude.{ℕ}
 use Rattle.bq_job.specs.declared.job.JobState.{JobState}
 use Rattle.bq_job.specs.declared.job.JobState.TheVariants as states
-use Rattle.bq_jobs.specs.declared.job_orders.Stage.{Stage}
-use Rattle.bq_jobs.specs.declared.job_orders.Stage.TheVariants as stages
+use Rattle.bq_jobs.specs.declared.numbered_jobs.Stage.{Stage}
+use Rattle.bq_jobs.specs.declared.numbered_jobs.Stage.TheVariants as stages
 
 -- from the kind of state, the seat of the holder, and the moment or the number that belongs to the
 -- state

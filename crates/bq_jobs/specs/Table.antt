@@ -1,11 +1,12 @@
 -- A value for each registered tube.
 use Rattle.std.specs.Option.{option_map}
 use Rattle.std.specs.Prelude.{ℕ, zero, suc, Bool, false, List, [], ◌∷◌, Option, None, Some, slice_get}
+use Rattle.bq_jobs.specs.Numbering.{Numbering}
 
--- the values in the order of the names of their tubes, and the number of each tube by its name
+-- the values in the order of the names of their tubes, and the numbers of the tubes
 pub record Tabled (V : Type 0) : Type 0 where
   pub entries : List (List ℕ × V)
-  pub numbers : List (List ℕ × ℕ)
+  pub tubes : Numbering
 
 module _ {V : Type 0} where
   -- the entries with one before them, if there is a value for it

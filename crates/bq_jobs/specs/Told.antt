@@ -1,9 +1,9 @@
 -- A record with the name of its tube.
 use Rattle.std.specs.Prelude.{List, [], unwrap_or, ℕ, Option, Some, None, Result, Ok, Err}
-use Rattle.bq_jobs.specs.declared.job_orders.JobMove.{JobMove}
-use Rattle.bq_jobs.specs.declared.job_orders.NumberedMove.{NumberedMove}
-use Rattle.bq_jobs.specs.declared.job_orders.JobRemoval.{JobRemoval}
-use Rattle.bq_jobs.specs.declared.job_orders.PriAndState.{PriAndState}
+use Rattle.bq_jobs.specs.declared.numbered_jobs.JobMove.{JobMove}
+use Rattle.bq_jobs.specs.declared.numbered_jobs.NumberedMove.{NumberedMove}
+use Rattle.bq_jobs.specs.declared.numbered_jobs.JobRemoval.{JobRemoval}
+use Rattle.bq_jobs.specs.declared.numbered_jobs.PriAndState.{PriAndState}
 use Rattle.bq_jobs.specs.Names.{number_in}
 use Rattle.bq_jobs.specs.Numbering.{Numbering, name_of}
 

@@ -12,7 +12,7 @@ use std::snapshot::Snapshot;
 /// takes no memory. A report has it in place of the name, which takes 201 bytes.
 #[derive(Drop)]
 pub struct GhostName {
-    tubes: Snapshot<Snapshot<NumberedTubes>>,
+    tubes: Snapshot<NumberedTubes>,
     number: Snapshot<TubeNumber>,
 }
 
@@ -23,13 +23,13 @@ impl Model for GhostName {
 
     ghost Value = { List ℕ };
 
-    ghost view = { λ n. unwrap_or (name_of (number_in n.number.value) n.tubes.value.value) [] };
+    ghost view = { λ n. unwrap_or (name_of (number_in n.number.value) n.tubes.value) [] };
 }
 
 impl GhostName {
     /// Returns the name that this number has in a table, if it has one.
-    pub(crate) fn of(tubes: &Snapshot<NumberedTubes>, number: TubeNumber) -> GhostName
-        ensures { result ≡ unwrap_or (name_of (number_in number) tubes.now.value) [] }
+    pub fn of(tubes: &NumberedTubes, number: TubeNumber) -> GhostName
+        ensures { result ≡ unwrap_or (name_of (number_in number) tubes.now) [] }
     {
         GhostName {
             tubes: Snapshot::of(tubes),
@@ -44,7 +44,7 @@ impl GhostName {
     {
         let _ = name;
         tubes.paired();
-        GhostName::of(&Snapshot::of(tubes), number)
+        GhostName::of(tubes, number)
     }
 
     /// Reads the name of a tube that is registered under this number from the table.

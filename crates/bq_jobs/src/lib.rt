@@ -5,12 +5,11 @@
 //! holder, and their places by moment. A job has a box on each shelf, used or spare, so it can
 //! change from any state to any other.
 //!
-//! [`NumberedJobs`] is the same with a number in place of a tube's name, and takes less memory. The
-//! names are outside, in a [`NumberedTubes`]: one table for the whole core, which is passed to the
-//! calls that need a name. A tube gets its number there before a job is added to it, and it can be
-//! removed when it has no jobs. Then its number is free for another tube. The jobs take note of
-//! both changes ([`NumberedJobs::learn`], [`NumberedJobs::forget`]). A job with a body of 64 bytes
-//! takes this much of the heap:
+//! [`NumberedJobs`] is the same with a number in place of a tube's name, and takes less memory. A
+//! [`TubeTable`] has the names, each with its number and with a value that its user determines. A
+//! tube gets its number there before a job is added to it, and it can be removed when it has no
+//! jobs. Then its number is free for another tube. A job with a body of 64 bytes takes this much of
+//! the heap:
 //!
 //! - its box by id: 120 bytes;
 //! - its place in its tube or at its holder: 40;
@@ -21,20 +20,22 @@
 #![tactic(auto)]
 
 pub use ghost_name::GhostName;
-pub use job_orders::{JobEdit, JobMove, JobRemoval, PackedJob, PackedTest, PriAndState};
-pub use jobs::{NumberedJobs, adds_at_the_end, chosen_has_its_id, next_is_free};
+pub use laws::{adds_at_the_end, chosen_has_its_id, next_is_free};
 pub use named_jobs::Jobs;
-pub use places::{JobList, Timer};
+pub use numbered_jobs::{
+    JobEdit, JobMove, JobRemoval, NumberedJobs, NumberedMove, PackedJob, PackedTest, PriAndState,
+};
+pub use places::{Group, JobList, Timer};
 pub use table::TubeTable;
 pub use tube::Tube;
 pub use tubes::{NumberedTubes, TubeNumber};
 
 mod ghost_name;
 mod groups;
-mod job_orders;
-mod jobs;
+mod laws;
 mod named_group;
 mod named_jobs;
+mod numbered_jobs;
 mod places;
 mod table;
 mod timers;

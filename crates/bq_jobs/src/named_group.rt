@@ -7,7 +7,7 @@ ghost use Rattle.std.specs.Ordering.{as_partial_cmp, eq_by_cmp};
 ghost use Rattle.std.specs.Prelude.{◌≡◌, ◌<◌, ◌^◌};
 ghost use Rattle.bq_jobs.specs.Places.{group_place, held_by, list_of, timer_place};
 
-use super::job_orders::PriAndState;
+use super::numbered_jobs::PriAndState;
 use super::places::{self, JobList, ShelfPlace, Timer};
 use bq_job::{Job, JobId, JobState, Seat, TubeName};
 use std::cmp::Ordering;

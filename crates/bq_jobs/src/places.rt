@@ -10,7 +10,7 @@ ghost use Rattle.bq_index.specs.Shelf.{ComparesFew};
 ghost use Rattle.bq_jobs.specs.PlaceOrder.{first_rank, holds_place, with_place, without_place};
 ghost use Rattle.std.specs.Option.{ForSome};
 
-use super::job_orders::{PackedJob, PriAndState};
+use super::numbered_jobs::{PackedJob, PriAndState};
 use super::tubes::TubeNumber;
 use bq_index::{BoxSource, Parted, Shelf};
 use bq_job::{JobId, JobState, NoMemory, Seat};

@@ -11,7 +11,7 @@ ghost use Rattle.bq_index.specs.Edited.{edited_at};
 ghost use Rattle.bq_index.specs.Order.{InOrder};
 ghost use Rattle.bq_index.specs.Walk.{entry_of, passes_by, passes_from, seen_by};
 ghost use Rattle.bq_jobs.specs.Names.{number_in};
-ghost use Rattle.bq_jobs.specs.Numbering.{Extends, HasNumber};
+ghost use Rattle.bq_jobs.specs.Numbering.{Extends, HasNumber, IsPaired};
 ghost use Rattle.bq_jobs.specs.Table.{changed_at, passes_if, put_value, valued_in, visited};
 
 use crate::ghost_name::GhostName;
@@ -38,7 +38,7 @@ impl<V: Drop> Model for TubeTable<V> {
 
     ghost Value = { Tabled V };
 
-    ghost view = { λ t. record { entries = entries_at t.tubes.numbers t.values.items; numbers = t.tubes.numbers } };
+    ghost view = { λ t. record { entries = entries_at t.tubes.numbers t.values.items; tubes = t.tubes } };
 
     ghost invariant = { λ t. IsPaired t.tubes × (length t.values.items ≡ length t.tubes.names) };
 }
@@ -150,7 +150,7 @@ fn list_passing<'a, T: Test<TubeName, u32>>(
 impl<V: Drop> TubeTable<V> {
     /// Returns a table with no tubes. It allocates nothing.
     pub fn new(alloc: Global) -> Self
-        ensures { result ≡ record { entries = []; numbers = [] } }
+        ensures { result ≡ record { entries = []; tubes = record { numbers = []; names = [] } } }
     {
         TubeTable {
             tubes: NumberedTubes::new(alloc),
@@ -170,8 +170,8 @@ impl<V: Drop> TubeTable<V> {
     /// Returns the tubes and their numbers.
     #[tactic(auto, using(crate::proofs::TableViews::table_keys))]
     pub fn tubes(&self) -> &NumberedTubes
-        ensures numbers { result.now.numbers ≡ self.now.numbers }
-        ensures keys { keys_of self.now.entries ≡ keys_of self.now.numbers }
+        ensures tubes { result.now ≡ self.now.tubes }
+        ensures keys { keys_of self.now.entries ≡ keys_of self.now.tubes.numbers }
     {
         &self.tubes
     }
@@ -181,8 +181,8 @@ impl<V: Drop> TubeTable<V> {
     #[tactic(auto, using(crate::proofs::TableViews::table_keys))]
     pub fn number_of(&self, name: &TubeName, hint: TubeNumber) -> Option<TubeNumber>
         ensures number { option_map number_in result
-            ≡ lookup (is_at (slice_cmp nat_cmp name.now)) self.now.numbers }
-        ensures keys { keys_of self.now.entries ≡ keys_of self.now.numbers }
+            ≡ lookup (is_at (slice_cmp nat_cmp name.now)) self.now.tubes.numbers }
+        ensures keys { keys_of self.now.entries ≡ keys_of self.now.tubes.numbers }
     {
         self.tubes.number_of(name, hint)
     }
@@ -201,7 +201,7 @@ impl<V: Drop> TubeTable<V> {
 
     /// Returns the value of a tube that is registered under this number. No names are compared.
     pub fn get_numbered(&self, name: &TubeName, number: TubeNumber) -> &V
-        requires number { HasNumber name.now number self.now.numbers }
+        requires number { HasNumber name.now number self.now.tubes.numbers }
         ensures { Some result.now ≡ lookup (is_at (slice_cmp nat_cmp name.now)) self.now.entries }
     {
         let _ = name;
@@ -222,7 +222,7 @@ impl<V: Drop> TubeTable<V> {
         ensures entries { self.new.entries
             ≡ edited_at (is_at (slice_cmp nat_cmp name.now)) (E.edited edit.now) self.old.entries }
         ensures ordered { InOrder (slice_cmp nat_cmp) self.old.entries }
-        ensures numbers { self.new.numbers ≡ self.old.numbers }
+        ensures tubes { self.new.tubes ≡ self.old.tubes }
     {
         let number = self.tubes.number_of(name, hint)?;
         let name = GhostName::registered(&self.tubes, name, number);
@@ -237,13 +237,13 @@ impl<V: Drop> TubeTable<V> {
         number: TubeNumber,
         edit: &E,
     ) -> T
-        requires number { HasNumber name.now number self.old.numbers }
+        requires number { HasNumber name.now number self.old.tubes.numbers }
         ensures told { Some result ≡ option_map (E.told edit.now)
             (lookup (is_at (slice_cmp nat_cmp name.now)) self.old.entries) }
         ensures entries { self.new.entries
             ≡ edited_at (is_at (slice_cmp nat_cmp name.now)) (E.edited edit.now) self.old.entries }
         ensures ordered { InOrder (slice_cmp nat_cmp) self.old.entries }
-        ensures numbers { self.new.numbers ≡ self.old.numbers }
+        ensures tubes { self.new.tubes ≡ self.old.tubes }
     {
         let _ = name;
         edit_at(&mut self.values, number.get(), edit)
@@ -264,9 +264,10 @@ impl<V: Drop> TubeTable<V> {
         requires absent { lookup (is_at (slice_cmp nat_cmp name.now)) self.old.entries ≡ None }
         ensures entries { OnOk result (self.new.entries
             ≡ insert_entry (slice_cmp nat_cmp) self.old.entries name.now value) }
-        ensures numbers { IfOk result (λ n. self.new.numbers
-            ≡ insert_entry (slice_cmp nat_cmp) self.old.numbers name.now (number_in n)) }
-        ensures extends { OnOk result (Extends self.old.numbers self.new.numbers) }
+        ensures numbers { IfOk result (λ n. self.new.tubes.numbers
+            ≡ insert_entry (slice_cmp nat_cmp) self.old.tubes.numbers name.now (number_in n)) }
+        ensures extends { OnOk result (Extends self.old.tubes.numbers self.new.tubes.numbers) }
+        ensures paired { OnOk result (IsPaired self.new.tubes) }
         ensures same { OnErr result (self.new ≡ self.old) }
     {
         let Ok(()) = self.values.reserve(1) else {
@@ -282,8 +283,9 @@ impl<V: Drop> TubeTable<V> {
     pub fn remove(&mut self, name: &TubeName)
         ensures entries { self.new.entries
             ≡ remove_entry (is_at (slice_cmp nat_cmp name.now)) self.old.entries }
-        ensures numbers { self.new.numbers
-            ≡ remove_entry (is_at (slice_cmp nat_cmp name.now)) self.old.numbers }
+        ensures numbers { self.new.tubes.numbers
+            ≡ remove_entry (is_at (slice_cmp nat_cmp name.now)) self.old.tubes.numbers }
+        ensures paired { IsPaired self.new.tubes }
         ensures ordered { InOrder (slice_cmp nat_cmp) self.old.entries }
     {
         let _number = self.tubes.remove(name);

@@ -6,10 +6,10 @@ use Rattle.bq_index.specs.{Catalog.CatalogSeen, Order.InOrder}
 use Rattle.bq_job.{proofs.ListLemmas.{all_from_members, list_any_with}, specs.{beside.{dues_of_pause, earliest}, machine.TubeRecord}}
 use Rattle.bq_job.specs.reading.TubeName.{is_same_name}
 use Rattle.bq_jobs.proofs.{Choice.{from_least, lookup_inserted, lookup_removed, none_below, then_not_greater}, Firsts.name_ties}
-use Rattle.bq_jobs.specs.Table.{Tabled}
+use Rattle.bq_jobs.specs.{JobsSeen.JobsSeen, Table.Tabled}
 use Rattle.bq_state.{proofs.TubeLemmas.same_itself, specs.Dues.{first_pause_end, is_end_over, with_tube_due}}
 use Rattle.bq_state.specs.PauseEnds.{AreEnds, Ends, end_cmp, end_total, first_end}
-use Rattle.bq_state.specs.TubesSeen.{EntrySeen, TubesSeen, record_at, tubes_seen}
+use Rattle.bq_state.specs.{Store.{StoreSeen, store_seen}, TubesSeen.{EntrySeen, record_at}}
 use Rattle.bq_state.specs.PauseEnds.{found_end, has_end, if_over, is_end_in, number_at, with_end, without_end}
 use Rattle.bq_state.specs.declared.tubes.pauses.PauseEnd.{PauseEnd}
 
@@ -87,13 +87,13 @@ module _ (kept : Tabled EntrySeen) (ends : CatalogSeen PauseEnd (Unit {0})) (h :
   -- The first pause ends at the first of the ends.
   pub first_is : option_map (λ e. e.until) (first_end ends.entries) ≡ first_pause_end (map record_at kept.entries)
   first_is =
-      let all = all_from kept.numbers (first_end ends.entries) (map record_at kept.entries) (λ e there.
+      let all = all_from kept.tubes.numbers (first_end ends.entries) (map record_at kept.entries) (λ e there.
       first_least ends.entries s e (h.known e ∙ there)) in
-      grind (arith, least_found, first_met kept.numbers ends.entries (map record_at kept.entries) h.known)
+      grind (arith, least_found, first_met kept.tubes.numbers ends.entries (map record_at kept.entries) h.known)
 
   -- The first end, if it is due, is that of a pause.
   pub over_in : (moment : ℕ) (e : PauseEnd) → Some e ≡ if_over moment (first_end ends.entries)
-      → is_end_in kept.numbers e (map record_at kept.entries) ≡ true
+      → is_end_in kept.tubes.numbers e (map record_at kept.entries) ≡ true
   over_in moment e come = sym (h.known e) ∙ (one_over moment e ends.entries come).0
 
   -- If none is due, no pause has ended.
@@ -102,6 +102,6 @@ module _ (kept : Tabled EntrySeen) (ends : CatalogSeen PauseEnd (Unit {0})) (h :
   none_over_yet moment none = grind (arith, common_steps, first_is)
 
   -- The first of the ends is the first end of a pause, as contracts see the tubes.
-  pub first_seen : (k : TubesSeen) (r : Option ℕ) → r ≡ option_map (λ e. e.until) (first_end ends.entries)
-      → tubes_seen kept.numbers kept.entries ≡ k → r ≡ first_pause_end k.entries
-  first_seen k r is seen = grind (arith, first_is)
+  pub first_seen : (rows : JobsSeen) (k : StoreSeen) (r : Option ℕ) → r ≡ option_map (λ e. e.until) (first_end ends.entries)
+      → store_seen rows kept ≡ k → r ≡ first_pause_end k.tubes.entries
+  first_seen rows k r is seen = grind (arith, first_is)

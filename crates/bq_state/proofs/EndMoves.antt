@@ -24,10 +24,10 @@ records kept = map record_at kept.entries
 
 -- At most the pause of the tube with this number changes.
 pub record Moves (number : List ℕ) (from to : Option Pause) (kept last : Tabled EntrySeen) : Type 0 where
-  pub was : (until : ℕ) → is_end_in kept.numbers (record { until = until; number = number }) (records kept) ≡ ends_at until from
-  pub is : (until : ℕ) → is_end_in last.numbers (record { until = until; number = number }) (records last) ≡ ends_at until to
+  pub was : (until : ℕ) → is_end_in kept.tubes.numbers (record { until = until; number = number }) (records kept) ≡ ends_at until from
+  pub is : (until : ℕ) → is_end_in last.tubes.numbers (record { until = until; number = number }) (records last) ≡ ends_at until to
   pub others : (q : PauseEnd) → is_same_name number q.number ≡ false
-      → is_end_in last.numbers q (records last) ≡ is_end_in kept.numbers q (records kept)
+      → is_end_in last.tubes.numbers q (records last) ≡ is_end_in kept.tubes.numbers q (records kept)
   pub count : paused_count last.entries + cond (is_some from) 1 0 ≡ paused_count kept.entries + cond (is_some to) 1 0
   pub fewer : length last.entries ≤ length kept.entries
 
@@ -56,24 +56,29 @@ pause_is name es = ap pause_in (sym (found_entry name es))
 
 -- the end of the pause of a tube that was looked up
 pub no_end : (name : List ℕ) (kept : Tabled EntrySeen) (k : Numbering) (r : Option (List ℕ)) → option_map number_in r ≡ number_of name k
-    → k.numbers ≡ kept.numbers → keys_of kept.entries ≡ keys_of kept.numbers → r ≡ None
-    → None ≡ end_of (number_at name kept.numbers) (pause_at name (map record_at kept.entries))
+    → k.numbers ≡ kept.tubes.numbers → keys_of kept.entries ≡ keys_of kept.tubes.numbers → r ≡ None
+    → None ≡ end_of (number_at name kept.tubes.numbers) (pause_at name (map record_at kept.entries))
 no_end name kept k r is same keys none =
-    grind (arith, have_numbers kept.entries kept.numbers keys name, found_any name kept.entries, pause_is name kept.entries)
+    grind (arith, have_numbers kept.entries kept.tubes.numbers keys name, found_any name kept.entries, pause_is name kept.entries)
 
 pub some_end : (name : List ℕ) (kept : Tabled EntrySeen) (k : Numbering) (n : List ℕ) (t : EntrySeen) (r : Option PauseEnd)
-    → n ≡ number_in n ∷ [] → Some (number_in n) ≡ number_of name k → k.numbers ≡ kept.numbers
+    → n ≡ number_in n ∷ [] → Some (number_in n) ≡ number_of name k → k.numbers ≡ kept.tubes.numbers
     → Some t ≡ lookup (is_named_at name) kept.entries → r ≡ end_of n t.pause
-    → r ≡ end_of (number_at name kept.numbers) (pause_at name (map record_at kept.entries))
+    → r ≡ end_of (number_at name kept.tubes.numbers) (pause_at name (map record_at kept.entries))
 some_end name kept k n t r alone is same found end = grind (arith, number_read, pause_is)
 
 -- The end of a tube's pause is one of the ends.
 pub end_held : (name : List ℕ) (kept : Tabled EntrySeen) (ends : CatalogSeen PauseEnd (Unit {0})) (from : Option PauseEnd)
     → AreEnds kept ends → InOrder (slice_cmp nat_cmp) kept.entries → AreTold kept
-    → from ≡ end_of (number_at name kept.numbers) (pause_at name (map record_at kept.entries))
+    → from ≡ end_of (number_at name kept.tubes.numbers) (pause_at name (map record_at kept.entries))
     → ForSome from (λ e. has_end e ends.entries ≡ true)
 end_held name kept ends from h order told was e is =
-    grind (arith, common_steps, h.known e, named_ends name kept.numbers e.until (records kept) (in_order kept.entries order) (told name))
+    grind (
+      arith,
+      common_steps,
+      h.known e,
+      named_ends name kept.tubes.numbers e.until (records kept) (in_order kept.entries order) (told name),
+    )
 
 -- The end of the pause is removed, and that of the new pause is added.
 module _ (number : List ℕ) (old next : Option Pause) (kept new : Tabled EntrySeen) (ends mid : CatalogSeen PauseEnd (Unit {0}))
@@ -91,7 +96,7 @@ module _ (number : List ℕ) (old next : Option Pause) (kept new : Tabled EntryS
   end_absent e some = grind (arith, common_steps, known_left, same_itself)
 
   known_last : (last : Ends) → last ≡ with_end to mid.entries → (q : PauseEnd)
-      → has_end q last ≡ is_end_in new.numbers q (map record_at new.entries)
+      → has_end q last ≡ is_end_in new.tubes.numbers q (map record_at new.entries)
   known_last last e q =
       grind (arith, common_steps, has_entered, end_absent, same_name number q.number, m.is q.until, m.others q, known_left)
 
@@ -198,12 +203,14 @@ module _ (name : List ℕ) where
   fewer_left es = let fewer = length_lost (is_named_at name) es (lookup (is_named_at name) es) refl in omega (arith, fewer)
 
   pub moves_left : (kept last : Tabled EntrySeen) → InOrder (slice_cmp nat_cmp) kept.entries → AreTold kept
-      → last.entries ≡ remove_entry (is_named_at name) kept.entries → last.numbers ≡ remove_entry (is_named_at name) kept.numbers
-      → Moves (number_at name kept.numbers) (pause_at name (map record_at kept.entries)) None kept last
+      → last.entries ≡ remove_entry (is_named_at name) kept.entries
+      → last.tubes.numbers ≡ remove_entry (is_named_at name) kept.tubes.numbers
+      → Moves (number_at name kept.tubes.numbers) (pause_at name (map record_at kept.entries)) None kept last
   moves_left kept last order told e n = record {
-    was = λ until. named_ends name kept.numbers until (map record_at kept.entries) (in_order kept.entries order) (told name);
-    is = λ until. rw (e, n) (is_left kept.numbers kept.entries order (told name) until);
-    others = λ q other. rw (e, n) (renumbered_left kept.numbers kept.entries order q ∙ others_left kept.numbers q other kept.entries);
+    was = λ until. named_ends name kept.tubes.numbers until (map record_at kept.entries) (in_order kept.entries order) (told name);
+    is = λ until. rw (e, n) (is_left kept.tubes.numbers kept.entries order (told name) until);
+    others = λ q other. rw (e, n) (renumbered_left kept.tubes.numbers kept.entries order q
+        ∙ others_left kept.tubes.numbers q other kept.entries);
     count = rw e (count_left kept.entries);
     fewer = rw e (fewer_left kept.entries);
   }
@@ -218,16 +225,16 @@ module _ (name : List ℕ) where
   pub ends_provided : (n : ℕ) (kept new : Tabled EntrySeen) (ends last : CatalogSeen PauseEnd (Unit {0})) → AreEnds kept ends
       → has_entry name (map record_at kept.entries) ≡ false
       → map record_at new.entries ≡ with_record (fresh_tube name) (map record_at kept.entries)
-      → new.numbers ≡ insert_entry (slice_cmp nat_cmp) kept.numbers name n
+      → new.tubes.numbers ≡ insert_entry (slice_cmp nat_cmp) kept.tubes.numbers name n
       → last.entries ≡ ends.entries → length kept.entries + 1 ≤ length last.entries + last.spare → AreEnds new last
   ends_provided n kept new ends last h none e numbers same room =
-      let parts = fresh (insert_entry (slice_cmp nat_cmp) kept.numbers name n) (map record_at kept.entries) none in
+      let parts = fresh (insert_entry (slice_cmp nat_cmp) kept.tubes.numbers name n) (map record_at kept.entries) none in
       grind (arith, length-map, renumbered, number_inserted)
 
 -- A change of what is kept about one tube, as an entry and as a record.
 module _ (name : List ℕ) (f : EntrySeen → EntrySeen) (g : TubeRecord → TubeRecord)
     (made : (n : List ℕ) (t : EntrySeen) → record_of n (f t) ≡ g (record_of n t)) (keeps : (t : TubeRecord) → (g t).name ≡ t.name)
-    (kept last : Tabled EntrySeen) (order : InOrder (slice_cmp nat_cmp) kept.entries) (n : last.numbers ≡ kept.numbers)
+    (kept last : Tabled EntrySeen) (order : InOrder (slice_cmp nat_cmp) kept.entries) (n : last.tubes ≡ kept.tubes)
     (e : last.entries ≡ edited name f (lookup (is_named_at name) kept.entries) kept.entries) where
   edit_is : map record_at last.entries ≡ map (changed_one name g) (map record_at kept.entries)
   edit_is = ap (map record_at) e ∙ edit_change name f g made kept.entries (in_order kept.entries order)
@@ -235,16 +242,17 @@ module _ (name : List ℕ) (f : EntrySeen → EntrySeen) (g : TubeRecord → Tub
   as_many : length last.entries ≡ length kept.entries
   as_many = grind (arith, length-map, edit_is)
 
-  pub edit_moves : AreTold kept → Moves (number_at name kept.numbers) (pause_at name (map record_at kept.entries))
+  pub edit_moves : AreTold kept → Moves (number_at name kept.tubes.numbers) (pause_at name (map record_at kept.entries))
       (pause_at name (map record_at last.entries)) kept last
   edit_moves told =
       let ts = map record_at kept.entries in
       let sorted = in_order kept.entries order in
       record {
-        was = λ until. named_ends name kept.numbers until ts sorted (told name);
-        is = λ until. rw (n, edit_is) (named_ends name kept.numbers until (map (changed_one name g) ts)
-            (order_kept (changed_one name g) (name_kept name g keeps) ts sorted) (told_changed name g keeps kept.numbers ts (told name)));
-        others = λ q other. rw (n, edit_is) (others_changed name g keeps kept.numbers q other ts);
+        was = λ until. named_ends name kept.tubes.numbers until ts sorted (told name);
+        is = λ until. rw (n, edit_is) (named_ends name kept.tubes.numbers until (map (changed_one name g) ts)
+            (order_kept (changed_one name g) (name_kept name g keeps) ts sorted) (told_changed name g keeps kept.tubes.numbers ts
+            (told name)));
+        others = λ q other. rw (n, edit_is) (others_changed name g keeps kept.tubes.numbers q other ts);
         count = rw edit_is (count_changed name g keeps ts sorted);
         fewer = omega (arith, as_many);
       }
@@ -255,13 +263,13 @@ module _ (name : List ℕ) (f : EntrySeen → EntrySeen) (g : TubeRecord → Tub
 
 -- How a pause changes, and a count.
 pub change_moves : (name : List ℕ) (what : TubeChange) (kept last : Tabled EntrySeen) → InOrder (slice_cmp nat_cmp) kept.entries
-    → last.numbers ≡ kept.numbers → last.entries ≡ edited name (entry_changed what) (lookup (is_named_at name) kept.entries) kept.entries
-    → AreTold kept → Moves (number_at name kept.numbers) (pause_at name (map record_at kept.entries))
+    → last.tubes ≡ kept.tubes → last.entries ≡ edited name (entry_changed what) (lookup (is_named_at name) kept.entries) kept.entries
+    → AreTold kept → Moves (number_at name kept.tubes.numbers) (pause_at name (map record_at kept.entries))
     (pause_at name (map record_at last.entries)) kept last
 change_moves name what = edit_moves name (entry_changed what) (tube_changed what) (change_kept what) (tube_name_kept what)
 
 pub count_stays : (name : List ℕ) (what : TubeChange) (kept last : Tabled EntrySeen) (ends : CatalogSeen PauseEnd (Unit {0}))
-    → (what ≡ CountPut) ⊎ (what ≡ CountDelete) → InOrder (slice_cmp nat_cmp) kept.entries → last.numbers ≡ kept.numbers
+    → (what ≡ CountPut) ⊎ (what ≡ CountDelete) → InOrder (slice_cmp nat_cmp) kept.entries → last.tubes ≡ kept.tubes
     → last.entries ≡ edited name (entry_changed what) (lookup (is_named_at name) kept.entries) kept.entries
     → AreEnds kept ends → AreEnds last ends
 count_stays name what kept last ends counts order n e h = edit_stays name (entry_changed what) (tube_changed what) (change_kept what)
@@ -291,24 +299,28 @@ to_at moment number e p is h = grind arith
 -- the first end, which is due
 module _ (moment : ℕ) (e : PauseEnd) (name : List ℕ) (kept last : Tabled EntrySeen) (ends : CatalogSeen PauseEnd (Unit {0}))
     (h : AreEnds kept ends) (order : InOrder (slice_cmp nat_cmp) kept.entries) (told : AreTold kept)
-    (come : Some e ≡ if_over moment (first_end ends.entries)) (own : e.number ≡ number_at name kept.numbers)
-    (n : last.numbers ≡ kept.numbers)
+    (come : Some e ≡ if_over moment (first_end ends.entries)) (own : e.number ≡ number_at name kept.tubes.numbers)
+    (n : last.tubes ≡ kept.tubes)
     (edit : last.entries ≡ edited name (ended moment) (lookup (is_named_at name) kept.entries) kept.entries) where
   last_is : map record_at last.entries ≡ map (changed_one name (tube_after_timers moment)) (map record_at kept.entries)
   last_is = edit_is name (ended moment) (tube_after_timers moment) (λ n t. refl) (λ t. refl) kept last order n edit
 
-  over_from : Some e ≡ end_of (number_at name kept.numbers) (pause_at name (map record_at kept.entries))
+  over_from : Some e ≡ end_of (number_at name kept.tubes.numbers) (pause_at name (map record_at kept.entries))
   over_from =
-      let same : e ≡ record { until = e.until; number = number_at name kept.numbers } = λ i. record { until = e.until; number = own i } in
-      ap Some same ∙ from_at e.until (number_at name kept.numbers) (pause_at name (map record_at kept.entries))
-      (sym (named_ends name kept.numbers e.until (map record_at kept.entries) (in_order kept.entries order) (told name))
-      ∙ ap (λ (q : PauseEnd). is_end_in kept.numbers q (map record_at kept.entries)) (sym same)
+      let same : e ≡ record { until = e.until; number = number_at name kept.tubes.numbers } = λ i. record {
+        until = e.until;
+        number = own i;
+      } in
+      ap Some same ∙ from_at e.until (number_at name kept.tubes.numbers) (pause_at name (map record_at kept.entries))
+      (sym (named_ends name kept.tubes.numbers e.until (map record_at kept.entries) (in_order kept.entries order) (told name))
+      ∙ ap (λ (q : PauseEnd). is_end_in kept.tubes.numbers q (map record_at kept.entries)) (sym same)
       ∙ sym (h.known e) ∙ (one_over moment e ends.entries come).0)
 
-  over_to : None ≡ end_of (number_at name kept.numbers) (pause_at name (map record_at last.entries))
+  over_to : None ≡ end_of (number_at name kept.tubes.numbers) (pause_at name (map record_at last.entries))
   over_to = grind (arith, last_is, pause_then, to_at, over_from)
 
-  over_moves : Moves (number_at name kept.numbers) (pause_at name (map record_at kept.entries)) (pause_at name (map record_at last.entries))
+  over_moves : Moves (number_at name kept.tubes.numbers) (pause_at name (map record_at kept.entries))
+      (pause_at name (map record_at last.entries))
       kept last
   over_moves = edit_moves name (ended moment) (tube_after_timers moment) (λ n t. refl) (λ t. refl) kept last order n edit told
 
@@ -317,7 +329,8 @@ module _ (moment : ℕ) (e : PauseEnd) (name : List ℕ) (kept last : Tabled Ent
 
   pub over_ends : (mid : CatalogSeen PauseEnd (Unit {0})) → mid.entries ≡ without_end (Some e) ends.entries
       → InOrder end_cmp ends.entries → mid.spare ≡ ends.spare + 1 → AreEnds last mid
-  over_ends mid left s spare = ends_moved (number_at name kept.numbers) _ _ kept last ends mid (Some e) None h over_moves over_from over_to
+  over_ends mid left s spare = ends_moved (number_at name kept.tubes.numbers) _ _ kept last ends mid
+      (Some e) None h over_moves over_from over_to
       left (λ _ _. s) spare mid refl (omega arith)
 
   pub over_records : records_ended moment last.entries ≡ records_ended moment kept.entries

@@ -5,7 +5,7 @@ use Rattle.std.proofs.{Common.{List, Option, Some, ℕ, ◌≡◌}}
 use Rattle.std.specs.{Option.option_map, Prelude.{Result}}
 use Rattle.bq_job.specs.machine.{job_with}
 use Rattle.bq_jobs.specs.{Changed.moved_by, JobsSeen.JobsSeen, Numbering.HasNumber, Sharing.SharesAndChanges}
-use Rattle.bq_jobs.specs.declared.job_orders.JobMove.{JobMove}
+use Rattle.bq_jobs.specs.declared.numbered_jobs.JobMove.{JobMove}
 use Rattle.bq_state.proofs.KnowledgeLemmas.{sound_with_moved}
 use Rattle.bq_state.specs.{CoreParts.{fields}, HandOuts.{CountsIf, HandsOutTo, body_in}}
 use Rattle.bq_state.specs.{JobChanges.changed, Soundness.Soundness, TubesSeen.TubesSeen}
@@ -16,20 +16,21 @@ module _ (st : CoreParts) (seat id : ℕ) where
   what = HandOut seat st.moment
 
   abbrev IsReported : List ℕ × JobMove → Type 0
-  IsReported r = (Some r.1 ≡ option_map (moved_by (changed what)) (job_with id st.jobs.jobs)) × HasNumber r.1.tube r.0 st.jobs.tubes
+  IsReported r = (Some r.1 ≡ option_map (moved_by (changed what)) (job_with id st.store.jobs.jobs))
+      × HasNumber r.1.tube r.0 st.store.tubes.numbers
 
   abbrev Shared : Type 0 → Type 0
   Shared E = Option (Result ((List ℕ × JobMove) × List ℕ) E)
 
   module _ (jobs : JobsSeen) (known : Known) (tubes : TubesSeen) where
     -- The parts still agree,
-    pub sound_then : {E : Type 0} (r : Shared E) → SharesAndChanges IsReported id (changed what) r st.jobs jobs
-        → CountsIf r st.waiting st.seats.items st.known known st.tubes tubes
+    pub sound_then : {E : Type 0} (r : Shared E) → SharesAndChanges IsReported id (changed what) r st.store.jobs jobs
+        → CountsIf r st.waiting st.seats.items st.known known st.store.tubes tubes
         → Soundness jobs.jobs st.seats.items tubes st.waiting known st.next_id st.draining
     sound_then r c n = grind (arith, sound_with_moved)
 
     module _ (new : CoreParts) (is : fields new ≡ record (fields st) { jobs = jobs; known = known; tubes = tubes }) where
       -- The job was handed out, or nothing was changed.
-      pub handed_out : {E : Type 0} (r : Shared E) → SharesAndChanges IsReported id (changed what) r st.jobs jobs
-          → CountsIf r st.waiting st.seats.items st.known known st.tubes tubes → HandsOutTo seat id (body_in r) st new
+      pub handed_out : {E : Type 0} (r : Shared E) → SharesAndChanges IsReported id (changed what) r st.store.jobs jobs
+          → CountsIf r st.waiting st.seats.items st.known known st.store.tubes tubes → HandsOutTo seat id (body_in r) st new
       handed_out r c n = grind (arith, common_steps)

@@ -8,7 +8,7 @@ use Rattle.bq_job.specs.machine.{forgetting, is_seated_at, is_waiting, job_with,
 use Rattle.bq_job.specs.machine.{watches, watching}
 use Rattle.bq_job.specs.reading.TubeName.{is_same_name}
 use Rattle.bq_jobs.specs.{Changed.{moved_by, removed_from, with_changed}, JobsSeen.{with_added, without}}
-use Rattle.bq_jobs.specs.declared.job_orders.JobMove.{JobMove}
+use Rattle.bq_jobs.specs.declared.numbered_jobs.JobMove.{JobMove}
 use Rattle.bq_state.proofs.{ClientLemmas.{connected_moved, connected_watching}, CrowdLemmas.crowds_moved, CrowdPlaces.crowds_kept}
 use Rattle.bq_state.proofs.{CrowdPlaces.{crowds_of_provided, first_crowds}, CrowdWatching.{crowds_ignoring, crowds_watching}}
 use Rattle.bq_state.proofs.{FirstTimeoutLemmas.{first_timeouts, timeouts_of_seat, timeouts_watching}, LeavingLemmas.alive_left}
@@ -40,45 +40,49 @@ use Rattle.bq_state.specs.declared.known.wanted.Wanted.TheVariants as wanted_job
 
 module _ (st : CoreParts) where
   -- A job is added,
-  pub so_with_job : (j : Job) → length (with_added j st.jobs.jobs) ≤ greatest
+  pub so_with_job : (j : Job) → length (with_added j st.store.jobs.jobs) ≤ greatest
       → IsSo (with_job j (is_ready j && list_any (is_waiter j.tube) st.seats.items) (has_waiting_holder j.state st.seats.items) st.known)
-      (with_added j st.jobs.jobs) st.seats.items (record st.tubes { tallies = tallies_with j st.tubes.entries st.tubes.tallies })
+      (with_added j st.store.jobs.jobs) st.seats.items (record st.store.tubes {
+        tallies = tallies_with j st.store.tubes.entries st.store.tubes.tallies;
+      })
   so_with_job j fits = search (counted_added, alive_added, known_added, warned_added)
 
   -- removed,
   pub so_without_job : (id : ℕ) (j : Job) (has_seats : Bool)
-      → (has_seats ≡ true → list_any (is_seated_at j.tube) st.seats.items ≡ true) → job_with id st.jobs.jobs ≡ Some j
-      → IsSo (with_removal (removed_from j) has_seats st.known) (without id st.jobs.jobs) st.seats.items
-      (record st.tubes { tallies = tallies_without j st.tubes.entries st.tubes.tallies })
+      → (has_seats ≡ true → list_any (is_seated_at j.tube) st.seats.items ≡ true) → job_with id st.store.jobs.jobs ≡ Some j
+      → IsSo (with_removal (removed_from j) has_seats st.known) (without id st.store.jobs.jobs) st.seats.items
+      (record st.store.tubes { tallies = tallies_without j st.store.tubes.entries st.store.tubes.tallies })
   so_without_job id j has_seats seated found = search (counted_taken, alive_taken, all_filtered)
 
   -- or changed.
-  pub so_with_moved : (id : ℕ) (what : JobChange) (j : Job) (m : JobMove) (is_wanted waits : Bool) → job_with id st.jobs.jobs ≡ Some j
+  pub so_with_moved : (id : ℕ) (what : JobChange) (j : Job) (m : JobMove) (is_wanted waits : Bool) → job_with id st.store.jobs.jobs ≡ Some j
       → m ≡ moved_by (changed what) j
-      → length st.jobs.jobs ≤ greatest → is_wanted ≡ (is_ready_state m.to.state && list_any (is_waiter m.tube) st.seats.items)
+      → length st.store.jobs.jobs ≤ greatest → is_wanted ≡ (is_ready_state m.to.state && list_any (is_waiter m.tube) st.seats.items)
       → waits ≡ has_waiting_holder m.to.state st.seats.items
-      → IsSo (with_moved m is_wanted waits st.known) (with_changed id (changed what) st.jobs.jobs) st.seats.items
-      (with_tallies_at m.tube (tally_moved m) st.tubes)
+      → IsSo (with_moved m is_wanted waits st.known) (with_changed id (changed what) st.store.jobs.jobs) st.seats.items
+      (with_tallies_at m.tube (tally_moved m) st.store.tubes)
   so_with_moved id what j m is_wanted waits found is fits wants holds = search
       (counted_moved, alive_changed, known_moved, warned_moved, id_kept what, tube_kept what, one_tube id (changed what) (tube_kept what))
 
-  pub sound_with_moved : (id : ℕ) (what : JobChange) (m : JobMove) → AreIdsWithin 0 st.jobs.jobs (2 ^ 64)
-      → Some m ≡ option_map (moved_by (changed what)) (job_with id st.jobs.jobs)
-      → Soundness (with_changed id (changed what) st.jobs.jobs) st.seats.items (with_tallies_at m.tube (tally_moved m) st.tubes) st.waiting
-      (with_moved m (is_wanted_by st.waiting st.tubes m) (has_waiting_holder m.to.state st.seats.items) st.known) st.next_id st.draining
+  pub sound_with_moved : (id : ℕ) (what : JobChange) (m : JobMove) → AreIdsWithin 0 st.store.jobs.jobs (2 ^ 64)
+      → Some m ≡ option_map (moved_by (changed what)) (job_with id st.store.jobs.jobs)
+      → Soundness (with_changed id (changed what) st.store.jobs.jobs) st.seats.items
+      (with_tallies_at m.tube (tally_moved m) st.store.tubes) st.waiting
+      (with_moved m (is_wanted_by st.waiting st.store.tubes m) (has_waiting_holder m.to.state st.seats.items) st.known) st.next_id
+      st.draining
   sound_with_moved id what m ordered is =
       let f = changed what in
-      let of = told_of (moved_by f) (job_with id st.jobs.jobs) m (sym is) in
-      let fits = few_jobs st.next_id st.jobs.jobs st.sound.ids ordered in
+      let of = told_of (moved_by f) (job_with id st.store.jobs.jobs) m (sym is) in
+      let fits = few_jobs st.next_id st.store.jobs.jobs st.sound.ids ordered in
       grind (arith, entries_of_changed, one_tube, tube_kept, ids_of_map, one_id, id_kept, waiters_counted, so_with_moved)
 
   -- A seat changes, and so do its roles at its tubes,
   pub so_with_seat : (n : ℕ) (what : SeatChange) → length st.seats.items ≤ greatest → may_wait what (seat_with n st.seats.items) ≡ true
-      → may_hold what n st.known.warns st.jobs.jobs ≡ true
+      → may_hold what n st.known.warns st.store.jobs.jobs ≡ true
       → let old = seat_with n st.seats.items in
       let seats = map (seat_changed_at n what) st.seats.items in
-      let left = recounted_for Remove (touched what) old st.tubes in
-      IsSo (with_joined (seat_with n seats) n what (with_left old what (touched what) left st.known)) st.jobs.jobs seats
+      let left = recounted_for Remove (touched what) old st.store.tubes in
+      IsSo (with_joined (seat_with n seats) n what (with_left old what (touched what) left st.known)) st.store.jobs.jobs seats
       (recounted_for Add (touched what) (seat_with n seats) left)
   so_with_seat n what few waits holds = rw (st.sound.known.connected, st.sound.known.crowds.each)
       (search (connected_moved, crowds_moved, alive_left n what, known_of_seat, warned_of_seat, timeouts_of_seat))
@@ -86,43 +90,45 @@ module _ (st : CoreParts) where
   -- a client watches one more tube,
   pub so_watching : (name : List ℕ) (n : ℕ) (s : SeatRecord) → slice_get st.seats.items n ≡ Some s → length st.seats.items ≤ greatest
       → watches name s ≡ false
-      → IsSo (record st.known { wanted = if is_waiting s then wanted_jobs.Any else st.known.wanted }) st.jobs.jobs
-      (set st.seats.items n (watching (s.watched ++ name ∷ []) s)) (with_crowds_at name (recounted Add (roles_of_watcher s)) st.tubes)
+      → IsSo (record st.known { wanted = if is_waiting s then wanted_jobs.Any else st.known.wanted }) st.store.jobs.jobs
+      (set st.seats.items n (watching (s.watched ++ name ∷ []) s)) (with_crowds_at name (recounted Add (roles_of_watcher s)) st.store.tubes)
   so_watching name n s here few fresh =
       search (connected_watching, crowds_watching, alive_watching, known_watching, warned_watching, timeouts_watching)
 
   -- or one fewer.
   pub so_ignoring : (name : List ℕ) (n : ℕ) (s : SeatRecord) → slice_get st.seats.items n ≡ Some s → length st.seats.items ≤ greatest
       → IsSo (record st.known { maybe_gone = with_gone name st.known.maybe_gone })
-      st.jobs.jobs (set st.seats.items n (watching (filter (λ other. not (is_same_name name other)) s.watched) s))
-      (with_crowds_at name (recounted Remove (roles_of_watching name s)) st.tubes)
+      st.store.jobs.jobs (set st.seats.items n (watching (filter (λ other. not (is_same_name name other)) s.watched) s))
+      (with_crowds_at name (recounted Remove (roles_of_watching name s)) st.store.tubes)
   so_ignoring name n s here few =
       search (connected_watching, crowds_ignoring, alive_ignoring, known_ignoring, warned_watching, timeouts_watching)
 
   -- A tube gets an entry,
-  pub so_provided : (name : List ℕ) (ns : List (List ℕ × ℕ)) → has_entry name st.tubes.entries ≡ false
-      → IsSo (record st.known { maybe_gone = with_gone name st.known.maybe_gone }) st.jobs.jobs st.seats.items (tubes_with name ns st.tubes)
+  pub so_provided : (name : List ℕ) (ns : List (List ℕ × ℕ)) → has_entry name st.store.tubes.entries ≡ false
+      → IsSo (record st.known { maybe_gone = with_gone name st.known.maybe_gone }) st.store.jobs.jobs st.seats.items
+      (tubes_with name ns st.store.tubes)
   so_provided name ns none = search (tallies_of_provided, crowds_of_provided, counted_provided, alive_provided)
 
   -- its entry changes,
-  pub so_with_tube : (name : List ℕ) (what : TubeChange) → has_entry name st.tubes.entries ≡ true
-      → IsSo (with_tube_changed name what st.known) st.jobs.jobs st.seats.items
-      (record st.tubes { entries = map (tube_changed_at name what) st.tubes.entries })
+  pub so_with_tube : (name : List ℕ) (what : TubeChange) → has_entry name st.store.tubes.entries ≡ true
+      → IsSo (with_tube_changed name what st.known) st.store.jobs.jobs st.seats.items
+      (record st.store.tubes { entries = map (tube_changed_at name what) st.store.tubes.entries })
   so_with_tube name what there =
-      let records = sym (record_changed name (tube_changed what) (tube_counts what) (tube_name_kept what) st.tubes.entries
+      let records = sym (record_changed name (tube_changed what) (tube_counts what) (tube_name_kept what) st.store.tubes.entries
       st.sound.entries.order st.sound.entries.fresh there) in
       search (counted_kept, crowds_kept, alive_renamed, name_kept_at, records, known_of_change name what (machine_of st))
 
   -- or pauses end.
-  pub so_with_pauses : IsSo (record st.known { wanted = wanted_jobs.Any }) st.jobs.jobs st.seats.items
-      (record st.tubes { entries = map (tube_after_timers st.moment) st.tubes.entries })
+  pub so_with_pauses : IsSo (record st.known { wanted = wanted_jobs.Any }) st.store.jobs.jobs st.seats.items
+      (record st.store.tubes { entries = map (tube_after_timers st.moment) st.store.tubes.entries })
   so_with_pauses = search (counted_kept, crowds_kept, alive_renamed, all_always)
 
   -- Entries of tubes that no longer exist are dropped.
-  pub so_forgotten : (new : TubesSeen) → new.entries ≡ filter (λ t. is_tube_of st.jobs.jobs st.seats.items t.name) st.tubes.entries
-      → AreCounts new st.jobs.jobs st.seats.items → IsSo (with_forgotten st.known) st.jobs.jobs st.seats.items new
+  pub so_forgotten : (new : TubesSeen) → new.entries ≡ filter (λ t. is_tube_of st.store.jobs.jobs st.seats.items t.name)
+      st.store.tubes.entries
+      → AreCounts new st.store.jobs.jobs st.seats.items → IsSo (with_forgotten st.known) st.store.jobs.jobs st.seats.items new
   so_forgotten new left counts =
-      let p = λ (t : TubeRecord). is_tube_of st.jobs.jobs st.seats.items t.name in
+      let p = λ (t : TubeRecord). is_tube_of st.store.jobs.jobs st.seats.items t.name in
       let now = rw left at counts in
       rw left (search (known_forgotten (machine_of st), alive_forgotten, filters_swap is_counted p))
 
@@ -132,30 +138,29 @@ module _ (st : CoreParts) where
 
   -- No waiting client can receive a job.
   pub so_with_nothing : next_job (machine_of st) ≡ None
-      → IsSo (record st.known { wanted = wanted_jobs.Nothing }) st.jobs.jobs st.seats.items st.tubes
+      → IsSo (record st.known { wanted = wanted_jobs.Nothing }) st.store.jobs.jobs st.seats.items st.store.tubes
   so_with_nothing none = search known_nothing
 
   -- The client whose warning is due, if any, was looked up.
-  pub so_settled : (due : Bool) → due ≡ is_some (fold (with_warning_due st.jobs.jobs) None st.seats.items)
-      → IsSo (record st.known { warns = warned_if_due due st.known.warns }) st.jobs.jobs st.seats.items st.tubes
+  pub so_settled : (due : Bool) → due ≡ is_some (fold (with_warning_due st.store.jobs.jobs) None st.seats.items)
+      → IsSo (record st.known { warns = warned_if_due due st.known.warns }) st.store.jobs.jobs st.seats.items st.store.tubes
   so_settled due is = grind (arith, common_steps, warned_by_due)
 
   -- After a change of a tube the state satisfies its invariants.
-  pub sound_with_tube : (name : List ℕ) (what : TubeChange) → has_entry name st.tubes.entries ≡ true
-      → let entries = map (tube_changed_at name what) st.tubes.entries in
-      Soundness st.jobs.jobs st.seats.items (record st.tubes { entries = entries }) st.waiting
+  pub sound_with_tube : (name : List ℕ) (what : TubeChange) → has_entry name st.store.tubes.entries ≡ true
+      → let entries = map (tube_changed_at name what) st.store.tubes.entries in
+      Soundness st.store.jobs.jobs st.seats.items (record st.store.tubes { entries = entries }) st.waiting
       (with_tube_changed name what st.known) st.next_id st.draining
   sound_with_tube name what there = search (entries_of_tube, so_with_tube)
 
 -- the parts after a put or a deletion was counted in a tube
-abbrev pub with_count : (st : CoreParts) (name : List ℕ) (what : TubeChange) → has_entry name st.tubes.entries ≡ true → CoreParts
+abbrev pub with_count : (st : CoreParts) (name : List ℕ) (what : TubeChange) → has_entry name st.store.tubes.entries ≡ true → CoreParts
 with_count st name what there =
-    let entries = map (tube_changed_at name what) st.tubes.entries in
+    let entries = map (tube_changed_at name what) st.store.tubes.entries in
     record st {
-      tubes = record st.tubes { entries = entries };
+      store = record st.store { tubes = record st.store.tubes { entries = entries } };
       known = with_tube_changed name what st.known;
       sound = sound_with_tube st name what there;
-      numbered = st.numbered;
     }
 
 -- At the start there is nothing to know.

@@ -4,7 +4,7 @@ use Rattle.std.{proofs.lemmas.{Cmp.nat_list_eq_equiv, Grind.common_steps, List.l
 use Rattle.bq_job.specs.{beside.AreIdsWithin, declared.job.Job.Job, machine.{SeatRecord, TubeRecord, greatest, is_ready_state, job_with}}
 use Rattle.bq_job.specs.reading.TubeName.{is_same_name}
 use Rattle.bq_jobs.{proofs.Changes.{changed as changed_by_id, found_id}, specs.Changed.{IgnoresTube, KeepsId, KeepsTube, moved_by}}
-use Rattle.bq_jobs.specs.{Changed.with_changed, JobsSeen.{with_added, without}, declared.job_orders.JobMove.JobMove}
+use Rattle.bq_jobs.specs.{Changed.with_changed, JobsSeen.{with_added, without}, declared.numbered_jobs.JobMove.JobMove}
 use Rattle.bq_state.proofs.{PartsLemmas.{all_filtered, all_kept}, TallyLemmas.{one_added, one_taken}, TallyPlaces.counted_by}
 use Rattle.bq_state.{proofs.{WantedLemmas.known_added, WarningLemmas.warned_added}, specs.{Crowds.is_waiter, JobChanges.changed}}
 use Rattle.bq_state.specs.{MaybeGoneTubes.AreAlive, SeatChanges.AreNumbered, Tallies.{AreCounted, count_with, count_without, tallies_at}}

@@ -6,11 +6,12 @@ use Rattle.std.specs.{List.prefix_len, Map.{keys_of, lookup}, Option.option_map,
 use Rattle.bq_index.specs.Order.{InOrder}
 use Rattle.bq_job.{proofs.ListLemmas.{all_before_map, all_of_map, all_weaker}, specs.machine.{TubeRecord, is_name_before}}
 use Rattle.bq_job.specs.reading.TubeName.{is_same_name}
-use Rattle.bq_jobs.specs.Names.{number_in}
+use Rattle.bq_jobs.specs.{JobsSeen.JobsSeen, Names.number_in, Table.Tabled}
 use Rattle.bq_state.proofs.TubeLemmas.{changed_one, no_pause_there, none_later, provided_new, same_name, unchanged}
 use Rattle.bq_state.specs.{Counting.with_tallies_at, Crowds.{crowd_at, crowds_at, has_seats}, TubesSeen.{EntrySeen, Named, TubesSeen}}
+use Rattle.bq_state.specs.Store.{StoreSeen, store_seen}
 use Rattle.bq_state.specs.TubesSeen.{crowd_by, edited_at, entry_changed, entry_crowd, fresh_entry, is_named_at, is_paused_by, record_at}
-use Rattle.bq_state.specs.{Tallies.{tallies_at, tally_at}, TubeEntries.AreInOrder, TubesSeen.{entry_tally, record_of, tally_by, tubes_seen}}
+use Rattle.bq_state.specs.{Tallies.{tallies_at, tally_at}, TubeEntries.AreInOrder, TubesSeen.{entry_tally, record_of, tally_by}}
 use Rattle.bq_state.specs.{TubeEntries.{has_entry, tube_changed, tube_changed_at}, TubeNumbers.HaveNumbers}
 use Rattle.bq_state.specs.declared.{known.tally.Tally.Tally, tubes.entry.{Crowd.Crowd, TubeChange.TubeChange}}
 
@@ -139,14 +140,18 @@ same_tallies_at name what g [] tallies = refl
 same_tallies_at name what g (t ∷ ts) tallies = grind (arith, same_tallies_at name what g ts)
 
 -- A job is counted, and its tube's record changes.
-pub job_counted : (what : TubeChange) (name : List ℕ) (f : EntrySeen → EntrySeen) (g : Tally → Tally) (es last : List Named) (k : TubesSeen)
-    (ns ms : List (List ℕ × ℕ)) → last ≡ edited_at name f es → ms ≡ ns → tubes_seen ns es ≡ k → InOrder (slice_cmp nat_cmp) es
+pub job_counted : (what : TubeChange) (name : List ℕ) (f : EntrySeen → EntrySeen) (g : Tally → Tally) (rows : JobsSeen)
+    (kept last : Tabled EntrySeen) (k : StoreSeen) → last.entries ≡ edited_at name f kept.entries → last.tubes ≡ kept.tubes
+    → store_seen rows kept ≡ k
+    → InOrder (slice_cmp nat_cmp) kept.entries
     → ((n : List ℕ) (t : EntrySeen) → record_of n (f t) ≡ tube_changed what (record_of n t)) → ((t : EntrySeen) → (f t).tally ≡ g t.tally)
     → ((t : EntrySeen) → (f t).crowd ≡ t.crowd)
-    → tubes_seen ms last ≡ with_tallies_at name g (record k { entries = map (tube_changed_at name what) k.entries })
-job_counted what name f g es last k ns ms is also seen order made counts crowds =
+    → store_seen rows last
+    ≡ record k { tubes = with_tallies_at name g (record k.tubes { entries = map (tube_changed_at name what) k.tubes.entries }) }
+job_counted what name f g rows kept last k is same seen order made counts crowds =
+    let es = kept.entries in
     let changed = edit_change name f (tube_changed what) made es (in_order es order) in
-    grind (arith, kept_alike, changed, edit_tally name f g counts es, same_tallies_at name what g, edit_same_crowds name f crowds es)
+    grind (arith, changed, edit_tally name f g counts es, same_tallies_at name what g, edit_same_crowds name f crowds es)
 
 -- what is found of a tube, and what a new one has, for the answers
 pub ruleset found_parts = (common_steps, found_tally, found_crowd, found_pause, in_order)

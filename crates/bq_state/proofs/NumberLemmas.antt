@@ -51,16 +51,17 @@ module _ (name : List ℕ) (n : ℕ) where
   number_given (p ∷ ns) = given_at p ns _ (slice_cmp nat_cmp name p.0) refl (number_given ns)
 
 -- the numbers of the tubes of a table
-module _ (k : Numbering) (kept : Tabled EntrySeen) (paired : IsPaired k) (same : k.numbers ≡ kept.numbers)
-    (keys : keys_of kept.entries ≡ keys_of kept.numbers) where
-  has_name : (name : List ℕ) (n : ℕ) → lookup (is_named_at name) kept.numbers ≡ Some n → name_of n k ≡ Some name
-  has_name name n found = paired.there name n (ap (lookup (is_named_at name)) same ∙ found)
+module _ (k : Numbering) (kept : Tabled EntrySeen) (paired : IsPaired k) (same : k ≡ kept.tubes)
+    (keys : keys_of kept.entries ≡ keys_of kept.tubes.numbers) where
+  has_name : (name : List ℕ) (n : ℕ) → lookup (is_named_at name) kept.tubes.numbers ≡ Some n → name_of n k ≡ Some name
+  has_name name n found = paired.there name n (ap (λ (l : Numbering). lookup (is_named_at name) l.numbers) same ∙ found)
 
-  found_alike : (a b : List ℕ) → is_same_name a b ≡ true → lookup (is_named_at a) kept.numbers ≡ lookup (is_named_at b) kept.numbers
-  found_alike a b h = ap (λ name. lookup (is_named_at name) kept.numbers) (same_name a b h)
+  found_alike : (a b : List ℕ) → is_same_name a b ≡ true → lookup (is_named_at a) kept.tubes.numbers
+      ≡ lookup (is_named_at b) kept.tubes.numbers
+  found_alike a b h = ap (λ name. lookup (is_named_at name) kept.tubes.numbers) (same_name a b h)
 
-  told_by : (name other : List ℕ) (a b : Option ℕ) → lookup (is_named_at name) kept.numbers ≡ a
-      → lookup (is_named_at other) kept.numbers ≡ b → is_some b ≡ true
+  told_by : (name other : List ℕ) (a b : Option ℕ) → lookup (is_named_at name) kept.tubes.numbers ≡ a
+      → lookup (is_named_at other) kept.tubes.numbers ≡ b → is_some b ≡ true
       → is_same_name (as_number a) (as_number b) ≡ is_same_name name other
   told_by name other a None is has some = absurd cc
   told_by name other None (Some n) is has some = grind (arith, found_alike)
@@ -69,9 +70,9 @@ module _ (k : Numbering) (kept : Tabled EntrySeen) (paired : IsPaired k) (same :
     | inr e ↦ grind (arith, same_name, has_name name m is, has_name other n has, same_itself name)
   ]
 
-  all_numbered : All (λ t. is_some (lookup (is_named_at t.name) kept.numbers) ≡ true) (map record_at kept.entries)
+  all_numbered : All (λ t. is_some (lookup (is_named_at t.name) kept.tubes.numbers) ≡ true) (map record_at kept.entries)
   all_numbered = all_from_members _ (map record_at kept.entries) (λ t here.
-      have_numbers kept.entries kept.numbers keys t.name
+      have_numbers kept.entries kept.tubes.numbers keys t.name
       ∙ list_any_with (λ (u : TubeRecord). is_same_name t.name u.name) (map record_at kept.entries) t here (same_itself t.name))
 
   -- Each tube has a number of its own.
@@ -79,20 +80,20 @@ module _ (k : Numbering) (kept : Tabled EntrySeen) (paired : IsPaired k) (same :
   unfolding number_at
   told name = grind (arith, all_weaker, told_by, all_numbered)
 
-  end_there : (e : PauseEnd) (ts : List TubeRecord) → All (λ t. is_some (lookup (is_named_at t.name) kept.numbers) ≡ true) ts
-      → is_end_in kept.numbers e ts ≡ true → (is_some (name_of (number_in e.number) k) ≡ true) × (e.number ≡ number_in e.number ∷ [])
+  end_there : (e : PauseEnd) (ts : List TubeRecord) → All (λ t. is_some (lookup (is_named_at t.name) kept.tubes.numbers) ≡ true) ts
+      → is_end_in kept.tubes.numbers e ts ≡ true → (is_some (name_of (number_in e.number) k) ≡ true) × (e.number ≡ number_in e.number ∷ [])
   unfolding number_at
   end_there e [] all held = absurd cc
   end_there e (t ∷ ts) all held = grind (arith, same_name, end_there e ts all.1)
 
   -- The number of an end is that of a tube,
-  pub end_numbered : (e : PauseEnd) → is_end_in kept.numbers e (map record_at kept.entries) ≡ true
+  pub end_numbered : (e : PauseEnd) → is_end_in kept.tubes.numbers e (map record_at kept.entries) ≡ true
       → is_some (name_of (number_in e.number) k) ≡ true
   end_numbered e held = (end_there e (map record_at kept.entries) all_numbered held).0
 
   -- whose name is found by it.
-  pub number_is : (e : PauseEnd) (name : List ℕ) → is_end_in kept.numbers e (map record_at kept.entries) ≡ true
-      → name_of (number_in e.number) k ≡ Some name → e.number ≡ number_at name kept.numbers
+  pub number_is : (e : PauseEnd) (name : List ℕ) → is_end_in kept.tubes.numbers e (map record_at kept.entries) ≡ true
+      → name_of (number_in e.number) k ≡ Some name → e.number ≡ number_at name kept.tubes.numbers
   unfolding number_at
   number_is e name held of = grind (arith, end_there, all_numbered)
 

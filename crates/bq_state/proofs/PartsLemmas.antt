@@ -8,13 +8,15 @@ use Rattle.bq_job.proofs.ListLemmas.{all_always, all_at, all_from_members, all_o
 use Rattle.bq_job.specs.{declared.job.Job.Job, machine.{SeatRecord, TubeRecord, default_tube, empty_seat, fresh_tube, greatest, job_with}}
 use Rattle.bq_job.specs.{machine.{numbers, seat_with, tube_after_timers, watches, watching, with_record}, reading.TubeName.is_same_name}
 use Rattle.bq_job.{proofs.{KeptLemmas.numbers_above, LawfulLemmas.length_numbers, ListLemmas.map_all_same}, specs.beside.AreIdsWithin}
-use Rattle.bq_jobs.specs.JobsSeen.{JobsSeen, with_added}
+use Rattle.bq_jobs.specs.JobsSeen.{with_added}
 use Rattle.bq_state.proofs.TubeLemmas.{all_inserted, counted_inserted, entry_filtered, found, has_inserted, order_filtered}
 use Rattle.bq_state.proofs.TubeLemmas.{order_inserted, order_kept, record_changed, same_entries, same_itself, same_name, still_has}
 use Rattle.bq_state.specs.{JobChanges.changed, SeatChanges.{AreNumbered, has_tube_of, seat_changed, seat_changed_at}, Soundness.Soundness}
-use Rattle.bq_state.specs.TubeEntries.{AreEntries, IsFreshUnlessCounted, counted, has_entry, is_counted, is_tube_of, provided, tube_changed}
-use Rattle.bq_state.specs.{TubeEntries.tube_changed_at, declared.{core_parts.CoreParts.CoreParts, job_store.JobChange.JobChange}}
-use Rattle.bq_state.specs.declared.{seats.SeatChange.SeatChange, tubes.entry.TubeChange.TubeChange}
+use Rattle.bq_state.specs.Store.{StoreSeen}
+use Rattle.bq_state.specs.TubeEntries.{AreEntries, HasTubes, IsFreshUnlessCounted, counted, has_entry, is_counted, is_tube_of}
+use Rattle.bq_state.specs.TubeEntries.{provided, tube_changed, tube_changed_at}
+use Rattle.bq_state.specs.declared.{core_parts.CoreParts.CoreParts, job_store.JobChange.JobChange, seats.SeatChange.SeatChange}
+use Rattle.bq_state.specs.declared.{tubes.entry.TubeChange.TubeChange}
 
 -- a property of all elements is kept if each change keeps it
 pub all_kept : {A : Type 0} (P : A → Type 0) (f : A → A) → ((x : A) → P x → P (f x)) → (xs : List A) → All P xs → All P (map f xs)
@@ -52,12 +54,13 @@ none_passed p f [] h = refl
 none_passed p f (x ∷ xs) h = grind (arith, common_steps, cases_Bool, none_passed p f xs)
 
 -- If jobs were only searched, the state still satisfies its invariants.
-pub compared_sound : (st : CoreParts) (jobs : JobsSeen) → jobs ≡ record st.jobs { comparisons = jobs.comparisons }
-    → Soundness jobs.jobs st.seats.items st.tubes st.waiting st.known st.next_id st.draining
-compared_sound st jobs same = grind (arith, common_steps)
+pub compared_sound : (st : CoreParts) (store : StoreSeen)
+    → store ≡ record st.store { jobs = record st.store.jobs { comparisons = store.jobs.comparisons } }
+    → Soundness store.jobs.jobs st.seats.items store.tubes st.waiting st.known st.next_id st.draining
+compared_sound st store same = grind (arith, common_steps)
 
 -- It also does if an id was given out.
-pub sound_given : (st : CoreParts) → Soundness st.jobs.jobs st.seats.items st.tubes st.waiting st.known (st.next_id + 1)
+pub sound_given : (st : CoreParts) → Soundness st.store.jobs.jobs st.seats.items st.store.tubes st.waiting st.known (st.next_id + 1)
     (nat_le 18446744073709551614 st.next_id)
 sound_given st = grind (arith, ids_further)
 
@@ -178,27 +181,27 @@ some_at (x ∷ xs) i h = (get_or (x ∷ xs) i x, slice_get-get_or (x ∷ xs) i x
 -- The tubes of a state still have entries
 module _ (st : CoreParts) where
   -- after jobs are removed,
-  pub entries_of_fewer : (p : Job → Bool) → AreEntries (filter p st.jobs.jobs) st.seats.items st.tubes.entries
+  pub entries_of_fewer : (p : Job → Bool) → AreEntries (filter p st.store.jobs.jobs) st.seats.items st.store.tubes.entries
   entries_of_fewer p = grind (arith, all_filtered)
 
   -- after one is added,
-  pub entries_of_added : (j : Job) → has_entry j.tube st.tubes.entries ≡ true
-      → AreEntries (with_added j st.jobs.jobs) st.seats.items st.tubes.entries
+  pub entries_of_added : (j : Job) → has_entry j.tube st.store.tubes.entries ≡ true
+      → AreEntries (with_added j st.store.jobs.jobs) st.seats.items st.store.tubes.entries
   entries_of_added j h = grind (arith, all_added)
 
   -- after a tube gets an entry,
-  pub entries_provided : (name : List ℕ) → AreEntries st.jobs.jobs st.seats.items (provided name st.tubes.entries)
+  pub entries_provided : (name : List ℕ) → AreEntries st.store.jobs.jobs st.seats.items (provided name st.store.tubes.entries)
   entries_provided name = grind (arith, all_weaker, order_inserted, all_inserted IsFreshUnlessCounted (fresh_tube name), still_has)
 
   -- after timers fire,
-  pub entries_of_timers : AreEntries st.jobs.jobs st.seats.items (map (tube_after_timers st.moment) st.tubes.entries)
+  pub entries_of_timers : AreEntries st.store.jobs.jobs st.seats.items (map (tube_after_timers st.moment) st.store.tubes.entries)
   entries_of_timers = grind (arith, all_weaker, order_kept, all_kept, same_entries)
 
   -- after the entries of tubes that no longer exist are dropped,
-  pub entries_forgotten : AreEntries st.jobs.jobs st.seats.items
-      (filter (λ t. is_tube_of st.jobs.jobs st.seats.items t.name) st.tubes.entries)
+  pub entries_forgotten : AreEntries st.store.jobs.jobs st.seats.items
+      (filter (λ t. is_tube_of st.store.jobs.jobs st.seats.items t.name) st.store.tubes.entries)
   entries_forgotten =
-      let is = is_tube_of st.jobs.jobs st.seats.items in
+      let is = is_tube_of st.store.jobs.jobs st.seats.items in
       let still = λ (name : List ℕ) (there : is name ≡ true). entry_filtered (λ t. is t.name) name (λ t same. ap is (sym same) ∙ there) _
       (tube_has_entry _ _ _ st.sound.entries name there) in
       record {
@@ -214,20 +217,23 @@ module _ (st : CoreParts) where
 
   -- and after the client at a seat watches one more tube, or fewer.
   pub watching_more : (name : List ℕ) (i : ℕ) (s : SeatRecord) → slice_get st.seats.items i ≡ Some s
-      → has_entry name st.tubes.entries ≡ true
-      → AreEntries st.jobs.jobs (set st.seats.items i (watching (s.watched ++ name ∷ []) s)) st.tubes.entries
+      → has_entry name st.store.tubes.entries ≡ true
+      → AreEntries st.store.jobs.jobs (set st.seats.items i (watching (s.watched ++ name ∷ []) s)) st.store.tubes.entries
   watching_more name i s found h = grind (arith, common_steps, all_read)
 
   pub watching_fewer : (p : List ℕ → Bool) (i : ℕ) (s : SeatRecord) → slice_get st.seats.items i ≡ Some s
-      → AreEntries st.jobs.jobs (set st.seats.items i (watching (filter p s.watched) s)) st.tubes.entries
-  watching_fewer p i s found = grind (arith, common_steps, all_read, all_filtered)
+      → AreEntries st.store.jobs.jobs (set st.seats.items i (watching (filter p s.watched) s)) st.store.tubes.entries
+  watching_fewer p i s here =
+      let has = all_read (HasTubes st.store.tubes.entries) st.seats.items i s st.sound.entries.of_seats here in
+      let fewer = all_filtered (λ name. has_entry name st.store.tubes.entries ≡ true) p s.watched in
+      grind (arith, common_steps, has, fewer)
 
   -- A job has an entry.
-  pub has_of_job : (id : ℕ) (j : Job) → job_with id st.jobs.jobs ≡ Some j → has_entry j.tube st.tubes.entries ≡ true
+  pub has_of_job : (id : ℕ) (j : Job) → job_with id st.store.jobs.jobs ≡ Some j → has_entry j.tube st.store.tubes.entries ≡ true
   has_of_job id j found = grind (arith, common_steps, found_passes)
 
   -- The record of a tube changes as its entry does.
-  pub recorded : (name : List ℕ) (what : TubeChange) → has_entry name st.tubes.entries ≡ true
-      → with_record (tube_changed what (found name st.tubes.entries)) (counted st.tubes.entries)
-      ≡ counted (map (tube_changed_at name what) st.tubes.entries)
+  pub recorded : (name : List ℕ) (what : TubeChange) → has_entry name st.store.tubes.entries ≡ true
+      → with_record (tube_changed what (found name st.store.tubes.entries)) (counted st.store.tubes.entries)
+      ≡ counted (map (tube_changed_at name what) st.store.tubes.entries)
   recorded name what there = grind (arith, record_changed, tube_counts, tube_name_kept)

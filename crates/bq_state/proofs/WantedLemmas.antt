@@ -4,7 +4,7 @@ use Rattle.std.{proofs.{Common.{ℕ, ◌&&◌, ◌||◌, ◌∙◌, ◌∷◌, �
 use Rattle.bq_job.proofs.{ChoiceLemmas.{first_of_none, first_of_none_passes}, ListLemmas.{all_always, all_at, all_from_members, all_of_map}}
 use Rattle.bq_job.{proofs.ListLemmas.{all_weaker, find_in_filter, list_any_not, none_pass}, specs.declared.job.Job.Job}
 use Rattle.bq_job.specs.machine.{Machine.Machine, SeatRecord, TubeRecord, forgetting, is_paused, is_ready, is_tube, is_waiting}
-use Rattle.bq_job.specs.machine.{is_waiting_for, next_job, tube_record, watches, watching, with_record, with_tube}
+use Rattle.bq_job.specs.machine.{is_waiting_for, next_job, tube_record, watching, with_record, with_tube}
 use Rattle.bq_job.specs.reading.TubeName.{is_same_name}
 use Rattle.bq_jobs.specs.JobsSeen.{with_added}
 use Rattle.bq_state.proofs.{PartsLemmas.{all_added, all_read, all_set, tube_name_kept}, TubeLemmas.{both_same, found_name, same_itself}}

@@ -26,10 +26,10 @@ pub record Fields : Type 0 where
 abbrev pub fields : CoreParts → Fields
 fields s = record {
   config = s.config;
-  jobs = s.jobs;
+  jobs = s.store.jobs;
   seats = s.seats;
   waiting = s.waiting;
-  tubes = s.tubes;
+  tubes = s.store.tubes;
   known = s.known;
   moment = s.moment;
   next_id = s.next_id;
@@ -66,11 +66,11 @@ with_pauses_ended m = record m { tubes = map (tube_after_timers m.moment) m.tube
 
 -- The state is the same except for the comparison count.
 abbrev pub OnlyCompares : CoreParts → CoreParts → Type 0
-OnlyCompares old new = fields new ≡ record (fields old) { jobs = record old.jobs { comparisons = new.jobs.comparisons } }
+OnlyCompares old new = fields new ≡ record (fields old) { jobs = record old.store.jobs { comparisons = new.store.jobs.comparisons } }
 
 -- how many of its jobs pass
 abbrev pub count_jobs : (Job → Bool) → CoreParts → ℕ
-count_jobs passes s = count_by passes s.jobs.jobs
+count_jobs passes s = count_by passes s.store.jobs.jobs
 
 -- this holds for the record of this seat, if there is one
 abbrev pub AtSeat : ℕ → CoreParts → (SeatRecord → Type 0) → Type 0

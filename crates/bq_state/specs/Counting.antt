@@ -1,7 +1,7 @@
 -- Records of tubes whose counts are those of jobs and of seats.
 use Rattle.std.specs.Prelude.{List, Option, filter, map, ℕ, ◌≡◌}
 use Rattle.bq_job.specs.{declared.job.Job.Job, machine.SeatRecord}
-use Rattle.bq_jobs.specs.declared.job_orders.JobRemoval.{JobRemoval}
+use Rattle.bq_jobs.specs.declared.numbered_jobs.JobRemoval.{JobRemoval}
 use Rattle.bq_state.specs.{Crowds.{crowds_at, crowds_at_all, crowds_of, crowds_provided, crowds_recounted_for}, TubesSeen.TubesSeen}
 use Rattle.bq_state.specs.{MaybeGoneTubes.AreAlive, Tallies.{tallies_at, tallies_of, tallies_provided, tallies_with, tally_left}}
 use Rattle.bq_state.specs.{TubeEntries.{AreInOrder, is_tube_of, provided, tube_changed_at}, declared.known.maybe_gone.MaybeGone.MaybeGone}

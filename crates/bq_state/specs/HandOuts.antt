@@ -1,7 +1,7 @@
 -- A job that is handed out.
 use Rattle.std.specs.Prelude.{Err, List, None, Ok, Option, Result, Some, false, is_some, true, ℕ, ◌≡◌}
 use Rattle.bq_job.specs.machine.{Changes.{job_with, with_job}, Dispatch.reserved_by, SeatRecord}
-use Rattle.bq_jobs.specs.{Numbering.HasNumber, Searching.Asks, Seen.IsBodyOf, declared.job_orders.JobMove.JobMove}
+use Rattle.bq_jobs.specs.{Numbering.HasNumber, Searching.Asks, Seen.IsBodyOf, declared.numbered_jobs.JobMove.JobMove}
 use Rattle.bq_state.specs.{Counting.with_tallies_at, CoreParts.machine_of, Keeping.OnlySearches, TubesSeen.TubesSeen}
 use Rattle.bq_state.specs.{Knowledge.{is_wanted_by, with_moved}, Tallies.tally_moved, WaitingList.WaitingList}
 use Rattle.bq_state.specs.Warnings.{has_waiting_holder}
@@ -11,7 +11,7 @@ use Rattle.bq_state.specs.declared.{core_parts.CoreParts.CoreParts, known.Known.
 pub record GoesTo (seat id : ℕ) (body : List ℕ) (old new : CoreParts) : Type 0 where
   pub body_is : IsBodyOf (job_with id (machine_of old).jobs) body
   pub after : machine_of new ≡ with_job id (reserved_by old.moment seat) (machine_of old)
-  pub asks : Asks 7 old.jobs new.jobs
+  pub asks : Asks 7 old.store.jobs new.store.jobs
 
 -- The job with this id goes to the client at the seat, with this reference to its body. If there is
 -- no such job, or the reference was refused, nothing was changed.

@@ -1,7 +1,7 @@
 -- What is known without a search: that it is true, and how it changes.
 use Rattle.std.specs.Prelude.{Bool, List, None, Option, [], count_by, if◌then◌else◌, length, nat_lt, not, ℕ, ◌&&◌, ◌≡◌}
-use Rattle.bq_job.specs.{declared.job.Job.Job, machine.{SeatRecord, TubeRecord, is_ready_state}}
-use Rattle.bq_jobs.specs.declared.job_orders.{JobMove.JobMove, JobRemoval.JobRemoval}
+use Rattle.bq_job.specs.{declared.job.Job.Job, machine.{SeatRecord, is_ready_state}}
+use Rattle.bq_jobs.specs.declared.numbered_jobs.{JobMove.JobMove, JobRemoval.JobRemoval}
 use Rattle.bq_state.specs.{Crowds.AreCrowds, SeatStates.seat_passes}
 use Rattle.bq_state.specs.{FirstTimeouts.{AreTimeouts, timeout_after}, Leaving.gone_of, TubesSeen.TubesSeen}
 use Rattle.bq_state.specs.{MaybeGoneTubes.{AreAlive, with_existing, with_gone}, Offers.is_waited_at, TubeEntries.counted}

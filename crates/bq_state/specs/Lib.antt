@@ -11,6 +11,7 @@ pub mod JobChanges
 pub mod Keeping
 pub mod Knowledge
 pub mod Leaving
+pub mod Lent
 pub mod MaybeGoneTubes
 pub mod Names
 pub mod Offers
@@ -22,6 +23,7 @@ pub mod SeatStates
 pub mod SeatView
 pub mod SeatWaiters
 pub mod Soundness
+pub mod Store
 pub mod Tallies
 pub mod TubeEntries
 pub mod TubeNumbers

@@ -86,7 +86,7 @@ paused_count es = count_by is_paused (map record_at es)
 
 -- The ends of exactly the pauses of these tubes are kept, and there is a box for that of each tube.
 pub record AreEnds (kept : Tabled EntrySeen) (ends : CatalogSeen PauseEnd (Unit {0})) : Type 0 where
-  pub known : (e : PauseEnd) → has_end e ends.entries ≡ is_end_in kept.numbers e (map record_at kept.entries)
+  pub known : (e : PauseEnd) → has_end e ends.entries ≡ is_end_in kept.tubes.numbers e (map record_at kept.entries)
   pub counted : length ends.entries ≡ paused_count kept.entries
   pub roomy : length kept.entries ≤ length ends.entries + ends.spare
 
@@ -96,4 +96,4 @@ IsTold numbers name t = is_same_name (number_at name numbers) (number_at t.name 
 
 -- The tubes have numbers of their own.
 abbrev pub AreTold : Tabled EntrySeen → Type 0
-AreTold kept = (name : List ℕ) → AllByRecursion (IsTold kept.numbers name) (map record_at kept.entries)
+AreTold kept = (name : List ℕ) → AllByRecursion (IsTold kept.tubes.numbers name) (map record_at kept.entries)

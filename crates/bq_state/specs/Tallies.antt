@@ -3,7 +3,7 @@ use Rattle.std.specs.{List.{insert, prefix_len}, Prelude.{Bool, List, [], count_
 use Rattle.std.specs.Prelude.{◌&&◌, ◌-◌, ◌||◌, ◌∷◌, ◌≡◌}
 use Rattle.bq_job.specs.{declared.job.Job.Job, machine.{TubeRecord, is_buried, is_delayed, is_name_before, is_ready, is_ready_state}}
 use Rattle.bq_job.specs.{machine.{is_reserved, is_urgent, raised}, reading.TubeName.is_same_name}
-use Rattle.bq_jobs.specs.{Changed.pri_and_state, declared.job_orders.{JobMove.JobMove, PriAndState.PriAndState}}
+use Rattle.bq_jobs.specs.{Changed.pri_and_state, declared.numbered_jobs.{JobMove.JobMove, PriAndState.PriAndState}}
 use Rattle.bq_state.specs.{TubeEntries.has_entry, declared.known.tally.Tally.Tally}
 
 abbrev pub tally_of : List Job → Tally

@@ -4,7 +4,7 @@ use Rattle.std.specs.Prelude.{Bool, List, None, Option, Some, [], false, if◌th
 use Rattle.bq_index.specs.Edited.{edited_if}
 use Rattle.bq_job.specs.{declared.job.Job.Job, machine.{Pause, TubeRecord, default_tube, fresh_tube, pause_after_timers, raised}}
 use Rattle.bq_job.specs.machine.{tube_after_timers}
-use Rattle.bq_jobs.specs.declared.job_orders.{JobMove.JobMove, JobRemoval.JobRemoval}
+use Rattle.bq_jobs.specs.declared.numbered_jobs.{JobMove.JobMove, JobRemoval.JobRemoval}
 use Rattle.bq_state.specs.{Crowds.{has_seats, no_crowd, recounted}, Tallies.{has_jobs, tally_left, tally_moved, tally_of, tally_with}}
 use Rattle.bq_state.specs.{TubeEntries.{is_tube_by, tube_changed}, declared.{known.tally.Tally.Tally, tubes.entry.Crowd.Crowd}}
 use Rattle.bq_state.specs.declared.tubes.entry.{AddOrRemove.AddOrRemove, Roles.Roles}

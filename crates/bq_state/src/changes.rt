@@ -9,8 +9,8 @@ ghost use Rattle.bq_job.specs.machine.{Limits.{grown, raised}, Machine.{empty_se
 ghost use Rattle.bq_job.specs.machine.Tubes.{forgetting, watches, with_tube};
 ghost use Rattle.bq_jobs.specs.{JobsSeen.{ComparesAtMost, with_added}, Names.number_in, Numbering.HasNumber, Searching.Asks};
 ghost use Rattle.bq_state.specs.{CoreParts.{AtSeat, Watches, fields, machine_of, with_pauses_ended}, Crowds.may_wait, Dues.with_warning_due};
-ghost use Rattle.bq_state.specs.{JobChanges.{changed, is_passed_by, once_deleted, passes}, TubesSeen.{first_tubes, is_named_at}};
-ghost use Rattle.bq_state.specs.{Names.names_of, Offers.is_waited_at, SeatChanges.{fewer_watched, has_tube_of, more_watched, seat_changed}};
+ghost use Rattle.bq_state.specs.{JobChanges.{changed, is_passed_by, once_deleted, passes}, TubesSeen.is_named_at};
+ghost use Rattle.bq_state.specs.{Store.first_store, Names.names_of, Offers.is_waited_at, SeatChanges.{fewer_watched, has_tube_of, more_watched, seat_changed}};
 ghost use Rattle.bq_state.specs.{SeatChanges.watches_other, TubeEntries.{has_entry, is_tube_of, tube_changed}, Warnings.may_hold};
 ghost use Rattle.bq_state.specs.Warnings.{warned_if_due, with_holder};
 ghost use Rattle.bq_state.specs.{HandOuts.{CountsIf, CountsMove, HandsOutTo, HasNumberIf, body_in}, SeatChanges.AreNumbered};
@@ -22,12 +22,13 @@ use crate::job_store::{JobChange, JobTest};
 use crate::known::{FirstTimeout, Known, MaybeGone, Wanted, is_over};
 use crate::name_lists::Names;
 use crate::seats::{SeatChange, SeatRecord};
-use crate::tubes::{AddOrRemove, TubeChange, Tubes};
+use crate::store::Store;
+use crate::tubes::{AddOrRemove, TubeChange};
 use crate::waiting::WaitingList;
-use crate::{job_store, roles, seats};
+use crate::{roles, seats};
 use bq_core_api::Config;
 use bq_job::{Body, Job, JobId, JobState, Moment, NoMemory, Seat, TubeName};
-use bq_jobs::{GhostName, JobMove, NumberedJobs, Tube, TubeNumber};
+use bq_jobs::{GhostName, JobMove, Tube, TubeNumber};
 use std::alloc::Global;
 
 // The last id that is given out. Its put makes the core drain, so the next id always fits.
@@ -36,33 +37,33 @@ const LAST_ID: JobId = u64::MAX - 1;
 /// Makes room for a job if there is none. Returns `NoMemory` if an allocation fails; then nothing
 /// has changed.
 pub fn make_room(state: &mut CoreParts, alloc: Global) -> Result<(), NoMemory>
-    ensures room { IfOk result (λ _. 0 < state.new.jobs.room) }
-    ensures refused { OnErr result (state.old.jobs.room ≡ 0) }
+    ensures room { IfOk result (λ _. 0 < state.new.store.jobs.room) }
+    ensures refused { OnErr result (state.old.store.jobs.room ≡ 0) }
     ensures after { machine_of state.new ≡ machine_of state.old }
     ensures seats { state.new.seats ≡ state.old.seats }
-    ensures tubes { state.new.tubes ≡ state.old.tubes }
-    ensures asks { Asks 0 state.old.jobs state.new.jobs }
+    ensures tubes { state.new.store.tubes ≡ state.old.store.tubes }
+    ensures asks { Asks 0 state.old.store.jobs state.new.store.jobs }
 {
-    state.jobs.reserve_one(alloc)
+    state.store.reserve_one(alloc)
 }
 
 // Returns true if the state is ready and the counts show a client that waits for jobs of the tube,
 // which is registered under this number.
 fn is_wanted(
     waiting: &WaitingList,
-    tubes: &Tubes,
+    store: &Store,
     state: JobState,
     name: &TubeName,
     number: TubeNumber,
 ) -> bool
-    requires { HasNumber name.now number tubes.now.numbers }
+    requires { HasNumber name.now number store.now.tubes.numbers }
     ensures { result
         ≡ (is_ready_state state
-        && (nat_lt 0 (length waiting.now.waiters) && is_waited_at name.now tubes.now)) }
+        && (nat_lt 0 (length waiting.now.waiters) && is_waited_at name.now store.now.tubes)) }
 {
     matches!(state, JobState::Ready)
         && waiting.as_slice().len() > 0
-        && tubes.crowd_numbered(name, number).waiting > 0
+        && store.crowd_numbered(name, number).waiting > 0
 }
 
 /// Adds a job, for which there is room, and counts it in its tube, which has this number. Its id was
@@ -70,22 +71,21 @@ fn is_wanted(
 // Only calls that are inlined have references to the job: otherwise its tube's name, which is stored
 // already, would be copied for them.
 pub fn add(state: &mut CoreParts, job: Job, number: TubeNumber)
-    requires room { 0 < state.old.jobs.room }
+    requires room { 0 < state.old.store.jobs.room }
     requires given { (1 ≤ job.id) × (job.id < state.old.next_id) }
     requires free { job_with job.id (machine_of state.old).jobs ≡ None }
-    requires entry { has_entry job.tube state.old.tubes.entries ≡ true }
-    requires number { HasNumber job.tube number state.old.tubes.numbers }
+    requires entry { has_entry job.tube state.old.store.tubes.entries ≡ true }
+    requires number { HasNumber job.tube number state.old.store.tubes.numbers }
     ensures after { machine_of state.new
         ≡ record (with_tube job.tube with_put (machine_of state.old)) { jobs = with_added job (machine_of state.old).jobs } }
-    ensures asks { ComparesAtMost 4 state.old.jobs state.new.jobs }
+    ensures asks { ComparesAtMost 4 state.old.store.jobs state.new.store.jobs }
 {
-    let registered = GhostName::registered(state.tubes.names(), &job.tube, number);
-    let name = registered.read(state.tubes.names(), number);
-    let is_wanted = is_wanted(&state.waiting, &state.tubes, job.state, name, number);
+    let registered = GhostName::registered(state.store.names(), &job.tube, number);
+    let name = registered.read(state.store.names(), number);
+    let is_wanted = is_wanted(&state.waiting, &state.store, job.state, name, number);
     let waits = seats::holder_waits(state.seats.as_slice(), job.state);
     state.known.add_job(&job, name, number, is_wanted, waits);
-    state.tubes.add_job(&job, number);
-    state.jobs.add(job, number);
+    state.store.add(job, number);
 }
 
 /// Removes the job with this id and drops it, and counts the deletion in its tube. Returns false if
@@ -97,15 +97,15 @@ pub fn delete(state: &mut CoreParts, id: JobId, test: JobTest) -> bool
         ≡ is_passed_by (passes test) (job_with id (machine_of state.old).jobs) }
     ensures after { machine_of state.new
         ≡ once_deleted (passing (passes test) (job_with id (machine_of state.old).jobs)) (machine_of state.old) }
-    ensures asks { ComparesAtMost 4 state.old.jobs state.new.jobs }
+    ensures asks { ComparesAtMost 4 state.old.store.jobs state.new.store.jobs }
 {
-    let Some(report) = state.jobs.discard_if(id, &test) else {
+    let Some(report) = state.store.discard_if(id, &test) else {
         return false;
     };
     let (number, removed) = report;
-    job_store::let_room_go(&mut state.jobs); // Of a peak in the past.
-    let has_seats = state.tubes.count_removal(&removed, number);
-    let name = removed.tube.read(state.tubes.names(), number);
+    state.store.let_room_go(); // Of a peak in the past.
+    let has_seats = state.store.count_removal(&removed, number);
+    let name = removed.tube.read(state.store.names(), number);
     state.known.count_removal(&removed, name, number, has_seats);
     true
 }
@@ -114,15 +114,15 @@ pub fn delete(state: &mut CoreParts, id: JobId, test: JobTest) -> bool
 #[tactic(auto, using(crate::proofs::MovedLemmas::tube_ignored))]
 pub fn change_job(state: &mut CoreParts, id: JobId, what: &JobChange)
     ensures after { machine_of state.new ≡ with_job id (changed what.now) (machine_of state.old) }
-    ensures asks { Asks 8 state.old.jobs state.new.jobs }
+    ensures asks { Asks 8 state.old.store.jobs state.new.store.jobs }
 {
-    let Some(report) = state.jobs.change(id, what) else {
+    let Some(report) = state.store.change(id, what) else {
         return;
     };
     let (number, moved) = report;
     count_move(
         &mut state.known,
-        &mut state.tubes,
+        &mut state.store,
         &state.waiting,
         state.seats.as_slice(),
         &moved,
@@ -138,10 +138,10 @@ pub fn hand_out(state: &mut CoreParts, seat: Seat, id: JobId) -> Option<Result<B
     ensures { HandsOutTo seat id result state.old state.new }
 {
     let what = JobChange::HandOut(seat, state.moment);
-    let shared = state.jobs.share_and_change(id, &what);
+    let shared = state.store.share_and_change(id, &what);
     count_if_moved(
         &mut state.known,
-        &mut state.tubes,
+        &mut state.store,
         &state.waiting,
         state.seats.as_slice(),
         &shared,
@@ -170,17 +170,18 @@ fn body_of(
 #[inline(always)]
 fn count_if_moved(
     known: &mut Known,
-    tubes: &mut Tubes,
+    store: &mut Store,
     waiting: &WaitingList,
     seats: &[SeatRecord],
     shared: &Option<Result<((TubeNumber, JobMove), Body), NoMemory>>,
 )
-    requires number { HasNumberIf shared.now tubes.old.numbers }
+    requires number { HasNumberIf shared.now store.old.tubes.numbers }
     requires seats { AreNumbered seats.now }
-    ensures { CountsIf shared.now waiting.now seats.now known.old known.new tubes.old tubes.new }
+    ensures counts { CountsIf shared.now waiting.now seats.now known.old known.new store.old.tubes store.new.tubes }
+    ensures jobs { store.new.jobs ≡ store.old.jobs }
 {
     if let Some(Ok(((number, moved), _))) = shared {
-        count_move(known, tubes, waiting, seats, moved, *number);
+        count_move(known, store, waiting, seats, moved, *number);
     }
 }
 
@@ -188,32 +189,33 @@ fn count_if_moved(
 #[inline(always)]
 fn count_move(
     known: &mut Known,
-    tubes: &mut Tubes,
+    store: &mut Store,
     waiting: &WaitingList,
     seats: &[SeatRecord],
     moved: &JobMove,
     number: TubeNumber,
 )
-    requires number { HasNumber moved.now.tube number tubes.old.numbers }
+    requires number { HasNumber moved.now.tube number store.old.tubes.numbers }
     requires seats { AreNumbered seats.now }
-    ensures { CountsMove moved.now waiting.now seats.now known.old known.new tubes.old tubes.new }
+    ensures counts { CountsMove moved.now waiting.now seats.now known.old known.new store.old.tubes store.new.tubes }
+    ensures jobs { store.new.jobs ≡ store.old.jobs }
 {
-    let name = moved.tube.read(tubes.names(), number);
-    let is_wanted = is_wanted(waiting, tubes, moved.to.state, name, number);
+    let name = moved.tube.read(store.names(), number);
+    let is_wanted = is_wanted(waiting, store, moved.to.state, name, number);
     let waits = seats::holder_waits(seats, moved.to.state);
     known.move_job(moved, name, number, is_wanted, waits);
-    tubes.move_job(moved, number);
+    store.move_job(moved, number);
 }
 
 /// Changes the seat with this number. If it starts to use a tube, that tube already has an entry.
 #[inline(never)]
 pub fn change_seat(state: &mut CoreParts, seat: Seat, what: &SeatChange)
-    requires entry { has_tube_of what.now state.old.tubes.entries ≡ true }
+    requires entry { has_tube_of what.now state.old.store.tubes.entries ≡ true }
     requires waits { may_wait what.now (seat_with seat state.old.seats.items) ≡ true }
-    requires holds { may_hold what.now seat state.old.known.warns state.old.jobs.jobs ≡ true }
+    requires holds { may_hold what.now seat state.old.known.warns state.old.store.jobs.jobs ≡ true }
     ensures after { machine_of state.new
         ≡ with_seat seat (seat_changed what.now) (machine_of state.old) }
-    ensures jobs { state.new.jobs ≡ state.old.jobs }
+    ensures jobs { state.new.store.jobs ≡ state.old.store.jobs }
 {
     change_seat_by(state, seat, what);
 }
@@ -222,7 +224,7 @@ pub fn change_seat(state: &mut CoreParts, seat: Seat, what: &SeatChange)
 #[inline(never)]
 pub fn stop_waiting(state: &mut CoreParts, seat: Seat)
     ensures after { machine_of state.new ≡ with_seat seat without_wait (machine_of state.old) }
-    ensures jobs { state.new.jobs ≡ state.old.jobs }
+    ensures jobs { state.new.store.jobs ≡ state.old.store.jobs }
 {
     change_seat_by(state, seat, &SeatChange::StopWaiting);
 }
@@ -231,10 +233,10 @@ pub fn stop_waiting(state: &mut CoreParts, seat: Seat)
 #[inline(never)]
 pub fn start_waiting(state: &mut CoreParts, seat: Seat, ticket: u64, until: Option<Moment>)
     requires waits { may_wait (seat_changes.Wait ticket until) (seat_with seat state.old.seats.items) ≡ true }
-    requires holds { may_hold (seat_changes.Wait ticket until) seat state.old.known.warns state.old.jobs.jobs ≡ true }
+    requires holds { may_hold (seat_changes.Wait ticket until) seat state.old.known.warns state.old.store.jobs.jobs ≡ true }
     ensures after { machine_of state.new
         ≡ with_seat seat (waiting_from ticket until) (machine_of state.old) }
-    ensures jobs { state.new.jobs ≡ state.old.jobs }
+    ensures jobs { state.new.store.jobs ≡ state.old.store.jobs }
 {
     change_seat_by(state, seat, &SeatChange::Wait(ticket, until));
 }
@@ -243,34 +245,34 @@ pub fn start_waiting(state: &mut CoreParts, seat: Seat, ticket: u64, until: Opti
 #[inline(always)]
 #[tactic(auto, using(crate::proofs::KnowledgeLemmas::kept_by_seat))]
 fn change_seat_by(state: &mut CoreParts, seat: Seat, what: &SeatChange)
-    requires entry { has_tube_of what.now state.old.tubes.entries ≡ true }
+    requires entry { has_tube_of what.now state.old.store.tubes.entries ≡ true }
     requires waits { may_wait what.now (seat_with seat state.old.seats.items) ≡ true }
-    requires holds { may_hold what.now seat state.old.known.warns state.old.jobs.jobs ≡ true }
+    requires holds { may_hold what.now seat state.old.known.warns state.old.store.jobs.jobs ≡ true }
     ensures after { machine_of state.new
         ≡ with_seat seat (seat_changed what.now) (machine_of state.old) }
-    ensures jobs { state.new.jobs ≡ state.old.jobs }
+    ensures jobs { state.new.store.jobs ≡ state.old.store.jobs }
 {
     let touched = roles::touched(what);
     let client = seats::find(state.seats.as_slice(), seat);
     state.waiting.leave(client);
-    roles::recount(&mut state.tubes, client, AddOrRemove::Remove, touched);
-    state.known.leave(client, what, touched, &state.tubes);
+    roles::recount(&mut state.store, client, AddOrRemove::Remove, touched);
+    state.known.leave(client, what, touched, &state.store);
     seats::change_at(&mut state.seats, seat, what);
     let client = seats::find(state.seats.as_slice(), seat);
     state.waiting.join(client);
-    roles::recount(&mut state.tubes, client, AddOrRemove::Add, touched);
+    roles::recount(&mut state.store, client, AddOrRemove::Add, touched);
     state.known.join(client, seat, what);
 }
 
 /// Records whether the client at the seat, which is about to wait, holds a job.
 pub fn note_leases(state: &mut CoreParts, seat: Seat)
     ensures known { state.new.known.warns
-        ≡ (if list_any (is_held_by seat) state.old.jobs.jobs then with_holder seat state.old.known.warns else state.old.known.warns) }
+        ≡ (if list_any (is_held_by seat) state.old.store.jobs.jobs then with_holder seat state.old.known.warns else state.old.known.warns) }
     ensures tickets { state.new.tickets ≡ state.old.tickets }
     ensures seats { state.new.seats ≡ state.old.seats }
-    ensures tubes { state.new.tubes ≡ state.old.tubes }
+    ensures tubes { state.new.store.tubes ≡ state.old.store.tubes }
     ensures after { machine_of state.new ≡ machine_of state.old }
-    ensures asks { Asks 1 state.old.jobs state.new.jobs }
+    ensures asks { Asks 1 state.old.store.jobs state.new.store.jobs }
 {
     let holds = state.holds_some(seat);
     state.known.warns.add_client_if(seat, holds);
@@ -303,7 +305,7 @@ pub fn record_none_wanted(state: &mut CoreParts)
 /// holds a job.
 #[tactic(auto, using(crate::proofs::KnowledgeLemmas::so_settled))]
 pub fn settle_warnings(state: &mut CoreParts, is_due: bool)
-    requires due { is_due ≡ is_some (fold (with_warning_due state.old.jobs.jobs) None state.old.seats.items) }
+    requires due { is_due ≡ is_some (fold (with_warning_due state.old.store.jobs.jobs) None state.old.seats.items) }
     ensures { fields state.new ≡ record (fields state.old)
         { known = record state.old.known { warns = warned_if_due is_due state.old.known.warns } } }
 {
@@ -314,24 +316,24 @@ pub fn settle_warnings(state: &mut CoreParts, is_due: bool)
 #[tactic(auto, using(crate::proofs::TubeLemmas::filter_of_map))]
 pub fn end_pauses(state: &mut CoreParts)
     ensures after { machine_of state.new ≡ with_pauses_ended (machine_of state.old) }
-    ensures jobs { state.new.jobs ≡ state.old.jobs }
+    ensures jobs { state.new.store.jobs ≡ state.old.store.jobs }
 {
-    if !is_over(state.tubes.first_pause_end(), state.moment) {
+    if !is_over(state.store.first_pause_end(), state.moment) {
         return;
     }
-    state.tubes.fire_timers(state.moment);
+    state.store.fire_timers(state.moment);
     state.known.wanted = Wanted::Any;
 }
 
 /// Changes the record of a tube that has an entry. It is looked for at the number `hint` first.
 #[tactic(auto, using(crate::proofs::PartsLemmas::recorded))]
 pub fn change_tube(state: &mut CoreParts, tube: &TubeName, hint: TubeNumber, what: TubeChange)
-    requires entry { has_entry tube.now state.old.tubes.entries ≡ true }
+    requires entry { has_entry tube.now state.old.store.tubes.entries ≡ true }
     ensures after { machine_of state.new
         ≡ with_tube tube.now (tube_changed what) (machine_of state.old) }
-    ensures jobs { state.new.jobs ≡ state.old.jobs }
+    ensures jobs { state.new.store.jobs ≡ state.old.store.jobs }
 {
-    state.tubes.change(tube, hint, what);
+    state.store.change_tube(tube, hint, what);
     state.known.change_tube(tube, hint, what);
 }
 
@@ -344,18 +346,17 @@ pub fn provide_tube(
     tube: &TubeName,
 ) -> Result<TubeNumber, NoMemory>
     ensures after { machine_of state.new ≡ machine_of state.old }
-    ensures entry { IfOk result (λ _. has_entry tube.now state.new.tubes.entries ≡ true) }
-    ensures number { IfOk result (λ n. HasNumber tube.now n state.new.tubes.numbers) }
-    ensures refused { OnErr result (has_entry tube.now state.old.tubes.entries ≡ false) }
+    ensures entry { IfOk result (λ _. has_entry tube.now state.new.store.tubes.entries ≡ true) }
+    ensures number { IfOk result (λ n. HasNumber tube.now n state.new.store.tubes.numbers) }
+    ensures refused { OnErr result (has_entry tube.now state.old.store.tubes.entries ≡ false) }
     ensures seats { state.new.seats ≡ state.old.seats }
     ensures wanted { state.new.known.wanted ≡ state.old.known.wanted }
-    ensures asks { Asks 0 state.old.jobs state.new.jobs }
+    ensures asks { Asks 0 state.old.store.jobs state.new.store.jobs }
 {
-    if let Some(number) = state.tubes.number_of(tube, TubeNumber::unknown()) {
+    if let Some(number) = state.store.number_of(tube, TubeNumber::unknown()) {
         return Ok(number);
     }
-    let number = state.tubes.provide(alloc, tube)?;
-    state.jobs.learn(state.tubes.names());
+    let number = state.store.provide(alloc, tube)?;
     state.known.maybe_gone.add_tube(tube, number);
     Ok(number)
 }
@@ -376,7 +377,7 @@ pub fn watch_tube(
     ensures same { OnErr result (machine_of state.new ≡ machine_of state.old) }
     ensures wanted { IfOk result (λ _. AtSeat seat state.old
         (λ s. is_waiting s ≡ false → state.new.known.wanted ≡ state.old.known.wanted)) }
-    ensures asks { Asks 0 state.old.jobs state.new.jobs }
+    ensures asks { Asks 0 state.old.store.jobs state.new.store.jobs }
 {
     let number = provide_tube(state, alloc, tube)?;
     if usize::from(seat) >= state.seats.len() {
@@ -386,7 +387,7 @@ pub fn watch_tube(
     let watched = Tube::new(tube, number);
     match seats::watch(&mut state.seats, alloc, seat, &watched) {
         Ok(count) => {
-            state.tubes.recount(tube, number, AddOrRemove::Add, roles);
+            state.store.recount(tube, number, AddOrRemove::Add, roles);
             state.known.wanted.add_all_if(roles.waiting);
             Ok(count)
         }
@@ -401,12 +402,12 @@ pub fn ignore_tube(state: &mut CoreParts, seat: Seat, tube: &TubeName) -> u64
     requires other { AtSeat seat state.old (λ s. watches_other tube.now s ≡ true) }
     ensures count { AtSeat seat state.old (λ s. result ≡ length (fewer_watched tube.now s)) }
     ensures after { Watches seat (fewer_watched tube.now) state.old state.new }
-    ensures jobs { state.new.jobs ≡ state.old.jobs }
+    ensures jobs { state.new.store.jobs ≡ state.old.store.jobs }
 {
     if usize::from(seat) < state.seats.len() {
         let roles = roles::at(&state.seats[usize::from(seat)], tube);
         state
-            .tubes
+            .store
             .recount(tube, TubeNumber::unknown(), AddOrRemove::Remove, roles);
         state.known.maybe_gone.add_tube(tube, TubeNumber::unknown());
         seats::ignore(&mut state.seats, seat, tube)
@@ -418,10 +419,10 @@ pub fn ignore_tube(state: &mut CoreParts, seat: Seat, tube: &TubeName) -> u64
 /// Returns the number of a tube, or one that no tube has if it has no entry.
 pub fn number_of(state: &CoreParts, tube: &TubeName) -> TubeNumber
     ensures { number_in result
-        ≡ unwrap_or (lookup (is_named_at tube.now) state.now.tubes.numbers) 1073741823 }
+        ≡ unwrap_or (lookup (is_named_at tube.now) state.now.store.tubes.numbers) 1073741823 }
 {
     let unknown = TubeNumber::unknown();
-    state.tubes.number_of(tube, unknown).unwrap_or(unknown)
+    state.store.number_of(tube, unknown).unwrap_or(unknown)
 }
 
 /// Returns true if the tube exists. It is looked for at the number `hint` first.
@@ -430,7 +431,7 @@ pub fn is_tube(state: &CoreParts, tube: &TubeName, hint: TubeNumber) -> bool
     ensures { result
         ≡ is_tube_of (machine_of state.now).jobs (machine_of state.now).seats tube.now }
 {
-    state.tubes.is_tube(tube, hint)
+    state.store.is_tube(tube, hint)
 }
 
 /// Returns how many tubes exist. If no entry is of a tube that may have gone, that is the number of
@@ -439,8 +440,8 @@ pub fn tube_count(state: &CoreParts) -> u64
     ensures { result ≡ length (tubes (machine_of state.now)) }
 {
     match &state.known.maybe_gone {
-        MaybeGone::Nothing => state.tubes.len() as u64,
-        _ => state.tubes.count_alive(),
+        MaybeGone::Nothing => state.store.tube_count() as u64,
+        _ => state.store.count_alive(),
     }
 }
 
@@ -449,7 +450,7 @@ pub fn tube_names<'a>(state: &'a CoreParts, alloc: Global) -> Result<Names<'a>, 
     ensures names { IfOk result (λ names. names_of names.items ≡ tubes (machine_of state.now)) }
     ensures ordered { IfOk result (λ names. is_in_order (names_of names.items) ≡ true) }
 {
-    state.tubes.names_alive(alloc)
+    state.store.names_alive(alloc)
 }
 
 /// Drops the entries and the numbers of tubes that no longer exist. Only tubes that may have gone
@@ -458,7 +459,7 @@ pub fn tube_names<'a>(state: &'a CoreParts, alloc: Global) -> Result<Names<'a>, 
 #[tactic(auto, using(crate::proofs::KnowledgeLemmas::none_forgotten))]
 pub fn forget_tubes(state: &mut CoreParts)
     ensures after { machine_of state.new ≡ forgetting (machine_of state.old) }
-    ensures jobs { state.new.jobs ≡ record state.old.jobs { tubes = state.new.jobs.tubes } }
+    ensures jobs { state.new.store.jobs ≡ record state.old.store.jobs { tubes = state.new.store.jobs.tubes } }
 {
     if !state.known.maybe_gone.is_nothing() {
         forget_gone(state);
@@ -469,11 +470,9 @@ pub fn forget_tubes(state: &mut CoreParts)
 #[inline(never)]
 fn forget_gone(state: &mut CoreParts)
     ensures after { machine_of state.new ≡ forgetting (machine_of state.old) }
-    ensures jobs { state.new.jobs ≡ record state.old.jobs { tubes = state.new.jobs.tubes } }
+    ensures jobs { state.new.store.jobs ≡ record state.old.store.jobs { tubes = state.new.store.jobs.tubes } }
 {
-    state
-        .tubes
-        .forget_gone(&mut state.jobs, &state.known.maybe_gone);
+    state.store.forget_gone(&state.known.maybe_gone);
     state.known.forget_tubes();
 }
 
@@ -531,44 +530,30 @@ pub fn count_timeout(state: &mut CoreParts)
 /// Sets the current moment. A moment below the last one counts as the last one.
 pub fn raise_moment(state: &mut CoreParts, at: Moment)
     ensures after { machine_of state.new ≡ at_moment at (machine_of state.old) }
-    ensures jobs { state.new.jobs ≡ state.old.jobs }
+    ensures jobs { state.new.store.jobs ≡ state.old.store.jobs }
 {
     state.moment = state.moment.max(at);
-}
-
-/// Returns an empty collection of jobs, which has the numbers of these tubes.
-pub fn no_jobs(alloc: Global, tubes: &Tubes) -> Result<NumberedJobs, NoMemory>
-    ensures none { IfOk result (λ jobs. jobs.jobs ≡ []) }
-    ensures comparisons { IfOk result (λ jobs. jobs.comparisons ≡ 0) }
-    ensures numbered { IfOk result (λ jobs. jobs.tubes ≡ tubes.now.numbers) }
-{
-    NumberedJobs::new(alloc, tubes.names())
 }
 
 /// Returns a state without jobs and without clients.
 pub fn new_parts(
     config: Config,
-    jobs: NumberedJobs,
+    store: Store,
     seats: Vec<SeatRecord, Global>,
     waiting: WaitingList,
-    tubes: Tubes,
 ) -> CoreParts
-    requires none { jobs.jobs ≡ [] }
-    requires uncounted { jobs.comparisons ≡ 0 }
-    requires numbered { jobs.tubes ≡ tubes.numbers }
+    requires first { store ≡ first_store store.tubes.numbers }
     requires free { seats.items ≡ map empty_seat (numbers 0 config.seats) }
     requires nobody { waiting.waiters ≡ [] }
     requires room { config.seats ≤ waiting.room }
-    requires first { tubes ≡ first_tubes jobs.tubes }
     ensures empty { machine_of result ≡ new_machine config }
-    ensures comparisons { result.jobs.comparisons ≡ 0 }
+    ensures comparisons { result.store.jobs.comparisons ≡ 0 }
 {
     CoreParts {
         config,
-        jobs,
+        store,
         seats,
         waiting,
-        tubes,
         known: Known::nothing(),
         moment: 0,
         next_id: 1,

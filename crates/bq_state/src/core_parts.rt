@@ -5,12 +5,13 @@ ghost use Rattle.bq_state.specs.Soundness.{Soundness, Soundness-prop};
 use crate::job_store::JobTest;
 use crate::known::{Known, Tally};
 use crate::seats::SeatRecord;
-use crate::tubes::{Crowd, Tubes};
+use crate::store::Store;
+use crate::tubes::Crowd;
 use crate::waiting::WaitingList;
 use crate::{job_store, seats};
 use bq_core_api::Config;
 use bq_job::{Body, JobId, Moment, NoMemory, Seat, TubeName};
-use bq_jobs::{JobList, NumberedJobs, Tube, TubeNumber};
+use bq_jobs::{JobList, Tube, TubeNumber};
 use std::alloc::Global;
 
 /// The state of a core. Its invariants are stated here, once: code that builds or changes a state
@@ -18,12 +19,11 @@ use std::alloc::Global;
 #[derive(Drop)]
 pub struct CoreParts {
     pub config: Config,
-    pub jobs: NumberedJobs,
+    /// The jobs, and what is kept of each tube that exists.
+    pub store: Store,
     pub seats: Vec<SeatRecord, Global>,
     /// The waiting clients, in order of their tickets.
     pub waiting: WaitingList,
-    /// What is kept of each tube that exists.
-    pub tubes: Tubes,
     /// What is known without a search.
     pub known: Known,
     /// The largest moment of any step so far, in milliseconds.
@@ -42,10 +42,8 @@ pub struct CoreParts {
     pub puts: u64,
     /// How many connections were opened.
     pub connections: u64,
-    pub ghost sound: { Soundness jobs.jobs seats.items tubes waiting known
-        next_id draining } by { Soundness-prop jobs.jobs seats.items tubes waiting known next_id draining },
-    // The jobs have the tubes' numbers.
-    pub ghost numbered: { jobs.tubes ≡ tubes.numbers },
+    pub ghost sound: { Soundness store.jobs.jobs seats.items store.tubes waiting known next_id draining } by { Soundness-prop store.jobs.jobs seats.items
+        store.tubes waiting known next_id draining },
 }
 
 impl CoreParts {
@@ -93,7 +91,7 @@ impl CoreParts {
         ensures has { result ≡ is_passed_by (passes test) (job_with id (machine_of self.old).jobs) }
         ensures kept { OnlySearches 1 self.old self.new }
     {
-        job_store::has(&mut self.jobs, id, test)
+        job_store::has(&mut self.store, id, test)
     }
 
     /// Returns how long the client at the seat may hold the job with this id, in seconds, if it
@@ -103,7 +101,7 @@ impl CoreParts {
         ensures ttr { result ≡ ttr_held_by seat (job_with id (machine_of self.old).jobs) }
         ensures kept { OnlySearches 1 self.old self.new }
     {
-        job_store::time_to_run(&mut self.jobs, id, seat)
+        job_store::time_to_run(&mut self.store, id, seat)
     }
 
     /// Returns another reference to the body of the job with this id, or `NoMemory` if it is
@@ -115,23 +113,23 @@ impl CoreParts {
             (λ shared. IfOk shared (IsBodyOf (job_with id (machine_of self.old).jobs))) }
         ensures kept { OnlySearches 1 self.old self.new }
     {
-        self.jobs.share_body(id)
+        self.store.share_body(id)
     }
 
     /// Returns the id of the first job in this list of this tube.
     #[tactic(auto, using(crate::proofs::PartsLemmas::compared_sound))]
     pub fn first(&mut self, list: JobList, tube: &Tube) -> Option<JobId>
         ensures id { result
-            ≡ option_map (λ j. j.id) (first_in list tube.now self.old.jobs.jobs) }
+            ≡ option_map (λ j. j.id) (first_in list tube.now self.old.store.jobs.jobs) }
         ensures kept { OnlySearches 1 self.old self.new }
     {
-        job_store::first(&mut self.jobs, self.tubes.names(), list, tube)
+        job_store::first(&mut self.store, list, tube)
     }
 
     /// Returns true if some job is ready.
     #[tactic(auto, using(crate::proofs::ClientLemmas::some_pass))]
     pub fn has_ready(&self) -> bool
-        ensures { result ≡ list_any is_ready self.now.jobs.jobs }
+        ensures { result ≡ list_any is_ready self.now.store.jobs.jobs }
     {
         self.known.tally.ready > 0
     }
@@ -139,7 +137,7 @@ impl CoreParts {
     /// Returns true if some client holds a job.
     #[tactic(auto, using(crate::proofs::ClientLemmas::some_pass))]
     pub fn has_lease(&self) -> bool
-        ensures { result ≡ list_any (λ j. is_reserved j.state) self.now.jobs.jobs }
+        ensures { result ≡ list_any (λ j. is_reserved j.state) self.now.store.jobs.jobs }
     {
         self.known.tally.reserved > 0
     }
@@ -147,7 +145,7 @@ impl CoreParts {
     /// Returns true if some job is delayed.
     #[tactic(auto, using(crate::proofs::ClientLemmas::some_pass))]
     pub fn has_delayed(&self) -> bool
-        ensures { result ≡ list_any (λ j. is_delayed j.state) self.now.jobs.jobs }
+        ensures { result ≡ list_any (λ j. is_delayed j.state) self.now.store.jobs.jobs }
     {
         self.known.tally.delayed > 0
     }
@@ -156,13 +154,13 @@ impl CoreParts {
     /// searched.
     #[tactic(auto, using(crate::proofs::PartsLemmas::compared_sound, crate::proofs::DueLemmas::held_some, crate::proofs::DueLemmas::none_held))]
     pub(crate) fn holds_some(&mut self, seat: Seat) -> bool
-        ensures holds { result ≡ list_any (is_held_by seat) self.old.jobs.jobs }
+        ensures holds { result ≡ list_any (is_held_by seat) self.old.store.jobs.jobs }
         ensures kept { OnlySearches 1 self.old self.new }
     {
         if !self.has_lease() {
             return false;
         }
-        self.jobs.first_held(seat).is_some()
+        self.store.first_held(seat).is_some()
     }
 
     /// Returns how many clients wait.
@@ -184,9 +182,9 @@ impl CoreParts {
     #[tactic(auto, using(crate::proofs::TallyPlaces::tally_there))]
     pub fn tally_in(&self, tube: &TubeName, hint: TubeNumber) -> Tally
         ensures { result
-            ≡ tally_of (filter (λ j. is_same_name tube.now j.tube) self.now.jobs.jobs) }
+            ≡ tally_of (filter (λ j. is_same_name tube.now j.tube) self.now.store.jobs.jobs) }
     {
-        self.tubes.tally_of(tube, hint)
+        self.store.tally_of(tube, hint)
     }
 
     /// Returns the counts of the clients that use or watch the tube, or wait for its jobs.
@@ -194,6 +192,6 @@ impl CoreParts {
     pub fn crowd_at(&self, tube: &TubeName, hint: TubeNumber) -> Crowd
         ensures { result ≡ crowd_of self.now.seats.items tube.now }
     {
-        self.tubes.crowd_of(tube, hint)
+        self.store.crowd_of(tube, hint)
     }
 }

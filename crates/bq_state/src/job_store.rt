@@ -1,16 +1,14 @@
-//! The jobs: changing one, testing one for a command, and room for more.
-ghost use Rattle.std.specs.{Option.option_map, Prelude.{length, not, ◌<◌, ◌||◌, ◌≡◌}};
+//! The jobs: changing one, and testing one for a command.
+ghost use Rattle.std.specs.{Option.option_map, Prelude.{not, ◌||◌, ◌≡◌}};
 ghost use Rattle.bq_job.specs.machine.{Changes.{is_held_by as held_by, job_with}, Dispatch.reserved_by, JobCommands.buried};
 ghost use Rattle.bq_job.specs.machine.{JobCommands.{delayed_by as delayed_for, kicked, released}, JobStates.{is_buried, is_delayed}};
 ghost use Rattle.bq_job.specs.machine.{JobStates.is_reserved, Limits.later as later_by, Timers.job_after_timers};
-ghost use Rattle.bq_jobs.specs.{Ranks.first_in, Searching.Searches};
-ghost use Rattle.bq_state.specs.{JobChanges.{changed, is_passed_by, passes, ttr_held_by}, Room.{room_given_back, room_left}};
+ghost use Rattle.bq_jobs.specs.Ranks.{first_in};
+ghost use Rattle.bq_state.specs.{Keeping.SearchesStore, JobChanges.{changed, is_passed_by, passes, ttr_held_by}};
 
+use crate::store::Store;
 use bq_job::{JobId, JobState, Moment, Pri, Seat};
-use bq_jobs::{JobEdit, JobList, NumberedJobs, NumberedTubes, PackedJob, PackedTest, Tube};
-
-// How much more room than there are jobs is kept.
-const ROOM_TO_SPARE: usize = 1000;
+use bq_jobs::{JobEdit, JobList, PackedJob, PackedTest, Tube};
 
 /// A change of a job.
 #[derive(Clone, Copy)]
@@ -154,17 +152,11 @@ impl JobEdit for JobChange {
 }
 
 /// Returns the id of the first job in this list of this tube.
-pub fn first(
-    jobs: &mut NumberedJobs,
-    tubes: &NumberedTubes,
-    list: JobList,
-    tube: &Tube,
-) -> Option<JobId>
-    requires same { tubes.now.numbers ≡ jobs.old.tubes }
-    ensures id { result ≡ option_map (λ j. j.id) (first_in list tube.now jobs.old.jobs) }
-    ensures kept { Searches 1 jobs.old jobs.new }
+pub fn first(store: &mut Store, list: JobList, tube: &Tube) -> Option<JobId>
+    ensures id { result ≡ option_map (λ j. j.id) (first_in list tube.now store.old.jobs.jobs) }
+    ensures kept { SearchesStore 1 store.old store.new }
 {
-    let (_, id) = jobs.first_listed(tubes, list, tube)?;
+    let (_, id) = store.first_listed(list, tube)?;
     Some(id)
 }
 
@@ -201,11 +193,11 @@ impl PackedTest for JobTest {
 }
 
 /// Returns true if there is a job with this id and it passes the test.
-pub(crate) fn has(jobs: &mut NumberedJobs, id: JobId, test: JobTest) -> bool
-    ensures has { result ≡ is_passed_by (passes test) (job_with id jobs.old.jobs) }
-    ensures kept { Searches 1 jobs.old jobs.new }
+pub(crate) fn has(store: &mut Store, id: JobId, test: JobTest) -> bool
+    ensures has { result ≡ is_passed_by (passes test) (job_with id store.old.jobs.jobs) }
+    ensures kept { SearchesStore 1 store.old store.new }
 {
-    match jobs.get(id) {
+    match store.get(id) {
         None => false,
         Some(job) => passes(job, test),
     }
@@ -213,11 +205,11 @@ pub(crate) fn has(jobs: &mut NumberedJobs, id: JobId, test: JobTest) -> bool
 
 /// Returns how long the client at the seat may hold the job with this id, in seconds, if it holds
 /// it.
-pub(crate) fn time_to_run(jobs: &mut NumberedJobs, id: JobId, seat: Seat) -> Option<u32>
-    ensures ttr { result ≡ ttr_held_by seat (job_with id jobs.old.jobs) }
-    ensures kept { Searches 1 jobs.old jobs.new }
+pub(crate) fn time_to_run(store: &mut Store, id: JobId, seat: Seat) -> Option<u32>
+    ensures ttr { result ≡ ttr_held_by seat (job_with id store.old.jobs.jobs) }
+    ensures kept { SearchesStore 1 store.old store.new }
 {
-    match jobs.get(id) {
+    match store.get(id) {
         None => None,
         Some(job) => if is_held_by(job, seat) {
             Some(job.ttr())
@@ -225,37 +217,4 @@ pub(crate) fn time_to_run(jobs: &mut NumberedJobs, id: JobId, seat: Seat) -> Opt
             None
         },
     }
-}
-
-// Returns the room of one job to the heap, if there is room for more jobs than there are. Not
-// inlined: it is rarely called, and its callers would save registers for it each time.
-#[inline(never)]
-fn give_back(jobs: &mut NumberedJobs)
-    ensures { jobs.new ≡ record jobs.old { room = room_given_back (length jobs.old.jobs) jobs.old.room } }
-{
-    jobs.give_back();
-}
-
-// Returns the room of one job to the heap, if there is plenty.
-#[inline(always)]
-fn let_one_room_go(jobs: &mut NumberedJobs)
-    ensures same { jobs.new ≡ record jobs.old { room = jobs.new.room } }
-    ensures given { jobs.new.room ≡ room_left (length jobs.old.jobs) jobs.old.room }
-    ensures room { 0 < jobs.old.room → 0 < jobs.new.room }
-{
-    if jobs.room().saturating_sub(jobs.len()) >= ROOM_TO_SPARE {
-        give_back(jobs);
-    }
-}
-
-/// Returns unneeded room to the heap: at most that of two jobs at a time, so that no step takes
-/// long.
-pub(crate) fn let_room_go(jobs: &mut NumberedJobs)
-    ensures same { jobs.new ≡ record jobs.old { room = jobs.new.room } }
-    ensures given { jobs.new.room
-        ≡ room_left (length jobs.old.jobs) (room_left (length jobs.old.jobs) jobs.old.room) }
-    ensures room { 0 < jobs.old.room → 0 < jobs.new.room }
-{
-    let_one_room_go(jobs);
-    let_one_room_go(jobs);
 }

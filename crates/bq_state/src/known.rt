@@ -5,7 +5,8 @@ ghost use Rattle.bq_state.specs.{Dues.{earlier_of_both, is_end_over}, Knowledge.
 ghost use Rattle.bq_state.specs.{Knowledge.{with_left, with_moved, with_removal, with_tube_changed}, SeatStates.seat_passes};
 
 use crate::seats::{SeatChange, SeatRecord};
-use crate::tubes::{Roles, TubeChange, Tubes};
+use crate::store::Store;
+use crate::tubes::{Roles, TubeChange};
 use bq_job::{Job, Moment, Seat, TubeName};
 use bq_jobs::{JobMove, JobRemoval, PriAndState, TubeNumber};
 pub use first_timeout::{FirstTimeout, first_to_give_up};
@@ -120,13 +121,13 @@ impl Known {
         client: Option<&SeatRecord>,
         what: &SeatChange,
         touched: Roles,
-        tubes: &Tubes,
+        store: &Store,
     )
         ensures { self.new
-            ≡ with_left (option_copied client.entry) what.now touched tubes.now self.old }
+            ≡ with_left (option_copied client.entry) what.now touched store.now.tubes self.old }
     {
         self.first_timeout.change(client, what);
-        self.maybe_gone.leave(tubes, client, touched);
+        self.maybe_gone.leave(store, client, touched);
         if is_connected(client) {
             self.connected = self.connected.saturating_sub(1);
         }

@@ -12,6 +12,7 @@ pub mod known;
 pub mod name_lists;
 mod roles;
 pub mod seats;
+pub mod store;
 pub mod tubes;
 pub mod waiting;
 mod watch_list;

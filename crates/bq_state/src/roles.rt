@@ -4,7 +4,8 @@ ghost use Rattle.bq_state.specs.{Counting.{recounted_for, with_crowds_at, with_c
 ghost use Rattle.bq_state.specs.Crowds.{roles_as_watcher, roles_of_watcher, roles_of_watching, touched};
 
 use crate::seats::{SeatChange, SeatRecord};
-use crate::tubes::{AddOrRemove, Roles, Tubes};
+use crate::store::Store;
+use crate::tubes::{AddOrRemove, Roles};
 use bq_job::TubeName;
 use bq_jobs::Tube;
 
@@ -61,34 +62,36 @@ pub(crate) fn at(client: &SeatRecord, name: &TubeName) -> Roles
 // Counts a client with these roles at a tube, or stops counting it. Without a role no tube is searched for.
 #[inline(always)]
 #[tactic(auto, using(crate::proofs::CrowdLemmas::beside_same, crate::proofs::CrowdLemmas::none_recounted))]
-fn recount_at(tubes: &mut Tubes, tube: &Tube, how: AddOrRemove, roles: Roles)
-    ensures { tubes.new ≡ with_crowds_at tube.now (recounted how roles) tubes.old }
+fn recount_at(store: &mut Store, tube: &Tube, how: AddOrRemove, roles: Roles)
+    ensures { store.new ≡ record store.old { tubes = with_crowds_at tube.now (recounted how roles) store.old.tubes } }
 {
     if !roles.is_none() {
-        tubes.recount(tube.name(), tube.number(), how, roles);
+        store.recount(tube.name(), tube.number(), how, roles);
     }
 }
 
 // Does the same at each of these tubes.
 #[inline(always)]
 #[tactic(auto, using(crate::proofs::LoopLemmas::folded_more))]
-fn recount_all(tubes: &mut Tubes, watched: &[Tube], how: AddOrRemove, roles: Roles)
-    ensures { tubes.new ≡ with_crowds_at_all watched.now (recounted how roles) tubes.old }
+fn recount_all(store: &mut Store, watched: &[Tube], how: AddOrRemove, roles: Roles)
+    ensures { store.new ≡ record store.old
+        { tubes = with_crowds_at_all watched.now (recounted how roles) store.old.tubes } }
 {
     for i in 0..watched.len() {
         let tube = &watched[i];
-        tubes.recount(tube.name(), tube.number(), how, roles);
+        store.recount(tube.name(), tube.number(), how, roles);
     }
 }
 
 // Does the same; without a role no tube is searched for.
 #[inline(always)]
 #[tactic(auto, using(crate::proofs::CrowdLemmas::all_same, crate::proofs::CrowdLemmas::none_recounted))]
-fn recount_watched(tubes: &mut Tubes, watched: &[Tube], how: AddOrRemove, roles: Roles)
-    ensures { tubes.new ≡ with_crowds_at_all watched.now (recounted how roles) tubes.old }
+fn recount_watched(store: &mut Store, watched: &[Tube], how: AddOrRemove, roles: Roles)
+    ensures { store.new ≡ record store.old
+        { tubes = with_crowds_at_all watched.now (recounted how roles) store.old.tubes } }
 {
     if !roles.is_none() {
-        recount_all(tubes, watched, how, roles);
+        recount_all(store, watched, how, roles);
     }
 }
 
@@ -117,12 +120,13 @@ fn as_watcher(client: &SeatRecord, what: Roles) -> Roles
 /// Counts a client at its tubes, or stops counting it, with those of its roles that are in `what`.
 #[inline(always)]
 #[tactic(auto, using(crate::proofs::NamedLemmas::kept_alike))]
-pub(crate) fn recount(tubes: &mut Tubes, client: Option<&SeatRecord>, how: AddOrRemove, what: Roles)
-    ensures { tubes.new ≡ recounted_for how what (option_copied client.entry) tubes.old }
+pub(crate) fn recount(store: &mut Store, client: Option<&SeatRecord>, how: AddOrRemove, what: Roles)
+    ensures { store.new ≡ record store.old
+        { tubes = recounted_for how what (option_copied client.entry) store.old.tubes } }
 {
     let Some(client) = client else {
         return;
     };
-    recount_at(tubes, client.used(), how, as_user(client, what));
-    recount_watched(tubes, client.watched(), how, as_watcher(client, what));
+    recount_at(store, client.used(), how, as_user(client, what));
+    recount_watched(store, client.watched(), how, as_watcher(client, what));
 }

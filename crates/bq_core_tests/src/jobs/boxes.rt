@@ -1,7 +1,7 @@
 //! The three boxes of a job.
 
 use bq_index::{BoxSource, NoMemory};
-use bq_jobs::{NumberedJobs, NumberedTubes};
+use bq_jobs::NumberedJobs;
 use std::alloc::Global;
 use std::mem::size_of_val;
 
@@ -47,7 +47,7 @@ fn are_three(alloc: Global) -> bool {
         asked: 0,
         sizes: [0; 3],
     };
-    match NumberedJobs::new(alloc, &NumberedTubes::new(alloc)) {
+    match NumberedJobs::new(alloc) {
         Ok(mut jobs) => {
             let are_three = asks_for_three(&mut jobs, &mut source) && are_small(&source);
             drop(jobs);

@@ -4,7 +4,8 @@ ghost use Rattle.bq_state.specs.Leaving.{exists_in, gone_all, gone_of, gone_unle
 ghost use Rattle.bq_state.specs.MaybeGoneTubes.{is_nothing, with_existing, with_gone};
 
 use crate::seats::SeatRecord;
-use crate::tubes::{Roles, Tubes};
+use crate::store::Store;
+use crate::tubes::Roles;
 use bq_job::TubeName;
 use bq_jobs::{Tube, TubeNumber};
 
@@ -62,38 +63,38 @@ impl MaybeGone {
     }
 
     // The tube may have gone, unless its counts show that it exists.
-    fn add_unless_there(&mut self, tubes: &Tubes, tube: &Tube)
-        ensures { self.new ≡ gone_unless (exists_in tubes.now tube.now) tube.now self.old }
+    fn add_unless_there(&mut self, store: &Store, tube: &Tube)
+        ensures { self.new ≡ gone_unless (exists_in store.now.tubes tube.now) tube.now self.old }
     {
-        if !tubes.is_tube(tube.name(), tube.number()) {
+        if !store.is_tube(tube.name(), tube.number()) {
             self.add_tube(tube.name(), tube.number());
         }
     }
 
     // Does the same for each of these tubes.
     #[tactic(auto, using(crate::proofs::LoopLemmas::folded_more))]
-    fn add_tubes(&mut self, tubes: &Tubes, watched: &[Tube])
-        ensures { self.new ≡ gone_all tubes.now watched.now self.old }
+    fn add_tubes(&mut self, store: &Store, watched: &[Tube])
+        ensures { self.new ≡ gone_all store.now.tubes watched.now self.old }
     {
         for i in 0..watched.len() {
-            self.add_unless_there(tubes, &watched[i]);
+            self.add_unless_there(store, &watched[i]);
         }
     }
 
     /// Marks each tube as possibly gone that the seat used or watched, and whose counts, without
     /// this seat, show no job and no client. Only the roles in `what` matter.
     #[inline(always)]
-    pub(crate) fn leave(&mut self, tubes: &Tubes, client: Option<&SeatRecord>, what: Roles)
-        ensures { self.new ≡ gone_of what tubes.now (option_copied client.entry) self.old }
+    pub(crate) fn leave(&mut self, store: &Store, client: Option<&SeatRecord>, what: Roles)
+        ensures { self.new ≡ gone_of what store.now.tubes (option_copied client.entry) self.old }
     {
         let Some(client) = client else {
             return;
         };
         if what.using {
-            self.add_unless_there(tubes, client.used());
+            self.add_unless_there(store, client.used());
         }
         if what.watching {
-            self.add_tubes(tubes, client.watched());
+            self.add_tubes(store, client.watched());
         }
     }
 }

@@ -2,6 +2,7 @@
 ghost use Rattle.std.specs.{Cmp.Lexicographic.slice_cmp, Map.remove_entry, Option.{ForSome, option_map}, Ordering.nat_cmp};
 ghost use Rattle.std.specs.Prelude.{IfOk, None, Some, if◌then◌else◌, is_some, length, map, true, ◌+◌, ◌<◌, ◌≡◌, ◌≤◌};
 ghost use Rattle.bq_index.specs.Order.{InOrder};
+ghost use Rattle.bq_jobs.specs.Numbering.{IsPaired};
 ghost use Rattle.bq_state.specs.TubesSeen.{edited_at, entry_changed, entry_crowd, is_named_at};
 ghost use Rattle.bq_state.specs.{PauseEnds.{AreEnds, AreTold, end_cmp, end_of}, TubesSeen.{entry_tally, record_at, records_ended}};
 ghost use Rattle.bq_state.specs.PauseEnds.{first_end, found_end, has_end, if_over, is_end_in, number_at, pause_at, paused_count};
@@ -15,7 +16,7 @@ use std::alloc::Global;
 
 // Returns the end of the pause of the tube with this name, if it is paused.
 fn end_of(kept: &TubeTable<TubeEntry>, name: &TubeName, hint: TubeNumber) -> Option<PauseEnd>
-    ensures end { result ≡ end_of (number_at name.now kept.now.numbers)
+    ensures end { result ≡ end_of (number_at name.now kept.now.tubes.numbers)
         (pause_at name.now (map record_at kept.now.entries)) }
     ensures told { AreTold kept.now }
     ensures ordered { InOrder (slice_cmp nat_cmp) kept.now.entries }
@@ -27,8 +28,8 @@ fn end_of(kept: &TubeTable<TubeEntry>, name: &TubeName, hint: TubeNumber) -> Opt
 // Returns the tube whose pause has this end.
 #[tactic(auto, using(crate::proofs::NumberLemmas::number_is))]
 fn tube_of(kept: &TubeTable<TubeEntry>, end: &PauseEnd) -> Tube
-    requires { is_end_in kept.now.numbers end.now (map record_at kept.now.entries) ≡ true }
-    ensures number { end.now.number ≡ number_at result kept.now.numbers }
+    requires { is_end_in kept.now.tubes.numbers end.now (map record_at kept.now.entries) ≡ true }
+    ensures number { end.now.number ≡ number_at result kept.now.tubes.numbers }
     ensures told { AreTold kept.now }
 {
     Tube::new(kept.tubes().name_of(end.number).unwrap(), end.number)
@@ -44,7 +45,7 @@ pub(crate) fn pause(
     what: TubeChange,
 )
     requires { AreEnds kept.old ends.old }
-    ensures numbers { kept.new.numbers ≡ kept.old.numbers }
+    ensures tubes { kept.new.tubes ≡ kept.old.tubes }
     ensures kept { kept.new.entries ≡ edited_at name.now (entry_changed what) kept.old.entries }
     ensures ends { AreEnds kept.new ends.new }
     ensures ordered { InOrder (slice_cmp nat_cmp) kept.old.entries }
@@ -60,7 +61,8 @@ pub(crate) fn pause(
 #[tactic(auto, using(crate::proofs::EndMoves::end_held))]
 pub(crate) fn drop_entry(kept: &mut TubeTable<TubeEntry>, ends: &mut PauseEnds, name: &TubeName)
     requires { AreEnds kept.old ends.old }
-    ensures numbers { kept.new.numbers ≡ remove_entry (is_named_at name.now) kept.old.numbers }
+    ensures numbers { kept.new.tubes.numbers ≡ remove_entry (is_named_at name.now) kept.old.tubes.numbers }
+    ensures paired { IsPaired kept.new.tubes }
     ensures kept { kept.new.entries ≡ remove_entry (is_named_at name.now) kept.old.entries }
     ensures ends { AreEnds kept.new ends.new }
     ensures ordered { InOrder (slice_cmp nat_cmp) kept.old.entries }
@@ -76,7 +78,7 @@ fn end_pause(kept: &mut TubeTable<TubeEntry>, ends: &mut PauseEnds, end: PauseEn
     requires ends { AreEnds kept.old ends.old }
     requires first { Some end ≡ if_over moment (first_end ends.old.entries) }
     requires ordered { InOrder end_cmp ends.old.entries }
-    ensures numbers { kept.new.numbers ≡ kept.old.numbers }
+    ensures tubes { kept.new.tubes ≡ kept.old.tubes }
     ensures records { records_ended moment kept.new.entries
         ≡ records_ended moment kept.old.entries }
     ensures tallies { map entry_tally kept.new.entries ≡ map entry_tally kept.old.entries }
@@ -93,7 +95,7 @@ fn end_pause(kept: &mut TubeTable<TubeEntry>, ends: &mut PauseEnds, end: PauseEn
 #[tactic(auto, using(crate::proofs::EndLemmas::none_over_yet, crate::proofs::PauseLemmas::no_pause_ends, crate::proofs::PauseLemmas::none_over))]
 pub(crate) fn end_all(kept: &mut TubeTable<TubeEntry>, ends: &mut PauseEnds, moment: Moment)
     requires { AreEnds kept.old ends.old }
-    ensures numbers { kept.new.numbers ≡ kept.old.numbers }
+    ensures tubes { kept.new.tubes ≡ kept.old.tubes }
     ensures records { map record_at kept.new.entries ≡ records_ended moment kept.old.entries }
     ensures tallies { map entry_tally kept.new.entries ≡ map entry_tally kept.old.entries }
     ensures crowds { map entry_crowd kept.new.entries ≡ map entry_crowd kept.old.entries }

@@ -3,8 +3,9 @@ ghost use Rattle.std.specs.{Cmp.Lexicographic.slice_cmp, List.list_any, Map.{loo
 ghost use Rattle.std.specs.Prelude.{false, filter, find, map, ◌≡◌};
 ghost use Rattle.bq_index.specs.Order.{InOrder};
 ghost use Rattle.bq_job.specs.reading.TubeName.{is_same_name};
+ghost use Rattle.bq_jobs.specs.Numbering.{named};
 ghost use Rattle.bq_state.specs.TubesSeen.{entry_tally, is_alive_at, is_alive_with, is_gone_by, is_gone_from, is_named_at, record_at};
-ghost use Rattle.bq_state.specs.{PauseEnds.AreEnds, Tallies.tallies_of, TubesSeen.{with_alive, without_gone}};
+ghost use Rattle.bq_state.specs.{Store.AreStored, Tallies.tallies_of, TubesSeen.{with_alive, without_gone}};
 
 use super::entry::TubeEntry;
 use super::pauses::{self, PauseEnds};
@@ -91,40 +92,37 @@ fn is_gone(catalog: &TubeTable<TubeEntry>, tube: &Tube) -> bool
 }
 
 // Drops the entry and the number of a tube that has no job.
+#[tactic(auto, using(bq_jobs::proofs::NamedJobs::named_left))]
 fn drop_tube(
     catalog: &mut TubeTable<TubeEntry>,
     ends: &mut PauseEnds,
-    jobs: &mut NumberedJobs,
+    jobs: &NumberedJobs,
     name: &TubeName,
 )
-    requires ends { AreEnds catalog.old ends.old }
-    requires numbered { jobs.old.tubes ≡ catalog.old.numbers }
-    requires none { list_any (λ j. is_same_name name.now j.tube) jobs.old.jobs ≡ false }
+    requires stored { AreStored jobs.now catalog.old ends.old }
+    requires none { list_any (λ j. is_same_name name.now j.tube) (map (named catalog.old.tubes) jobs.now.jobs) ≡ false }
     ensures kept { catalog.new.entries ≡ remove_entry (is_named_at name.now) catalog.old.entries }
-    ensures ends { AreEnds catalog.new ends.new }
+    ensures stored { AreStored jobs.now catalog.new ends.new }
     ensures ordered { InOrder (slice_cmp nat_cmp) catalog.old.entries }
-    ensures numbered { jobs.new.tubes ≡ catalog.new.numbers }
-    ensures jobs { jobs.new ≡ record jobs.old { tubes = jobs.new.tubes } }
+    ensures jobs { map (named catalog.new.tubes) jobs.now.jobs ≡ map (named catalog.old.tubes) jobs.now.jobs }
 {
     pauses::drop_entry(catalog, ends, name);
-    jobs.forget(catalog.tubes(), name);
+    let _ = jobs;
 }
 
 /// Drops the entry and the number of a tube, if it no longer exists.
 pub(crate) fn forget_one(
     catalog: &mut TubeTable<TubeEntry>,
     ends: &mut PauseEnds,
-    jobs: &mut NumberedJobs,
+    jobs: &NumberedJobs,
     tube: &Tube,
 )
-    requires ends { AreEnds catalog.old ends.old }
-    requires numbered { jobs.old.tubes ≡ catalog.old.numbers }
+    requires stored { AreStored jobs.now catalog.old ends.old }
     requires tallies { map entry_tally catalog.old.entries
-        ≡ tallies_of jobs.old.jobs (map record_at catalog.old.entries) }
-    ensures ends { AreEnds catalog.new ends.new }
+        ≡ tallies_of (map (named catalog.old.tubes) jobs.now.jobs) (map record_at catalog.old.entries) }
+    ensures stored { AreStored jobs.now catalog.new ends.new }
     ensures kept { catalog.new.entries ≡ without_gone tube.now catalog.old.entries }
-    ensures numbered { jobs.new.tubes ≡ catalog.new.numbers }
-    ensures jobs { jobs.new ≡ record jobs.old { tubes = jobs.new.tubes } }
+    ensures jobs { map (named catalog.new.tubes) jobs.now.jobs ≡ map (named catalog.old.tubes) jobs.now.jobs }
 {
     if is_gone(catalog, tube) {
         drop_tube(catalog, ends, jobs, tube.name());
@@ -152,16 +150,14 @@ fn next_gone(catalog: &TubeTable<TubeEntry>, from: &Option<TubeName>) -> Option<
 pub(crate) fn forget_all(
     catalog: &mut TubeTable<TubeEntry>,
     ends: &mut PauseEnds,
-    jobs: &mut NumberedJobs,
+    jobs: &NumberedJobs,
 )
-    requires ends { AreEnds catalog.old ends.old }
-    requires numbered { jobs.old.tubes ≡ catalog.old.numbers }
+    requires stored { AreStored jobs.now catalog.old ends.old }
     requires tallies { map entry_tally catalog.old.entries
-        ≡ tallies_of jobs.old.jobs (map record_at catalog.old.entries) }
-    ensures ends { AreEnds catalog.new ends.new }
+        ≡ tallies_of (map (named catalog.old.tubes) jobs.now.jobs) (map record_at catalog.old.entries) }
+    ensures stored { AreStored jobs.now catalog.new ends.new }
     ensures kept { catalog.new.entries ≡ filter is_alive_at catalog.old.entries }
-    ensures numbered { jobs.new.tubes ≡ catalog.new.numbers }
-    ensures jobs { jobs.new ≡ record jobs.old { tubes = jobs.new.tubes } }
+    ensures jobs { map (named catalog.new.tubes) jobs.now.jobs ≡ map (named catalog.old.tubes) jobs.now.jobs }
 {
     let mut last = None;
     while let Some(name) = next_gone(catalog, &last) {

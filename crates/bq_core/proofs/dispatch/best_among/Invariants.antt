@@ -6,7 +6,7 @@ use Rattle.bq_core.proofs.dispatch.best_among.Given as goal
 
 abbrev pub invariant-loop-i : goal.invariant-loop-i
 invariant-loop-i l = record {
-  best : l.best ≡ fold (with_offer l.fn.jobs.jobs l.tubes.entries) l.fn.first (take l.i l.watched);
-  same : l.jobs ≡ record l.fn.jobs { comparisons = l.jobs.comparisons };
-  asks : Asks l.i l.fn.jobs l.jobs;
+  best : l.best ≡ fold (with_offer l.fn.store.jobs.jobs l.fn.store.tubes.entries) l.fn.first (take l.i l.watched);
+  same : l.store ≡ record l.fn.store { jobs = record l.fn.store.jobs { comparisons = l.store.jobs.comparisons } };
+  asks : Asks l.i l.fn.store.jobs l.store.jobs;
 }

@@ -6,7 +6,7 @@ use Rattle.bq_core.proofs.dispatch.best_of_waiters.Given as goal
 
 abbrev pub invariant-loop-i : goal.invariant-loop-i
 invariant-loop-i l = record {
-  best : l.best ≡ fold (by_seat (with_offers l.fn.jobs.jobs l.tubes.entries) l.seats) None (take l.i l.waiters);
-  same : l.jobs ≡ record l.fn.jobs { comparisons = l.jobs.comparisons };
-  asks : Asks (sum_by (waited_at l.seats) (take l.i l.waiters)) l.fn.jobs l.jobs;
+  best : l.best ≡ fold (by_seat (with_offers l.fn.store.jobs.jobs l.fn.store.tubes.entries) l.seats) None (take l.i l.waiters);
+  same : l.store ≡ record l.fn.store { jobs = record l.fn.store.jobs { comparisons = l.store.jobs.comparisons } };
+  asks : Asks (sum_by (waited_at l.seats) (take l.i l.waiters)) l.fn.store.jobs l.store.jobs;
 }

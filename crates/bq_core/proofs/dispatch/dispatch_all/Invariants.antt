@@ -9,7 +9,8 @@ use Rattle.bq_core.proofs.dispatch.dispatch_all.Given as goal
 abbrev pub invariant-loop-id : goal.invariant-loop-id
 invariant-loop-id l = record {
   given : Gives DispatchTurn has_refused_share (machine_of l.fn.state) (machine_of l.state) l.fn.outs l.outs;
-  asks : Asks ((length l.outs.given - length l.fn.outs.given) * (waited (machine_of l.fn.state) + 9)) l.fn.state.jobs l.state.jobs;
+  asks : Asks ((length l.outs.given - length l.fn.outs.given) * (waited (machine_of l.fn.state) + 9))
+      l.fn.state.store.jobs l.state.store.jobs;
   room : HasRoom 0 (machine_of l.state) l.outs;
 }
 

@@ -15,7 +15,7 @@ returns-in-Tube-clause-next c =
     let st = c.args.state.now in
     let name = c.in-Tube.tube in
     c.offer_to.ensures.offer
-    ∙ rw (counted_there name st, offered_is st name) (only_if st.jobs.jobs (list_any (is_waiter name) st.seats.items) _)
+    ∙ rw (counted_there name st, offered_is st name) (only_if st.store.jobs.jobs (list_any (is_waiter name) st.seats.items) _)
     ∙ sym (tube_waits (machine_of st) name (rw c.in-Tube.is at st.sound.known.wanted_jobs))
 
 pub returns-in-Client-clause-next : goal.returns-in-Client-clause-next
@@ -24,5 +24,6 @@ returns-in-Client-clause-next c =
     let o = seat_with c.in-Client.seat st.seats.items in
     let known = rw c.in-Client.is at st.sound.known.wanted_jobs in
     c.best_of_client.ensures.best
-    ∙ ap (λ ss. fold (with_offers st.jobs.jobs st.tubes.entries) None (these (seat_with c.in-Client.seat ss))) c.as_slice.ensures.value
+    ∙ ap (λ ss. fold (with_offers st.store.jobs.jobs st.store.tubes.entries) None (these (seat_with c.in-Client.seat ss)))
+    c.as_slice.ensures.value
     ∙ next_offer st (these o) ∙ sym (client_waits (machine_of st) _ o st.sound.numbered refl known)

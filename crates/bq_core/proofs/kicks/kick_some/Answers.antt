@@ -15,7 +15,7 @@ loop-done-preserved c =
     let one = chosen _ _ _ _ _ _ st.sound.ids found.id in
     let made = ap (λ (x : Machine). x.jobs) c.change_job.ensures.after in
     let same = ap (λ (h : Fields). h.jobs.jobs) found.kept.same in
-    let kicks : KicksFirst c.args.list c.args.tube.now st.jobs.jobs c.change_job.new.state.jobs.jobs =
+    let kicks : KicksFirst c.args.list c.args.tube.now st.store.jobs.jobs c.change_job.new.state.store.jobs.jobs =
     rw (made, same, one.id_is) (kicks_first _ _ _ _ _ _ c.requires.out st.sound.ids one.first) in
     let few = one_fewer (is_listed c.args.list c.args.tube.now) kicked c.in-Some.id 1 st.next_id _ one.job
     st.sound.ids one.found one.passes_is (c.requires.out one.job) in
@@ -42,4 +42,4 @@ returns-clause-kicked c =
 pub returns-in_default-clause-count : goal.returns-in_default-clause-count
 returns-in_default-clause-count c =
     c.from.ensures ∙ all_counted c.args.list c.args.tube.now c.args.bound c.loop-done.done
-    c.args.state.now.jobs.jobs c.loop-done.state.jobs.jobs (omega arith) c.loop-done.invariant.count c.in_default.ensures.id
+    c.args.state.now.store.jobs.jobs c.loop-done.state.store.jobs.jobs (omega arith) c.loop-done.invariant.count c.in_default.ensures.id

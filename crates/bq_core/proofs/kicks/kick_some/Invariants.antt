@@ -15,5 +15,5 @@ invariant-loop-done l = record {
   others : machine_of l.state ≡ record (machine_of l.fn.state) { jobs = (machine_of l.state).jobs };
   fewer : count_by (is_listed l.list l.tube) (machine_of l.state).jobs + l.done
       ≤ count_by (is_listed l.list l.tube) (machine_of l.fn.state).jobs;
-  asks : Asks (9 * l.done) l.fn.state.jobs l.state.jobs;
+  asks : Asks (9 * l.done) l.fn.state.store.jobs l.state.store.jobs;
 }

@@ -9,7 +9,7 @@ abbrev pub invariant-loop-due : goal.invariant-loop-due
 invariant-loop-due l = record {
   left : after_job_timers (machine_of l.state) ≡ after_job_timers (machine_of l.fn.state);
   asks : Asks (10 * (count_jobs (has_due_timer l.fn.state.moment) l.fn.state - count_jobs (has_due_timer l.fn.state.moment) l.state))
-      l.fn.state.jobs l.state.jobs;
+      l.fn.state.store.jobs l.state.store.jobs;
   fewer : count_jobs (has_due_timer l.fn.state.moment) l.state ≤ count_jobs (has_due_timer l.fn.state.moment) l.fn.state;
 }
 

@@ -6,7 +6,7 @@ use Rattle.bq_core.proofs.timers.first_warning.Given as goal
 
 abbrev pub invariant-loop-i : goal.invariant-loop-i
 invariant-loop-i l = record {
-  best : l.best ≡ fold (at_waiter (with_warning_due l.fn.jobs.jobs) l.seats) None (take l.i l.waiters);
-  asks : Asks l.i l.fn.jobs l.jobs;
-  same : l.jobs ≡ record l.fn.jobs { comparisons = l.jobs.comparisons };
+  best : l.best ≡ fold (at_waiter (with_warning_due l.fn.store.jobs.jobs) l.seats) None (take l.i l.waiters);
+  asks : Asks l.i l.fn.store.jobs l.store.jobs;
+  same : l.store ≡ record l.fn.store { jobs = record l.fn.store.jobs { comparisons = l.store.jobs.comparisons } };
 }

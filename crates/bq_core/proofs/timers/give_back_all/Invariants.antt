@@ -9,7 +9,8 @@ use Rattle.bq_core.proofs.timers.give_back_all.Given as goal
 abbrev pub invariant-loop-id : goal.invariant-loop-id
 invariant-loop-id l = record {
   left : after_giving_back l.becomes l.seat (machine_of l.state) ≡ after_giving_back l.becomes l.seat (machine_of l.fn.state);
-  asks : Asks (9 * (count_jobs (is_held_by l.seat) l.fn.state - count_jobs (is_held_by l.seat) l.state)) l.fn.state.jobs l.state.jobs;
+  asks : Asks (9 * (count_jobs (is_held_by l.seat) l.fn.state - count_jobs (is_held_by l.seat) l.state))
+      l.fn.state.store.jobs l.state.store.jobs;
   fewer : count_jobs (is_held_by l.seat) l.state ≤ count_jobs (is_held_by l.seat) l.fn.state;
 }
 

@@ -11,7 +11,7 @@ invariant-loop-k l = record {
   given : Gives WaitEndTurn none_refused (machine_of l.fn.state) (machine_of l.state) l.fn.outs l.outs;
   looked : AreChecked (machine_of l.state) l.last;
   fewer : left_after l.last (machine_of l.state) ≤ waiting_count (machine_of l.fn.state);
-  asks : Asks (waiting_count (machine_of l.fn.state) - left_after l.last (machine_of l.state)) l.fn.state.jobs l.state.jobs;
+  asks : Asks (waiting_count (machine_of l.fn.state) - left_after l.last (machine_of l.state)) l.fn.state.store.jobs l.state.store.jobs;
   room : HasRoom 0 (machine_of l.state) l.outs;
 }
 

@@ -9,9 +9,9 @@ invariant_of-state c = grind (
   arith,
   common_steps,
   nothing_told_of,
-  none_passed (λ (j : Job). j.id == c.args.id) (changed c.args.what.now) c.args.state.now.jobs.jobs,
+  none_passed (λ (j : Job). j.id == c.args.id) (changed c.args.what.now) c.args.state.now.store.jobs.jobs,
 )
 
-pub invariant_of-state-2-clause-sound : goal.invariant_of-state-2-clause-sound
-invariant_of-state-2-clause-sound c =
+pub invariant_of-state-2 : goal.invariant_of-state-2
+invariant_of-state-2 c =
     grind (arith, sound_with_moved c.args.state.now c.args.id c.args.what.now c.in-Some.report.1 c.in-Some.ensures.ordered)

@@ -3,8 +3,8 @@ use Rattle.bq_state.proofs.{KnowledgeLemmas.so_with_pauses, PartsLemmas.entries_
 use Rattle.bq_state.proofs.PauseLemmas.{none_over}
 use Rattle.bq_state.proofs.changes.end_pauses.Goals as goal
 
-pub invariant_of-state-clause-sound : goal.invariant_of-state-clause-sound
-invariant_of-state-clause-sound c =
+pub invariant_of-state : goal.invariant_of-state
+invariant_of-state c =
     let st = c.args.state.now in
     let entries = entries_of_timers st in
     let known = so_with_pauses st in

@@ -13,8 +13,8 @@ returns-then-from-len-clause-after c s found =
       changed_there _ _ _ (watching (fewer_watched c.args.tube.now s)) c.args.state.now.sound.numbered there,
     )
 
-pub invariant_of-state-clause-sound : goal.invariant_of-state-clause-sound
-invariant_of-state-clause-sound c =
+pub invariant_of-state : goal.invariant_of-state
+invariant_of-state c =
     let st = c.args.state.now in
     let n = c.args.seat in
     let name = c.args.tube.now in

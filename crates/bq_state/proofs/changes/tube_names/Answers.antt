@@ -4,7 +4,7 @@ use Rattle.bq_state.proofs.changes.tube_names.Goals as goal
 
 pub returns-clause-names : goal.returns-clause-names
 returns-clause-names c =
-    grind (arith, alive_are_tubes (machine_of c.args.state.now) c.args.state.now.tubes.entries c.args.state.now.sound.entries)
+    grind (arith, alive_are_tubes (machine_of c.args.state.now) c.args.state.now.store.tubes.entries c.args.state.now.sound.entries)
 
 pub returns-clause-ordered : goal.returns-clause-ordered
 returns-clause-ordered c = grind (arith, tubes_in_order (machine_of c.args.state.now), returns-clause-names c)

@@ -30,8 +30,8 @@ returns-in-Ok-clause-wanted c s found rests =
     (rw c.in_ok-number.ensures.seats (seat_there _ _ _ c.args.state.now.sound.numbered found)) in
     rw (c.add_all_if.ensures, c.of_watcher-roles.ensures, ap is_waiting is ∙ rests) c.in_ok-number.ensures.wanted
 
-pub invariant_of-state-clause-sound : goal.invariant_of-state-clause-sound
-invariant_of-state-clause-sound c =
+pub invariant_of-state : goal.invariant_of-state
+invariant_of-state c =
     let mid = c.provide_tube.new.state in
     let p = c.in_ok-number.ensures in
     let n = c.args.seat in

@@ -8,7 +8,7 @@ invariant-loop-end l = record {
   records : records_ended l.moment l.kept.entries ≡ records_ended l.moment l.fn.kept.entries;
   tallies : map entry_tally l.kept.entries ≡ map entry_tally l.fn.kept.entries;
   crowds : map entry_crowd l.kept.entries ≡ map entry_crowd l.fn.kept.entries;
-  numbers : l.kept.numbers ≡ l.fn.kept.numbers;
+  tubes : l.kept.tubes ≡ l.fn.kept.tubes;
   ends : AreEnds l.kept l.ends;
 }
 

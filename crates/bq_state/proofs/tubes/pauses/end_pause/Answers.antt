@@ -5,11 +5,11 @@ use Rattle.bq_state.proofs.tubes.pauses.end_pause.Goals as goal
 
 pub returns-clause-records : goal.returns-clause-records
 returns-clause-records c = over_records _ _ _ _ _ _ c.requires.ends c.edit-ended.ensures.ordered c.tube_of-tube.ensures.told
-    c.requires.first c.tube_of-tube.ensures.number c.edit-ended.ensures.numbers (rw c.name.ensures at c.edit-ended.ensures.entries)
+    c.requires.first c.tube_of-tube.ensures.number c.edit-ended.ensures.tubes (rw c.name.ensures at c.edit-ended.ensures.entries)
 
 pub returns-clause-fewer : goal.returns-clause-fewer
 returns-clause-fewer c = over_fewer _ _ _ _ _ _ c.requires.ends c.edit-ended.ensures.ordered c.tube_of-tube.ensures.told
-    c.requires.first c.tube_of-tube.ensures.number c.edit-ended.ensures.numbers (rw c.name.ensures at c.edit-ended.ensures.entries)
+    c.requires.first c.tube_of-tube.ensures.number c.edit-ended.ensures.tubes (rw c.name.ensures at c.edit-ended.ensures.entries)
 
 pub returns-clause-tallies : goal.returns-clause-tallies
 returns-clause-tallies c = ap (map entry_tally) c.edit-ended.ensures.entries ∙ edit_same_tallies _ _ (λ t. refl) _
@@ -19,5 +19,5 @@ returns-clause-crowds c = ap (map entry_crowd) c.edit-ended.ensures.entries ∙ 
 
 pub returns-clause-ends : goal.returns-clause-ends
 returns-clause-ends c = over_ends _ _ _ _ _ _ c.requires.ends c.edit-ended.ensures.ordered c.tube_of-tube.ensures.told
-    c.requires.first c.tube_of-tube.ensures.number c.edit-ended.ensures.numbers (rw c.name.ensures at c.edit-ended.ensures.entries)
+    c.requires.first c.tube_of-tube.ensures.number c.edit-ended.ensures.tubes (rw c.name.ensures at c.edit-ended.ensures.entries)
     _ c.leave.ensures.entries c.requires.ordered c.leave.ensures.spare

@@ -7,8 +7,8 @@ pub enter-requires : goal.enter-requires
 enter-requires c =
     let from = c.end_of-from.ensures in
     let edit = c.edit-changed.ensures in
-    let moves = change_moves c.args.name.now c.args.what _ _ from.ordered edit.numbers edit.entries from.told in
-    let next = rw edit.numbers at c.end_of-to.ensures.end in
+    let moves = change_moves c.args.name.now c.args.what _ _ from.ordered edit.tubes edit.entries from.told in
+    let next = rw edit.tubes at c.end_of-to.ensures.end in
     record {
       spare = grind (arith, common_steps);
       absent = grind (arith, end_absent);
@@ -18,6 +18,6 @@ pub returns-clause-ends : goal.returns-clause-ends
 returns-clause-ends c =
     let from = c.end_of-from.ensures in
     let edit = c.edit-changed.ensures in
-    let moves = change_moves c.args.name.now c.args.what _ _ from.ordered edit.numbers edit.entries from.told in
-    let next = rw edit.numbers at c.end_of-to.ensures.end in
+    let moves = change_moves c.args.name.now c.args.what _ _ from.ordered edit.tubes edit.entries from.told in
+    let next = rw edit.tubes at c.end_of-to.ensures.end in
     search ends_moved

@@ -1,0 +1,20 @@
+use Rattle.std.proofs.{Common.arith, lemmas.Grind.common_steps}
+use Rattle.bq_jobs.proofs.NamedJobs.{named_more, registered_more}
+use Rattle.bq_state.{proofs.{EndMoves.ends_provided, NamedLemmas.new_part, TubeLemmas.provided_new}, specs.TubesSeen.record_at}
+use Rattle.bq_state.proofs.store.Store.provide.Goals as goal
+
+pub invariant_of-self-2 : goal.invariant_of-self-2
+invariant_of-self-2 c =
+    let registered = registered_more c.self.inside.table.tubes c.insert.new.self.tubes c.in_ok-number.ensures.paired c.self.inside.jobs.jobs
+    c.self.invariant.registered c.in_ok-number.ensures.extends in
+    grind (
+      arith,
+      common_steps,
+      registered,
+      new_part c.args.name.now record_at c.self.inside.table.entries,
+      provided_new,
+      ends_provided c.args.name.now,
+    )
+
+pub returns-clause-jobs : goal.returns-clause-jobs
+returns-clause-jobs c = grind (arith, named_more)
