@@ -1,13 +1,14 @@
 -- How the chain of the free numbers changes.
 use Rattle.std.proofs.lemmas.Grind.{common_steps}
-use Rattle.std.proofs.Common.{◌≡◌, ◌≤◌, ◌<◌, ℕ, suc, true, false, List, [], ◌∷◌, length, get_or, set}
-use Rattle.std.proofs.Common.{Option, Some, None, is_some, arith, refl, sym, ap, ◌∙◌, subst, inl, inr}
-use Rattle.std.specs.Prelude.{◌==◌, ◌++◌, IfOk, OnErr, OnOk, Result}
+use Rattle.std.proofs.Common.{◌≡◌, ◌≤◌, ◌<◌, ℕ, suc, zero, true, false, List, [], ◌∷◌, length, get_or, set}
+use Rattle.std.proofs.Common.{Option, Some, None, is_some, arith, map, refl, sym, ap, ◌∙◌, subst, inl, inr}
+use Rattle.std.specs.Prelude.{◌==◌, ◌++◌, IfOk, OnErr, OnOk, Result, option_map, slice_get}
+use Rattle.bq_jobs.specs.Table.{changed_at, put_value}
 use Rattle.std.proofs.lemmas.Bool.{cases_Bool, eq-eqb, eqb-true}
 use Rattle.std.proofs.lemmas.Bool.Decides.{nat_tests}
 use Rattle.std.proofs.lemmas.List.{get_or-set_other, get_or-set_same, length-map, map-set}
 use Rattle.bq_job.specs.declared.NoMemory.{NoMemory}
-use Rattle.bq_jobs.specs.FreeNumbers.{AreAllUsed, AreChained, AreFreeFrom, IsChain, SlotState, is_in, names_in, nexts_in}
+use Rattle.bq_jobs.specs.FreeNumbers.{AreAllUsed, AreChained, AreFreeFrom, IsChain, SlotState, is_in, names_in, nexts_in, values_in}
 use Rattle.bq_jobs.specs.Numbering.{IsGiven, Numbering, name_of, put_at}
 use Rattle.bq_jobs.proofs.NumberingLemmas.{length_put, put_is_set, put_other, put_same}
 
@@ -118,41 +119,72 @@ module _ (names : List (Option (List ℕ))) (nexts : List ℕ) (head : ℕ) (c :
       out : is_in m c.chain ≡ false
       out = grind (arith, member_free)
 
-pub names_many : (slots : List SlotState) → length (names_in slots) ≡ length slots
-names_many slots = length-map slots (λ (s : SlotState). s.name)
+module _ {V : Type 0} where
+  pub names_many : (slots : List (SlotState V)) → length (names_in slots) ≡ length slots
+  names_many slots = length-map slots (λ (s : SlotState V). s.name)
 
-pub nexts_many : (slots : List SlotState) → length (nexts_in slots) ≡ length slots
-nexts_many slots = length-map slots (λ (s : SlotState). s.next)
+  pub nexts_many : (slots : List (SlotState V)) → length (nexts_in slots) ≡ length slots
+  nexts_many slots = length-map slots (λ (s : SlotState V). s.next)
 
-pub names_pushed : (slots : List SlotState) (s : SlotState) → names_in (slots ++ s ∷ []) ≡ names_in slots ++ s.name ∷ []
-names_pushed [] s = refl
-names_pushed (t ∷ slots) s = ap (λ (ns : List (Option (List ℕ))). t.name ∷ ns) (names_pushed slots s)
+  pub names_pushed : (slots : List (SlotState V)) (s : SlotState V) → names_in (slots ++ s ∷ []) ≡ names_in slots ++ s.name ∷ []
+  names_pushed [] s = refl
+  names_pushed (t ∷ slots) s = ap (λ (ns : List (Option (List ℕ))). t.name ∷ ns) (names_pushed slots s)
 
--- A slot was replaced.
-module _ (slots : List SlotState) (n : ℕ) (s : SlotState) (within : n < length slots) where
-  pub names_changed : names_in (set slots n s) ≡ put_at (names_in slots) n s.name
-  names_changed = grind (arith, map-set, put_is_set, names_many)
+  -- A slot was replaced.
+  module _ (slots : List (SlotState V)) (n : ℕ) (s : SlotState V) (within : n < length slots) where
+    pub names_changed : names_in (set slots n s) ≡ put_at (names_in slots) n s.name
+    names_changed = grind (arith, map-set, put_is_set, names_many)
 
-  pub nexts_changed : nexts_in (set slots n s) ≡ set (nexts_in slots) n s.next
-  nexts_changed = map-set (λ (t : SlotState). t.next) slots n s
+    pub nexts_changed : nexts_in (set slots n s) ≡ set (nexts_in slots) n s.next
+    nexts_changed = map-set (λ (t : SlotState V). t.next) slots n s
 
--- the name in the slot of a number
-pub name_at : (slots : List SlotState) (n : ℕ) (s : SlotState) → n < length slots → s ≡ get_or slots n s
-    → get_or (names_in slots) n None ≡ s.name
-name_at slots n s within is = grind (arith, common_steps)
+  -- the name in the slot of a number
+  pub name_at : (slots : List (SlotState V)) (n : ℕ) (s : SlotState V) → n < length slots → s ≡ get_or slots n s
+      → get_or (names_in slots) n None ≡ s.name
+  name_at slots n s within is = grind (arith, common_steps)
 
--- A number that has a name has a slot.
-pub has_place : (k : Numbering) (slots : List SlotState) (n : ℕ) (name : List ℕ) → k.names ≡ names_in slots → name_of n k ≡ Some name
-    → n < length slots
-has_place k slots n name names own = grind (arith, common_steps)
+  -- A number that has a name has a slot.
+  pub has_place : (k : Numbering) (slots : List (SlotState V)) (n : ℕ) (name : List ℕ) → k.names ≡ names_in slots → name_of n k ≡ Some name
+      → n < length slots
+  has_place k slots n name names own = grind (arith, common_steps)
 
--- The same of slots, as their calls promise it.
-module _ (slots : List SlotState) (head : ℕ) (c : AreFreeFrom head slots) where
-  pub slots_used : (head < length slots → get_or (names_in slots) head None ≡ None → ⊥) → AreAllUsed (names_in slots)
-  slots_used used =
-      all_used (names_in slots) (nexts_in slots) head c (λ less free. used (omega (arith, less, names_many slots)) free)
+  -- The same of slots, as their calls promise it.
+  module _ (slots : List (SlotState V)) (head : ℕ) (c : AreFreeFrom head slots) where
+    pub slots_used : (head < length slots → get_or (names_in slots) head None ≡ None → ⊥) → AreAllUsed (names_in slots)
+    slots_used used =
+        all_used (names_in slots) (nexts_in slots) head c (λ less free. used (omega (arith, less, names_many slots)) free)
 
-  pub slot_added : (last : List SlotState) (name : List ℕ) (r : Result ℕ NoMemory) → AreAllUsed (names_in slots)
-      → IfOk r (λ n. IsGiven n name (names_in slots) (names_in last)) → IfOk r (λ n. n ≡ length slots)
-      → OnOk r (length last ≡ suc (length slots)) → OnErr r (last ≡ slots) → AreFreeFrom head last
-  slot_added last name r h3 h4 h5 h6 h7 = grind (arith, names_many, put_same, eqb-true, put_other, flip, nat_tests)
+    pub slot_added : (last : List (SlotState V)) (name : List ℕ) (r : Result ℕ NoMemory) → AreAllUsed (names_in slots)
+        → IfOk r (λ n. IsGiven n name (names_in slots) (names_in last)) → IfOk r (λ n. n ≡ length slots)
+        → OnOk r (length last ≡ suc (length slots)) → OnErr r (last ≡ slots) → AreFreeFrom head last
+    slot_added last name r h3 h4 h5 h6 h7 = grind (arith, names_many, put_same, eqb-true, put_other, flip, nat_tests)
+
+  pub values_changed : (slots : List (SlotState V)) (n : ℕ) (s : SlotState V) → n < length slots
+      → values_in (set slots n s) ≡ put_value (values_in slots) n s.value
+  values_changed [] n s within = absurd (omega (arith, within))
+  values_changed (t ∷ slots) zero s within = refl
+  values_changed (t ∷ slots) (suc n) s within = ap (λ vs. t.value ∷ vs) (values_changed slots n s (omega (arith, within)))
+
+  pub values_pushed : (slots : List (SlotState V)) (s : SlotState V)
+      → values_in (slots ++ s ∷ []) ≡ put_value (values_in slots) (length slots) s.value
+  values_pushed [] s = refl
+  values_pushed (t ∷ slots) s = ap (λ vs. t.value ∷ vs) (values_pushed slots s)
+
+  pub value_of_slot : (slots : List (SlotState V)) (n : ℕ) → slice_get (values_in slots) n ≡ option_map (λ s. s.value) (slice_get slots n)
+  value_of_slot [] n = refl
+  value_of_slot (s ∷ slots) zero = refl
+  value_of_slot (s ∷ slots) (suc n) = value_of_slot slots n
+
+  -- What is the same in a slot that was replaced is the same in the list,
+  pub slots_alike : {B : Type 0} (q : SlotState V → B) (slots : List (SlotState V)) (n : ℕ) (s t : SlotState V) → s ≡ get_or slots n s
+      → q t ≡ q s → map q (set slots n t) ≡ map q slots
+  slots_alike q [] n s t own same = refl
+  slots_alike q (u ∷ slots) zero s t own same = ap (λ b. b ∷ map q slots) (same ∙ ap q own)
+  slots_alike q (u ∷ slots) (suc n) s t own same = ap (λ bs. q u ∷ bs) (slots_alike q slots n s t own same)
+
+  -- and its value is changed there.
+  pub values_edited : (f : V → V) (slots : List (SlotState V)) (n : ℕ) (s t : SlotState V) → s ≡ get_or slots n s → t.value ≡ f s.value
+      → values_in (set slots n t) ≡ changed_at f n (values_in slots)
+  values_edited f [] n s t own is = refl
+  values_edited f (u ∷ slots) zero s t own is = ap (λ v. v ∷ values_in slots) (is ∙ ap (λ (r : SlotState V). f r.value) own)
+  values_edited f (u ∷ slots) (suc n) s t own is = ap (λ vs. u.value ∷ vs) (values_edited f slots n s t own is)

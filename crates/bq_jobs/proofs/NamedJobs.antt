@@ -22,7 +22,7 @@ use Rattle.bq_jobs.specs.Numbering.{AreNumbered, AreRegistered, Extends, HasNumb
 use Rattle.bq_jobs.specs.Numbering.{name_of, named, number_of}
 use Rattle.bq_jobs.specs.Names.{number_in}
 use Rattle.bq_jobs.specs.Searching.{FindsById}
-use Rattle.bq_jobs.specs.Told.{moved_told, removed_told, shared_told}
+use Rattle.bq_jobs.specs.Told.{IsNamedIf, moved_told, removed_told, shared_told}
 use Rattle.bq_jobs.specs.Seen.{IsBodyOf, IsTubeOf, but_for_tube}
 use Rattle.bq_jobs.specs.Sharing.{ChangesShared, SharesAndChanges}
 use Rattle.bq_jobs.specs.declared.numbered_jobs.JobMove.{JobMove}
@@ -304,6 +304,19 @@ module _ (k : Numbering) (id : ℕ) (f : Job → Job) (ignores : IgnoresTube f) 
   shares_named None c = let none : Option NumberedMove = None in finds_named k id rows new old none none is refl c
   shares_named (Some (Err e)) c = finds_named k id rows new old (Some e) (Some e) is refl c
   shares_named (Some (Ok s)) c = (named_report s.0 c.0, named_shared s.1 c.1)
+
+-- The number in a report has a name.
+pub moved_has_name : (k : Numbering) (f : Job → Job) (id : ℕ) (rows : List Job) → AreRegistered k rows
+    → IfSome (option_map (numbered_move f) (job_with id rows)) (λ m. is_some (name_of (number_in m.tube) k) ≡ true)
+moved_has_name k f id rows h = grind (arith, numbered_found k id rows h.numbered)
+
+pub shared_has_name : {E : Type 0} (k : Numbering) (f : Job → Job) (id : ℕ) (rows new : JobsSeen) (r : Option (Result (NumberedMove
+    × List ℕ) E))
+    → AreRegistered k rows.jobs → SharesAndChanges (λ m. Some m ≡ option_map (numbered_move f) (job_with id rows.jobs)) id f r rows new
+    → IsNamedIf k r
+shared_has_name k f id rows new None h c = tt
+shared_has_name k f id rows new (Some (Err e)) h c = tt
+shared_has_name k f id rows new (Some (Ok s)) h c = grind (arith, moved_has_name k f id rows.jobs h)
 
 -- what the search takes for an addition, a change and another reference to a body
 pub ruleset additions = (ids_named, none_named, row_registered, row_added)

@@ -1,6 +1,6 @@
 -- A value for each registered tube: what a look-up and a change of it are.
 use Rattle.std.proofs.lemmas.Grind.{common_steps}
-use Rattle.std.proofs.Common.{◌≡◌, ◌≤◌, ◌<◌, ℕ, zero, suc, Bool, true, false, cond, List, [], ◌∷◌, ◌++◌, length, get_or, set}
+use Rattle.std.proofs.Common.{◌≡◌, ◌≤◌, ◌<◌, ℕ, zero, suc, Bool, true, false, cond, List, [], ◌∷◌, length, get_or}
 use Rattle.std.proofs.Common.{Option, Some, None, arith, refl, sym, ap, ◌∙◌, inl, inr}
 use Rattle.std.specs.Prelude.{◌==◌, slice_get, option_and_then}
 use Rattle.std.specs.BTreeMap.{is_at, insert_entry}
@@ -16,7 +16,7 @@ use Rattle.std.proofs.lemmas.Bool.Decides.{nat_tests}
 use Rattle.bq_index.specs.Edited.{edited_at}
 use Rattle.bq_index.specs.Order.{InOrder}
 use Rattle.bq_jobs.specs.Numbering.{IsPaired, Numbering}
-use Rattle.bq_jobs.specs.Numbering.{name_of, put_at}
+use Rattle.bq_jobs.specs.Numbering.{name_of}
 use Rattle.bq_jobs.specs.Table.{changed_at, entries_at, put_value, with_value}
 use Rattle.bq_jobs.proofs.NumberingLemmas.{some_is, tie_names, tied_names}
 
@@ -143,17 +143,6 @@ module _ {V : Type 0} where
   changed_other f (v ∷ vs) (suc n) zero e = refl
   changed_other f (v ∷ vs) (suc n) (suc m) e = changed_other f vs n m (lower n m e)
 
-  pub changed_length : (f : V → V) (vs : List V) (n : ℕ) → length (changed_at f n vs) ≡ length vs
-  changed_length f [] n = refl
-  changed_length f (v ∷ vs) zero = refl
-  changed_length f (v ∷ vs) (suc n) = ap suc (changed_length f vs n)
-
-  -- a value that is read and written back is changed
-  pub changed_by : (f : V → V) (vs : List V) (n : ℕ) (v : V) → n < length vs → v ≡ get_or vs n v → set vs n (f v) ≡ changed_at f n vs
-  changed_by f [] n v less its = absurd (omega (arith, less))
-  changed_by f (w ∷ vs) zero v less its = ap (λ u. f u ∷ vs) its
-  changed_by f (w ∷ vs) (suc n) v less its = ap (λ us. w ∷ us) (changed_by f vs n v (omega (arith, less)) its)
-
   -- a value that is put, and the others
   put_here : (vs : List V) (n : ℕ) (w : V) → n ≤ length vs → slice_get (put_value vs n w) n ≡ Some w
   put_here [] zero w near = refl
@@ -169,25 +158,6 @@ module _ {V : Type 0} where
   put_others (v ∷ vs) zero w near (suc m) e = refl
   put_others (v ∷ vs) (suc n) w near zero e = refl
   put_others (v ∷ vs) (suc n) w near (suc m) e = put_others vs n w (omega (arith, near)) m (lower n m e)
-
-  pub put_is_set_value : (vs : List V) (n : ℕ) (w : V) → n < length vs → set vs n w ≡ put_value vs n w
-  put_is_set_value [] n w less = absurd (omega (arith, less))
-  put_is_set_value (v ∷ vs) zero w less = refl
-  put_is_set_value (v ∷ vs) (suc n) w less = ap (λ us. v ∷ us) (put_is_set_value vs n w (omega (arith, less)))
-
-  pub put_is_push : (vs : List V) (w : V) → vs ++ w ∷ [] ≡ put_value vs (length vs) w
-  put_is_push [] w = refl
-  put_is_push (v ∷ vs) w = ap (λ us. v ∷ us) (put_is_push vs w)
-
-  -- as many values as slots
-  pub put_as_many : (vs : List V) (w : V) (names : List (Option (List ℕ))) (x : Option (List ℕ)) (n : ℕ) → length vs ≡ length names
-      → n ≤ length names → length (put_value vs n w) ≡ length (put_at names n x)
-  put_as_many [] w [] x zero many near = refl
-  put_as_many [] w [] x (suc n) many near = absurd (omega (arith, near))
-  put_as_many [] w (y ∷ names) x n many near = absurd (omega (arith, many))
-  put_as_many (v ∷ vs) w [] x n many near = absurd (omega (arith, many))
-  put_as_many (v ∷ vs) w (y ∷ names) x zero many near = many
-  put_as_many (v ∷ vs) w (y ∷ names) x (suc n) many near = ap suc (put_as_many vs w names x n (omega (arith, many)) (omega (arith, near)))
 
   module _ (test : List ℕ → Bool) (f : V → V) (vs : List V) where
     edit_set : (ps : List (List ℕ × ℕ)) (n : ℕ) (v : V) → AreValued (length vs) ps → AreApart ps → lookup test ps ≡ Some n

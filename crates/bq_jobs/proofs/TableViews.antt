@@ -1,5 +1,5 @@
 -- What a contract sees of a table, from the lists that it is made of.
-use Rattle.std.proofs.Common.{◌≡◌, ◌≤◌, ◌<◌, ℕ, cond, List, length}
+use Rattle.std.proofs.Common.{◌≡◌, ◌<◌, ℕ, cond, List, length}
 use Rattle.std.proofs.Common.{Option, Some, None, arith, refl, sym, ap, ◌∙◌, subst, inl, inr}
 use Rattle.std.specs.Prelude.{slice_get, option_and_then}
 use Rattle.std.specs.BTreeMap.{is_at, insert_entry}
@@ -11,14 +11,15 @@ use Rattle.std.specs.Ordering.{is_eq, nat_cmp}
 use Rattle.std.proofs.lemmas.Bool.{cases_Bool}
 use Rattle.std.proofs.lemmas.List.{length-map}
 use Rattle.bq_index.specs.Order.{InOrder}
+use Rattle.bq_jobs.specs.FreeNumbers.{SlotState, names_in, values_in}
 use Rattle.bq_jobs.specs.Names.{number_in}
 use Rattle.bq_jobs.specs.Numbering.{Extends, IsPaired, Numbering}
-use Rattle.bq_jobs.specs.Numbering.{number_of, put_at, without_known}
-use Rattle.bq_jobs.specs.Table.{Tabled, entries_at, put_value}
+use Rattle.bq_jobs.specs.Numbering.{number_of}
+use Rattle.bq_jobs.specs.Table.{Tabled, entries_at, numbering_of, table_seen}
 use Rattle.bq_jobs.proofs.Choice.{lookup_inserted}
-use Rattle.bq_jobs.proofs.NumberingLemmas.{has_slot, names_many, tied_names}
+use Rattle.bq_jobs.proofs.NumberingLemmas.{has_slot, tied_names}
 use Rattle.bq_jobs.proofs.TableLemmas.{AreValued, are_valued, same_keys}
-use Rattle.bq_jobs.proofs.TableLemmas.{has_value, looked_up, put_as_many}
+use Rattle.bq_jobs.proofs.TableLemmas.{has_value, looked_up}
 
 -- each tube keeps its number when another one is added
 pub extends_by : (old new : List (List ℕ × ℕ)) (name : List ℕ) (n : ℕ) → lookup (is_at (slice_cmp nat_cmp name)) old ≡ None
@@ -30,55 +31,61 @@ extends_by old new name n absent is = λ q m own.
       | inr t ↦ ap (λ b. cond b (Some n) (lookup (is_at (slice_cmp nat_cmp q)) old)) t ∙ own
     ]
 
--- what a contract sees of a table
-abbrev pub table_of : {V : Type 0} → Numbering → List V → Tabled V
-table_of k vs = record { entries = entries_at k.numbers vs; tubes = k }
+-- there are as many values as names
+pub as_many : {V : Type 0} (slots : List (SlotState V)) → length (values_in slots) ≡ length (names_in slots)
+as_many slots = grind (arith, length-map)
 
-module _ {V : Type 0} (k : Numbering) (vs : List V) (h : IsPaired k × (length vs ≡ length k.names)) where
-  pub valued : AreValued (length vs) k.numbers
-  valued = subst (λ m. AreValued m k.numbers) (sym h.1) (are_valued k h.0)
+-- what a contract sees of a table, from the numbers of the names and the slots of the numbers
+module _ {V : Type 0} (numbers : List (List ℕ × ℕ)) (slots : List (SlotState V)) (h : IsPaired (numbering_of numbers slots)) where
+  abbrev k : Numbering
+  k = numbering_of numbers slots
 
-  pub look : (q : List ℕ) → lookup (is_at (slice_cmp nat_cmp q)) (entries_at k.numbers vs) ≡ option_and_then (slice_get vs) (number_of q k)
-  look q = looked_up (is_at (slice_cmp nat_cmp q)) vs k.numbers valued
+  abbrev vs : List V
+  vs = values_in slots
 
-  order : InOrder (slice_cmp nat_cmp) (entries_at k.numbers vs)
-  order = subst (IsStrictlySortedBy (slice_cmp nat_cmp)) (sym (same_keys vs k.numbers valued)) h.0.by_name
+  many : length vs ≡ length k.names
+  many = as_many slots
+
+  pub valued : AreValued (length vs) numbers
+  valued = subst (λ m. AreValued m numbers) (sym many) (are_valued k h)
+
+  pub look : (q : List ℕ) → lookup (is_at (slice_cmp nat_cmp q)) (entries_at numbers vs) ≡ option_and_then (slice_get vs) (number_of q k)
+  look q = looked_up (is_at (slice_cmp nat_cmp q)) vs numbers valued
+
+  order : InOrder (slice_cmp nat_cmp) (entries_at numbers vs)
+  order = subst (IsStrictlySortedBy (slice_cmp nat_cmp)) (sym (same_keys vs numbers valued)) h.by_name
 
   slot_of : (q : List ℕ) (n : ℕ) → number_of q k ≡ Some n → n < length vs
-  slot_of q n own = let l = has_slot k n q (h.0.there q n own) in omega (arith, l, h.1)
+  slot_of q n own = let l = has_slot k n q (h.there q n own) in omega (arith, l, many)
 
   pub absent_by : (q : List ℕ) (o : Option ℕ) → number_of q k ≡ o → option_and_then (slice_get vs) o ≡ None → o ≡ None
   absent_by q None own none = refl
   absent_by q (Some n) own none = absurd (let its = has_value vs n (slot_of q n own) in let e = sym none ∙ its.1 in cc)
 
-  module _ (t : Tabled V) (is : table_of k vs ≡ t) where
+  module _ (t : Tabled V) (is : table_seen numbers slots ≡ t) where
     pub table_keys : keys_of t.entries ≡ keys_of t.tubes.numbers
-    table_keys = subst (λ (s : Tabled V). keys_of s.entries ≡ keys_of s.tubes.numbers) is (same_keys vs k.numbers valued)
+    table_keys = subst (λ (s : Tabled V). keys_of s.entries ≡ keys_of s.tubes.numbers) is (same_keys vs numbers valued)
 
     pub table_order : InOrder (slice_cmp nat_cmp) t.entries
     table_order = subst (λ (s : Tabled V). InOrder (slice_cmp nat_cmp) s.entries) is order
 
-    pub table_length : length k.numbers ≡ length t.entries
+    pub table_length : length numbers ≡ length t.entries
     table_length = grind (arith, length-map, same_keys, valued)
 
     -- the number of a tube, as a search reports it
-    module _ (q : List ℕ) (o : Option (List ℕ)) (found : option_map number_in o ≡ number_of q k) where
+    module _ (q : List ℕ) (o : Option (List ℕ)) (found : option_map number_in o ≡ number_of q t.tubes) where
+      found_in : option_map number_in o ≡ number_of q k
+      found_in = found ∙ ap (λ (s : Tabled V). number_of q s.tubes) (sym is)
+
       pub not_there : o ≡ None → lookup (is_at (slice_cmp nat_cmp q)) t.entries ≡ None
-      not_there none = grind (arith, look)
+      not_there none = grind (arith, look, found_in)
 
       pub value_there : (n : List ℕ) → o ≡ Some n → lookup (is_at (slice_cmp nat_cmp q)) t.entries ≡ slice_get vs (number_in n)
-      value_there n some = grind (arith, look)
+      value_there n some = grind (arith, look, found_in)
 
-      pub slot_there : (n : List ℕ) → o ≡ Some n → number_in n < length vs
-      slot_there n some = slot_of q (number_in n) (sym found ∙ ap (option_map number_in) some)
+      pub slot_there : (n : List ℕ) → o ≡ Some n → number_in n < length slots
+      slot_there n some = let within = slot_of q (number_in n) (sym found_in ∙ ap (option_map number_in) some) in grind (arith, length-map)
 
     pub table_extends : (new : List (List ℕ × ℕ)) (name : List ℕ) (n : ℕ) → lookup (is_at (slice_cmp nat_cmp name)) t.entries ≡ None
-        → new ≡ insert_entry (slice_cmp nat_cmp) k.numbers name n → Extends t.tubes.numbers new
+        → new ≡ insert_entry (slice_cmp nat_cmp) numbers name n → Extends t.tubes.numbers new
     table_extends new name n absent numbers = grind (arith, extends_by, absent_by, look)
-
-  pub many_inserted : (new : Numbering) (name : List ℕ) (n : ℕ) (w : V) → n ≤ length k.names
-      → new.names ≡ put_at k.names n (Some name) → length (put_value vs n w) ≡ length new.names
-  many_inserted new name n w near names = put_as_many vs w k.names (Some name) n h.1 near ∙ sym (ap length names)
-
-  pub many_removed : (name : List ℕ) (new : Numbering) → new ≡ without_known name k → length vs ≡ length new.names
-  many_removed name new after = h.1 ∙ sym (names_many k h.0 name) ∙ sym (ap (λ (m : Numbering). length m.names) after)

@@ -1,9 +1,11 @@
 -- What a walk over the tubes of a table shows, from a walk over the tubes and their numbers.
 use Rattle.std.proofs.Common.{◌≡◌, ℕ, arith, Bool, List, [], ◌∷◌, fold, refl}
 use Rattle.std.specs.Prelude.{filter, find, slice_get, option_and_then}
+use Rattle.std.specs.Cmp.Lexicographic.{slice_cmp}
 use Rattle.std.specs.Map.{keys_of}
+use Rattle.std.specs.Ordering.{nat_cmp}
 use Rattle.std.proofs.lemmas.Grind.{common_steps}
-use Rattle.bq_index.specs.Walk.{passes_by, seen_by}
+use Rattle.bq_index.specs.Walk.{passes_by, passes_from, seen_by}
 use Rattle.bq_jobs.specs.Table.{entries_at, passes_if, valued_in, visited}
 
 module _ {V : Type 0} (vs : List V) where
@@ -15,6 +17,14 @@ module _ {V : Type 0} (vs : List V) where
   find_valued number value same (p ∷ ps) = grind (arith, find_valued number value same ps)
 
   module _ (passed : List ℕ → V → Bool) where
+    -- the first from a name on
+    pub from_valued : (from : List ℕ) (ps : List (List ℕ × ℕ))
+        → option_and_then (valued_in vs)
+        (find (passes_from (slice_cmp nat_cmp from) (λ name n. passes_if (passed name) (slice_get vs n))) ps)
+        ≡ find (passes_from (slice_cmp nat_cmp from) passed) (entries_at ps vs)
+    from_valued from ps = find_valued (passes_from (slice_cmp nat_cmp from) (λ name n. passes_if (passed name) (slice_get vs n)))
+        (passes_from (slice_cmp nat_cmp from) passed) (λ p. grind (arith, common_steps)) ps
+
     pub first_valued : (ps : List (List ℕ × ℕ))
         → option_and_then (valued_in vs) (find (passes_by (λ name n. passes_if (passed name) (slice_get vs n))) ps)
         ≡ find (passes_by passed) (entries_at ps vs)

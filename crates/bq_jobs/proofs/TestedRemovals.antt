@@ -9,7 +9,8 @@ use Rattle.bq_job.specs.declared.job.Job.{Job}
 use Rattle.bq_job.specs.machine.Changes.{job_with}
 use Rattle.bq_jobs.specs.Changed.{AsksNoTube, entry_at, removed_from, numbered_removal}
 use Rattle.bq_jobs.specs.JobsSeen.{JobsSeen, without}
-use Rattle.bq_jobs.specs.Numbering.{AreRegistered, HasNumber, IsNumbered, Numbering, named, seen_named}
+use Rattle.bq_jobs.specs.Numbering.{AreRegistered, HasNumber, IsNumbered, Numbering, name_of, named, seen_named}
+use Rattle.bq_jobs.specs.Names.{number_in}
 use Rattle.bq_jobs.specs.Room.{RemovesIf}
 use Rattle.bq_jobs.specs.Told.{removed_told}
 use Rattle.bq_jobs.specs.declared.numbered_jobs.NumberedJobs.TheInside.{Inside as Parts}
@@ -64,6 +65,11 @@ module _ (k : Numbering) (id : ℕ) (rows : List Job) (p : Job → Bool) where
   number_removed_if h =
       number_removed k h.paired (passing p (job_with id rows)) (passing_numbered k p (job_with id rows)
       (numbered_found k id rows h.numbered))
+
+-- the number in a report has a name
+pub removed_has_name : (k : Numbering) (p : Job → Bool) (id : ℕ) (rows : List Job) → AreRegistered k rows
+    → IfSome (option_map numbered_removal (passing p (job_with id rows))) (λ r. is_some (name_of (number_in r.0) k) ≡ true)
+removed_has_name k p id rows h = grind (arith, passing_numbered k p (job_with id rows) (numbered_found k id rows h.numbered))
 
 pub registered_if : (k : Numbering) (id : ℕ) (rows : List Job) (b : Bool) → AreRegistered k rows
     → AreRegistered k (if b then without id rows else rows)

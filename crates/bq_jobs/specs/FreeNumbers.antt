@@ -2,16 +2,21 @@
 use Rattle.std.specs.Prelude.{ℕ, ◌≡◌, ◌<◌, ◌==◌, Bool, true, false, if◌then◌else◌, List, [], ◌∷◌, Option, None}
 use Rattle.std.specs.Prelude.{get_or, is_some, length, map}
 
--- the place of a number: the name of its tube, if the number is in use, and another number
-pub record SlotState : Type 0 where
+-- the place of a number: the name of its tube, if the number is in use; another number; and the tube's value
+pub record SlotState (V : Type 0) : Type 0 where
   pub name : Option (List ℕ)
   pub next : ℕ
+  pub value : V
 
-abbrev pub names_in : List SlotState → List (Option (List ℕ))
-names_in slots = map (λ (s : SlotState). s.name) slots
+module _ {V : Type 0} where
+  abbrev pub names_in : List (SlotState V) → List (Option (List ℕ))
+  names_in slots = map (λ (s : SlotState V). s.name) slots
 
-abbrev pub nexts_in : List SlotState → List ℕ
-nexts_in slots = map (λ (s : SlotState). s.next) slots
+  abbrev pub nexts_in : List (SlotState V) → List ℕ
+  nexts_in slots = map (λ (s : SlotState V). s.next) slots
+
+  abbrev pub values_in : List (SlotState V) → List V
+  values_in slots = map (λ (s : SlotState V). s.value) slots
 
 abbrev pub is_in : ℕ → List ℕ → Bool
 is_in n [] = false
@@ -30,7 +35,7 @@ pub record AreChained (names : List (Option (List ℕ))) (nexts : List ℕ) (hea
   pub whole : (n : ℕ) → n < length names → get_or names n None ≡ None → is_in n chain ≡ true
 
 -- the same of slots
-abbrev pub AreFreeFrom : ℕ → List SlotState → Type 0
+abbrev pub AreFreeFrom : {V : Type 0} → ℕ → List (SlotState V) → Type 0
 AreFreeFrom head slots = AreChained (names_in slots) (nexts_in slots) head
 
 -- No number is free.

@@ -1,6 +1,7 @@
 -- A value for each registered tube.
 use Rattle.std.specs.Option.{option_map}
 use Rattle.std.specs.Prelude.{ℕ, zero, suc, Bool, false, List, [], ◌∷◌, Option, None, Some, slice_get}
+use Rattle.bq_jobs.specs.FreeNumbers.{SlotState, names_in, values_in}
 use Rattle.bq_jobs.specs.Numbering.{Numbering}
 
 -- the values in the order of the names of their tubes, and the numbers of the tubes
@@ -44,3 +45,10 @@ module _ {V : Type 0} where
   -- a tube with the value at its number
   abbrev pub valued_in : List V → List ℕ × ℕ → Option (List ℕ × V)
   valued_in vs p = option_map (λ v. (p.0, v)) (slice_get vs p.1)
+
+  -- what a contract sees of a table, from the numbers of the names and the slots of the numbers
+  abbrev pub numbering_of : List (List ℕ × ℕ) → List (SlotState V) → Numbering
+  numbering_of numbers slots = record { numbers = numbers; names = names_in slots }
+
+  abbrev pub table_seen : List (List ℕ × ℕ) → List (SlotState V) → Tabled V
+  table_seen numbers slots = record { entries = entries_at numbers (values_in slots); tubes = numbering_of numbers slots }

@@ -1,5 +1,5 @@
 -- A record with the name of its tube.
-use Rattle.std.specs.Prelude.{List, [], unwrap_or, ℕ, Option, Some, None, Result, Ok, Err}
+use Rattle.std.specs.Prelude.{◌≡◌, List, [], is_some, true, unwrap_or, ℕ, Option, Some, None, Result, Ok, Err}
 use Rattle.bq_jobs.specs.declared.numbered_jobs.JobMove.{JobMove}
 use Rattle.bq_jobs.specs.declared.numbered_jobs.NumberedMove.{NumberedMove}
 use Rattle.bq_jobs.specs.declared.numbered_jobs.JobRemoval.{JobRemoval}
@@ -21,3 +21,8 @@ abbrev pub shared_told : {E : Type 0} → Numbering → Option (Result (Numbered
 shared_told k None = None
 shared_told k (Some (Err e)) = Some (Err e)
 shared_told k (Some (Ok s)) = Some (Ok (moved_told k s.0, s.1))
+
+-- The number in the report about a change that was made has a name.
+abbrev pub IsNamedIf : {E : Type 0} → Numbering → Option (Result (NumberedMove × List ℕ) E) → Type 0
+IsNamedIf k (Some (Ok s)) = is_some (name_of (number_in s.0.tube) k) ≡ true
+IsNamedIf k _ = Unit {0}

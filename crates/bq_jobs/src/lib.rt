@@ -28,7 +28,7 @@ pub use numbered_jobs::{
 pub use places::{Group, JobList, Timer};
 pub use table::TubeTable;
 pub use tube::Tube;
-pub use tubes::{NumberedTubes, TubeNumber};
+pub use tube_number::TubeNumber;
 
 mod ghost_name;
 mod groups;
@@ -37,7 +37,8 @@ mod named_group;
 mod named_jobs;
 mod numbered_jobs;
 mod places;
+mod slots;
 mod table;
 mod timers;
 mod tube;
-mod tubes;
+mod tube_number;

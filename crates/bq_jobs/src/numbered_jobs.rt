@@ -24,7 +24,7 @@ use super::ghost_name::GhostName;
 use super::groups::Groups;
 use super::places::{self, Group, Timer};
 use super::timers::Timers;
-use super::tubes::TubeNumber;
+use super::tube_number::TubeNumber;
 use bq_index::{BoxSource, Edit, Shelf, Test, TryEdit};
 use bq_job::{Body, Counts, Job, JobId, JobState, Moment, NoMemory, NumberedBody, Pri, Seat};
 use std::alloc::Global;

@@ -1,7 +1,6 @@
 //! The places of jobs in their orders, and the shelves that keep these places.
 ghost use Rattle.std.specs.Cmp as Cmp;
 ghost use Rattle.bq_jobs.specs.Groups.{group_at, group_cmp, group_number, group_total, list_number};
-ghost use Rattle.bq_jobs.specs.Names.{number_in};
 ghost use Rattle.std.proofs.Common.{refl};
 ghost use Rattle.std.specs.Ordering.{as_partial_cmp, eq_by_cmp, is_gt, is_lt};
 ghost use Rattle.std.specs.Prelude.{◌≡◌, ◌+◌, ◌<◌, ◌≤◌, length, is_some, if◌then◌else◌, IsSome, OnOk, None};
@@ -11,7 +10,7 @@ ghost use Rattle.bq_jobs.specs.PlaceOrder.{first_rank, holds_place, with_place, 
 ghost use Rattle.std.specs.Option.{ForSome};
 
 use super::numbered_jobs::{PackedJob, PriAndState};
-use super::tubes::TubeNumber;
+use super::tube_number::TubeNumber;
 use bq_index::{BoxSource, Parted, Shelf};
 use bq_job::{JobId, JobState, NoMemory, Seat};
 use std::cmp::Ordering;

@@ -1,91 +1,63 @@
-//! A value for each registered tube.
-ghost use Rattle.std.specs.Prelude.{◌≡◌, ◌≤◌, ◌<◌, ◌^◌, [], None, Some, filter, find, fold, length, map, option_and_then, slice_get};
-ghost use Rattle.std.specs.Prelude.{IfOk, OnErr, OnOk, vec_len};
+//! The registered tubes, with a number and a value for each.
+ghost use Rattle.std.specs.Prelude.{◌≡◌, ◌<◌, ◌∷◌, ◌^◌, [], None, Some, filter, find, fold, length, map, option_and_then, slice_get};
+ghost use Rattle.std.specs.Prelude.{IfOk, IfSome, OnErr, OnOk};
 ghost use Rattle.std.specs.BTreeMap.{is_at, insert_entry};
 ghost use Rattle.std.specs.Cmp.Lexicographic.{slice_cmp};
 ghost use Rattle.std.specs.Map.{keys_of, lookup, remove_entry};
 ghost use Rattle.std.specs.Option.{option_map};
 ghost use Rattle.std.specs.Ordering.{nat_cmp};
-ghost use Rattle.std.specs.Vec.{vec_capacity};
 ghost use Rattle.bq_index.specs.Edited.{edited_at};
 ghost use Rattle.bq_index.specs.Order.{InOrder};
 ghost use Rattle.bq_index.specs.Walk.{entry_of, passes_by, passes_from, seen_by};
+ghost use Rattle.bq_jobs.specs.FreeNumbers.{AreAllUsed, values_in};
 ghost use Rattle.bq_jobs.specs.Names.{number_in};
-ghost use Rattle.bq_jobs.specs.Numbering.{Extends, HasNumber, IsPaired};
-ghost use Rattle.bq_jobs.specs.Table.{changed_at, passes_if, put_value, valued_in, visited};
+ghost use Rattle.bq_jobs.specs.Numbering.{Extends, HasNumber, IsPaired, name_of, number_of, put_at};
+ghost use Rattle.bq_jobs.specs.Table.{passes_if, valued_in, visited};
 
 use crate::ghost_name::GhostName;
-use crate::tubes::{NumberedTubes, TubeNumber};
-use bq_index::{Edit, Test, Visitor};
+use crate::slots::{self, Slot};
+use crate::tube_number::TubeNumber;
+use bq_index::{Catalog, Edit, Test, Visitor};
 use bq_job::{NoMemory, TubeName};
 use std::alloc::Global;
 use std::marker::Model;
 
-/// A value for each registered tube, found by the name of the tube or by its number. Code that
-/// knows the number of a tube reads and changes its value without a search.
+/// The registered tubes, each found by its name and by its number, and each with a value. Code that
+/// knows the number of a tube reads and changes its value without a search. The numbers are dense:
+/// one that was used before is used again before a new one. A tube keeps its number as long as it
+/// is registered.
 #[derive(Drop)]
 pub struct TubeTable<V: Drop> {
-    tubes: NumberedTubes,
-    // The value of the tube with each number. At a free number it is what the last tube left, and
-    // means nothing.
-    values: Vec<V, Global>,
+    numbers: Catalog<TubeName, u32>,
+    slots: Vec<Slot<V>, Global>,
+    // The number that was freed last and is still free. The slots of the free numbers form a chain,
+    // which begins here. If no number is free, it is that of a slot in use, or of none.
+    free: u32,
 }
 
 impl<V: Drop> Model for TubeTable<V> {
-    ghost use Rattle.std.specs.Prelude.{◌≡◌, length};
+    ghost use Rattle.bq_jobs.specs.FreeNumbers.{AreFreeFrom};
     ghost use Rattle.bq_jobs.specs.Numbering.{IsPaired};
-    ghost use Rattle.bq_jobs.specs.Table.{Tabled, entries_at};
+    ghost use Rattle.bq_jobs.specs.Table.{Tabled, numbering_of, table_seen};
 
     ghost Value = { Tabled V };
 
-    ghost view = { λ t. record { entries = entries_at t.tubes.numbers t.values.items; tubes = t.tubes } };
+    ghost view = { λ t. table_seen t.numbers.entries t.slots.items };
 
-    ghost invariant = { λ t. IsPaired t.tubes × (length t.values.items ≡ length t.tubes.names) };
-}
-
-// Returns the value at a number, if there is one.
-fn value_at<V: Drop>(values: &[V], number: u32) -> Option<&V>
-    ensures { option_map (λ v. v.now) result ≡ slice_get values.now number }
-{
-    values.get(number as usize)
-}
-
-// Changes the value at a number in place. Returns what the change returns.
-#[tactic(auto, using(crate::proofs::TableLemmas::changed_by))]
-fn edit_at<V: Drop, T: Drop, E: Edit<V, T>>(values: &mut Vec<V, Global>, number: u32, edit: &E) -> T
-    requires { number < length values.old.items }
-    ensures told { Some result ≡ option_map (E.told edit.now) (slice_get values.old.items number) }
-    ensures items { values.new.items ≡ changed_at (E.edited edit.now) number values.old.items }
-{
-    edit.edit(&mut values[number as usize])
-}
-
-// Replaces the value at a number, or appends it if the number is the next one.
-#[tactic(auto, using(crate::proofs::TableLemmas::put_is_set_value, crate::proofs::TableLemmas::put_is_push))]
-fn put<V: Drop>(values: &mut Vec<V, Global>, number: u32, value: V)
-    requires room { vec_len values.old < vec_capacity values.old }
-    requires near { number ≤ length values.old.items }
-    ensures { values.new.items ≡ put_value values.old.items number value }
-{
-    let place = number as usize;
-    if place < values.len() {
-        values[place] = value;
-    } else {
-        values.push_reserved(value);
-    }
+    ghost invariant = { λ t. IsPaired (numbering_of t.numbers.entries t.slots.items) × AreFreeFrom t.free t.slots.items };
 }
 
 // A visitor of tubes and their numbers. It shows each tube and its value to another visitor.
-struct Shown<'v, V, T> {
-    values: &'v [V],
+struct Shown<'v, V: Drop, T> {
+    slots: &'v [Slot<V>],
     visitor: T,
 }
 
 impl<'v, V: Drop, T: Visitor<TubeName, V>> Visitor<TubeName, u32> for Shown<'v, V, T> {
-    ghost after = { λ s name n. record s { visitor = visited T.after s.visitor name (slice_get s.values.now n) } };
+    ghost after = { λ s name n. record s { visitor = visited T.after s.visitor name (slice_get (values_in s.slots.now) n) } };
 
     fn visit(&mut self, name: &TubeName, number: &u32) {
-        match value_at(self.values, *number) {
+        match slots::value_at(self.slots, *number) {
             None => {}
             Some(value) => self.visitor.visit(name, value),
         }
@@ -94,16 +66,16 @@ impl<'v, V: Drop, T: Visitor<TubeName, V>> Visitor<TubeName, u32> for Shown<'v, 
 
 // A test of tubes and their numbers: a tube passes if its value passes another test.
 #[derive(Drop)]
-struct Passing<'v, 't, V, T> {
-    values: &'v [V],
+struct Passing<'v, 't, V: Drop, T> {
+    slots: &'v [Slot<V>],
     test: &'t T,
 }
 
 impl<'v, 't, V: Drop, T: Test<TubeName, V>> Test<TubeName, u32> for Passing<'v, 't, V, T> {
-    ghost passed = { λ p name n. passes_if (T.passed p.test.now name) (slice_get p.values.now n) };
+    ghost passed = { λ p name n. passes_if (T.passed p.test.now name) (slice_get (values_in p.slots.now) n) };
 
     fn passes(&self, name: &TubeName, number: &u32) -> bool {
-        match value_at(self.values, *number) {
+        match slots::value_at(self.slots, *number) {
             None => false,
             Some(value) => self.test.passes(name, value),
         }
@@ -112,14 +84,14 @@ impl<'v, 't, V: Drop, T: Test<TubeName, V>> Test<TubeName, u32> for Passing<'v, 
 
 // Returns a tube with the value at its number.
 fn valued<'a, V: Drop>(
-    values: &'a [V],
+    slots: &'a [Slot<V>],
     found: Option<(&'a TubeName, &'a u32)>,
 ) -> Option<(&'a TubeName, &'a V)>
     ensures { option_map entry_of result
-        ≡ option_and_then (valued_in values.now) (option_map entry_of found.entry) }
+        ≡ option_and_then (valued_in (values_in slots.now)) (option_map entry_of found.entry) }
 {
     let (name, number) = found?;
-    match value_at(values, *number) {
+    match slots::value_at(slots, *number) {
         None => None,
         Some(value) => Some((name, value)),
     }
@@ -153,8 +125,9 @@ impl<V: Drop> TubeTable<V> {
         ensures { result ≡ record { entries = []; tubes = record { numbers = []; names = [] } } }
     {
         TubeTable {
-            tubes: NumberedTubes::new(alloc),
-            values: Vec::new(alloc),
+            numbers: Catalog::new(),
+            slots: Vec::new(alloc),
+            free: u32::MAX,
         }
     }
 
@@ -164,27 +137,50 @@ impl<V: Drop> TubeTable<V> {
         ensures len { result ≡ length self.now.entries }
         ensures ordered { InOrder (slice_cmp nat_cmp) self.now.entries }
     {
-        self.tubes.by_name().len()
+        self.numbers.len()
     }
 
-    /// Returns the tubes and their numbers.
-    #[tactic(auto, using(crate::proofs::TableViews::table_keys))]
-    pub fn tubes(&self) -> &NumberedTubes
-        ensures tubes { result.now ≡ self.now.tubes }
-        ensures keys { keys_of self.now.entries ≡ keys_of self.now.tubes.numbers }
-    {
-        &self.tubes
-    }
-
-    /// Returns the number of a tube, if it is registered. If the tube has the number `hint`, no
-    /// search is needed.
-    #[tactic(auto, using(crate::proofs::TableViews::table_keys))]
+    /// Returns the number of a tube, if it is registered. If the tube has the number `hint`, one
+    /// comparison finds that out, and no search is needed.
+    #[tactic(auto, using(crate::proofs::TableViews::not_there, crate::proofs::TableViews::table_keys, crate::proofs::TableViews::table_order))]
     pub fn number_of(&self, name: &TubeName, hint: TubeNumber) -> Option<TubeNumber>
-        ensures number { option_map number_in result
-            ≡ lookup (is_at (slice_cmp nat_cmp name.now)) self.now.tubes.numbers }
+        ensures number { option_map number_in result ≡ number_of name.now self.now.tubes }
+        ensures alone { IfSome result (λ n. n ≡ number_in n ∷ []) }
+        ensures none { result ≡ None → lookup (is_at (slice_cmp nat_cmp name.now)) self.now.entries ≡ None }
+        ensures ordered { InOrder (slice_cmp nat_cmp) self.now.entries }
         ensures keys { keys_of self.now.entries ≡ keys_of self.now.tubes.numbers }
+        ensures paired { IsPaired self.now.tubes }
     {
-        self.tubes.number_of(name, hint)
+        if slots::is_named(self.slots.as_slice(), hint.get(), name) {
+            return Some(hint);
+        }
+        self.search(name)
+    }
+
+    // Returns the number of a tube, if it is registered. It is not inlined, so that a hint that is
+    // right needs no code of a search.
+    #[inline(never)]
+    fn search(&self, name: &TubeName) -> Option<TubeNumber>
+        ensures number { option_map number_in result ≡ number_of name.now self.now.tubes }
+        ensures alone { IfSome result (λ n. n ≡ number_in n ∷ []) }
+    {
+        match self.numbers.peek(name) {
+            None => None,
+            Some(number) => Some(TubeNumber::of(*number)),
+        }
+    }
+
+    /// Returns the name of the tube with this number.
+    #[tactic(auto, using(crate::proofs::TableViews::table_keys))]
+    pub fn name_of(&self, number: TubeNumber) -> Option<&TubeName>
+        ensures name { option_map (λ name. name.now) result ≡ name_of (number_in number) self.now.tubes }
+        ensures keys { keys_of self.now.entries ≡ keys_of self.now.tubes.numbers }
+        ensures paired { IsPaired self.now.tubes }
+    {
+        match self.slots.get(number.get() as usize) {
+            None => None,
+            Some(slot) => slot.name.as_ref(),
+        }
     }
 
     /// Returns the value of a tube, if it is registered. If the tube has the number `hint`, no
@@ -195,7 +191,7 @@ impl<V: Drop> TubeTable<V> {
             ≡ lookup (is_at (slice_cmp nat_cmp name.now)) self.now.entries }
         ensures ordered { InOrder (slice_cmp nat_cmp) self.now.entries }
     {
-        let number = self.tubes.number_of(name, hint)?;
+        let number = self.number_of(name, hint)?;
         Some(self.get_numbered(name, number))
     }
 
@@ -205,7 +201,7 @@ impl<V: Drop> TubeTable<V> {
         ensures { Some result.now ≡ lookup (is_at (slice_cmp nat_cmp name.now)) self.now.entries }
     {
         let _ = name;
-        &self.values[number.get() as usize]
+        &self.slots[number.get() as usize].value
     }
 
     /// Changes the value of a tube in place. Returns what the change returns, or `None` if the tube
@@ -224,8 +220,8 @@ impl<V: Drop> TubeTable<V> {
         ensures ordered { InOrder (slice_cmp nat_cmp) self.old.entries }
         ensures tubes { self.new.tubes ≡ self.old.tubes }
     {
-        let number = self.tubes.number_of(name, hint)?;
-        let name = GhostName::registered(&self.tubes, name, number);
+        let number = self.number_of(name, hint)?;
+        let name = GhostName::of(name);
         Some(self.edit_numbered(&name, number, edit))
     }
 
@@ -246,7 +242,7 @@ impl<V: Drop> TubeTable<V> {
         ensures tubes { self.new.tubes ≡ self.old.tubes }
     {
         let _ = name;
-        edit_at(&mut self.values, number.get(), edit)
+        slots::edit_at(&mut self.slots, number.get(), edit)
     }
 
     /// Registers a tube that is not registered, with its value. Returns the number that the tube
@@ -267,15 +263,21 @@ impl<V: Drop> TubeTable<V> {
         ensures numbers { IfOk result (λ n. self.new.tubes.numbers
             ≡ insert_entry (slice_cmp nat_cmp) self.old.tubes.numbers name.now (number_in n)) }
         ensures extends { OnOk result (Extends self.old.tubes.numbers self.new.tubes.numbers) }
+        ensures fresh { IfOk result (λ n. name_of (number_in n) self.old.tubes ≡ None) }
+        ensures names { IfOk result (λ n. self.new.tubes.names
+            ≡ put_at self.old.tubes.names (number_in n) (Some name.now)) }
+        // A number that was never used is given only if no other is free.
+        ensures reused { IfOk result
+            (λ n. number_in n ≡ length self.old.tubes.names → AreAllUsed self.old.tubes.names) }
         ensures paired { OnOk result (IsPaired self.new.tubes) }
         ensures same { OnErr result (self.new ≡ self.old) }
     {
-        let Ok(()) = self.values.reserve(1) else {
+        let Ok(()) = self.numbers.reserve(alloc, 1) else {
             return Err(NoMemory);
         };
-        let number = self.tubes.add(alloc, name)?;
-        put(&mut self.values, number.get(), value);
-        Ok(number)
+        let number = slots::give(&mut self.slots, &mut self.free, name, value)?;
+        self.numbers.insert(*name, number);
+        Ok(TubeNumber::of(number))
     }
 
     /// Removes a tube, if it is registered. Its value stays where it is, until another tube gets
@@ -288,7 +290,11 @@ impl<V: Drop> TubeTable<V> {
         ensures paired { IsPaired self.new.tubes }
         ensures ordered { InOrder (slice_cmp nat_cmp) self.old.entries }
     {
-        let _number = self.tubes.remove(name);
+        let Some(number) = self.numbers.remove(name) else {
+            return;
+        };
+        slots::release(&mut self.slots, number, self.free);
+        self.free = number;
     }
 
     /// Shows each tube and its value to a visitor, in the order of the names, and returns the
@@ -299,11 +305,11 @@ impl<V: Drop> TubeTable<V> {
         ensures few { length self.now.entries < 2 ^ 64 }
     {
         let mut shown = Shown {
-            values: self.values.as_slice(),
+            slots: self.slots.as_slice(),
             visitor,
         };
-        self.tubes.by_name().walk(&mut shown);
-        let Shown { values: _, visitor } = shown;
+        self.numbers.walk(&mut shown);
+        let Shown { slots: _, visitor } = shown;
         visitor
     }
 
@@ -313,9 +319,9 @@ impl<V: Drop> TubeTable<V> {
             ≡ find (passes_by (T.passed test.now)) self.now.entries }
         ensures ordered { InOrder (slice_cmp nat_cmp) self.now.entries }
     {
-        let values = self.values.as_slice();
-        let passing = Passing { values, test };
-        valued(values, self.tubes.by_name().first(&passing))
+        let slots = self.slots.as_slice();
+        let passing = Passing { slots, test };
+        valued(slots, self.numbers.first(&passing))
     }
 
     /// Returns the first tube that passes a test, with its value, among those whose name is `from`
@@ -328,9 +334,9 @@ impl<V: Drop> TubeTable<V> {
         ensures { option_map entry_of result
             ≡ find (passes_from (slice_cmp nat_cmp from.now) (T.passed test.now)) self.now.entries }
     {
-        let values = self.values.as_slice();
-        let passing = Passing { values, test };
-        valued(values, self.tubes.by_name().first_from(from, &passing))
+        let slots = self.slots.as_slice();
+        let passing = Passing { slots, test };
+        valued(slots, self.numbers.first_from(from, &passing))
     }
 
     /// Returns the names of the tubes that pass a test, in byte order. It makes two allocations: a
@@ -347,10 +353,10 @@ impl<V: Drop> TubeTable<V> {
         ensures { IfOk result (λ names. map (λ n. n.now) names.items
             ≡ keys_of (filter (passes_by (T.passed test.now)) self.now.entries)) }
     {
-        let Ok(listed) = self.tubes.by_name().list(alloc) else {
+        let Ok(listed) = self.numbers.list(alloc) else {
             return Err(NoMemory);
         };
-        let values = self.values.as_slice();
-        list_passing(alloc, listed.as_slice(), &Passing { values, test })
+        let slots = self.slots.as_slice();
+        list_passing(alloc, listed.as_slice(), &Passing { slots, test })
     }
 }

@@ -1,7 +1,7 @@
 //! A tube, by its name and its number.
 ghost use Rattle.std.specs.Prelude.{◌≡◌};
 
-use crate::tubes::TubeNumber;
+use crate::tube_number::TubeNumber;
 use bq_job::TubeName;
 use std::marker::Model;
 

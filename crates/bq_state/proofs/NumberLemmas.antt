@@ -51,10 +51,9 @@ module _ (name : List ℕ) (n : ℕ) where
   number_given (p ∷ ns) = given_at p ns _ (slice_cmp nat_cmp name p.0) refl (number_given ns)
 
 -- the numbers of the tubes of a table
-module _ (k : Numbering) (kept : Tabled EntrySeen) (paired : IsPaired k) (same : k ≡ kept.tubes)
-    (keys : keys_of kept.entries ≡ keys_of kept.tubes.numbers) where
-  has_name : (name : List ℕ) (n : ℕ) → lookup (is_named_at name) kept.tubes.numbers ≡ Some n → name_of n k ≡ Some name
-  has_name name n found = paired.there name n (ap (λ (l : Numbering). lookup (is_named_at name) l.numbers) same ∙ found)
+module _ (kept : Tabled EntrySeen) (paired : IsPaired kept.tubes) (keys : keys_of kept.entries ≡ keys_of kept.tubes.numbers) where
+  has_name : (name : List ℕ) (n : ℕ) → lookup (is_named_at name) kept.tubes.numbers ≡ Some n → name_of n kept.tubes ≡ Some name
+  has_name name n found = paired.there name n found
 
   found_alike : (a b : List ℕ) → is_same_name a b ≡ true → lookup (is_named_at a) kept.tubes.numbers
       ≡ lookup (is_named_at b) kept.tubes.numbers
@@ -81,19 +80,20 @@ module _ (k : Numbering) (kept : Tabled EntrySeen) (paired : IsPaired k) (same :
   told name = grind (arith, all_weaker, told_by, all_numbered)
 
   end_there : (e : PauseEnd) (ts : List TubeRecord) → All (λ t. is_some (lookup (is_named_at t.name) kept.tubes.numbers) ≡ true) ts
-      → is_end_in kept.tubes.numbers e ts ≡ true → (is_some (name_of (number_in e.number) k) ≡ true) × (e.number ≡ number_in e.number ∷ [])
+      → is_end_in kept.tubes.numbers e ts ≡ true → (is_some (name_of (number_in e.number) kept.tubes) ≡ true) × (e.number
+      ≡ number_in e.number ∷ [])
   unfolding number_at
   end_there e [] all held = absurd cc
   end_there e (t ∷ ts) all held = grind (arith, same_name, end_there e ts all.1)
 
   -- The number of an end is that of a tube,
   pub end_numbered : (e : PauseEnd) → is_end_in kept.tubes.numbers e (map record_at kept.entries) ≡ true
-      → is_some (name_of (number_in e.number) k) ≡ true
+      → is_some (name_of (number_in e.number) kept.tubes) ≡ true
   end_numbered e held = (end_there e (map record_at kept.entries) all_numbered held).0
 
   -- whose name is found by it.
   pub number_is : (e : PauseEnd) (name : List ℕ) → is_end_in kept.tubes.numbers e (map record_at kept.entries) ≡ true
-      → name_of (number_in e.number) k ≡ Some name → e.number ≡ number_at name kept.tubes.numbers
+      → name_of (number_in e.number) kept.tubes ≡ Some name → e.number ≡ number_at name kept.tubes.numbers
   unfolding number_at
   number_is e name held of = grind (arith, end_there, all_numbered)
 

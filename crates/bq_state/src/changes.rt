@@ -80,8 +80,7 @@ pub fn add(state: &mut CoreParts, job: Job, number: TubeNumber)
         ≡ record (with_tube job.tube with_put (machine_of state.old)) { jobs = with_added job (machine_of state.old).jobs } }
     ensures asks { ComparesAtMost 4 state.old.store.jobs state.new.store.jobs }
 {
-    let registered = GhostName::registered(state.store.names(), &job.tube, number);
-    let name = registered.read(state.store.names(), number);
+    let name = state.store.name_of(&GhostName::of(&job.tube), number);
     let is_wanted = is_wanted(&state.waiting, &state.store, job.state, name, number);
     let waits = seats::holder_waits(state.seats.as_slice(), job.state);
     state.known.add_job(&job, name, number, is_wanted, waits);
@@ -105,7 +104,7 @@ pub fn delete(state: &mut CoreParts, id: JobId, test: JobTest) -> bool
     let (number, removed) = report;
     state.store.let_room_go(); // Of a peak in the past.
     let has_seats = state.store.count_removal(&removed, number);
-    let name = removed.tube.read(state.store.names(), number);
+    let name = state.store.name_of(&removed.tube, number);
     state.known.count_removal(&removed, name, number, has_seats);
     true
 }
@@ -200,7 +199,7 @@ fn count_move(
     ensures counts { CountsMove moved.now waiting.now seats.now known.old known.new store.old.tubes store.new.tubes }
     ensures jobs { store.new.jobs ≡ store.old.jobs }
 {
-    let name = moved.tube.read(store.names(), number);
+    let name = store.name_of(&moved.tube, number);
     let is_wanted = is_wanted(waiting, store, moved.to.state, name, number);
     let waits = seats::holder_waits(seats, moved.to.state);
     known.move_job(moved, name, number, is_wanted, waits);

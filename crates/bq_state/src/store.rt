@@ -1,5 +1,5 @@
 //! The jobs and the tubes of a core.
-ghost use Rattle.std.specs.{Option.option_map, Prelude.{IfOk, IfSome, None, Some, is_some, length, ◌+◌, ◌<◌, ◌^◌, ◌≡◌}};
+ghost use Rattle.std.specs.{Option.option_map, Prelude.{IfOk, IfSome, None, Some, [], is_some, length, true, unwrap_or, ◌+◌, ◌<◌, ◌^◌, ◌≡◌}};
 ghost use Rattle.bq_index.specs.Removed.{passing};
 ghost use Rattle.bq_job.specs.{beside.AreIdsWithin, machine.{first_of, is_held_by, job_with}};
 ghost use Rattle.bq_jobs.specs.Changed.{AsksNoTube, IgnoresTube, KeepsId, moved_by, removed_from, with_changed};
@@ -14,7 +14,7 @@ ghost use Rattle.bq_jobs.specs.{
 };
 ghost use Rattle.bq_jobs.specs.Ranks.{first_by, first_in, is_timed, list_rank, moment_of};
 ghost use Rattle.bq_jobs.specs.{Room.{MakesRoom, RemovesIf}, Seen.{IsBodyOf, IsTubeOf, but_for_tube}};
-ghost use Rattle.bq_jobs.specs.{Sharing.SharesAndChanges, Told.{moved_told, removed_told, shared_told}};
+ghost use Rattle.bq_jobs.specs.{Sharing.SharesAndChanges, Told.{IsNamedIf, moved_told, removed_told, shared_told}};
 ghost use Rattle.bq_state.specs.{Counting.with_job_put, Keeping.SearchesStore, Room.{room_given_back, room_left}, Store.first_store};
 
 use crate::tubes::{PauseEnds, TubeEntry};
@@ -22,8 +22,8 @@ use crate::watch_list::default_tube;
 use bq_index::Catalog;
 use bq_job::{Body, Job, JobId, Moment, NoMemory, Seat};
 use bq_jobs::{
-    GhostName, Group, JobEdit, JobList, JobMove, JobRemoval, NumberedJobs, NumberedMove,
-    NumberedTubes, PackedJob, PackedTest, PriAndState, Timer, Tube, TubeNumber, TubeTable,
+    GhostName, Group, JobEdit, JobList, JobMove, JobRemoval, NumberedJobs, NumberedMove, PackedJob,
+    PackedTest, PriAndState, Timer, Tube, TubeNumber, TubeTable,
 };
 use std::alloc::Global;
 use std::marker::Model;
@@ -168,12 +168,12 @@ impl Store {
         ensures tubes { self.new.tubes ≡ self.old.tubes }
     {
         let removed = self.jobs.discard_if(id, test);
-        removed_of(self.table.tubes(), removed)
+        removed_of(&self.table, removed)
     }
 
     /// Changes the job with this id, if there is one. Nothing is allocated. Returns the number of its
     /// tube, and the report about it.
-    #[tactic(auto, using(bq_jobs::proofs::NamedJobs::changes))]
+    #[tactic(auto, using(bq_jobs::proofs::NamedJobs::changes, bq_jobs::proofs::NamedJobs::moved_has_name))]
     pub(crate) fn change<E: JobEdit>(
         &mut self,
         id: JobId,
@@ -191,7 +191,7 @@ impl Store {
         ensures tubes { self.new.tubes ≡ self.old.tubes }
     {
         let moved = self.jobs.change(id, edit);
-        told_of(self.table.tubes(), moved)
+        told_of(&self.table, moved)
     }
 
     /// Does the same, and also returns another reference to the job's body, or `NoMemory` if `Arc`
@@ -211,7 +211,7 @@ impl Store {
         ensures tubes { self.new.tubes ≡ self.old.tubes }
     {
         let shared = self.jobs.share_and_change(id, edit);
-        shared_of(self.table.tubes(), shared)
+        shared_of(&self.table, shared)
     }
 
     /// Returns the record of the job with this id. It has all of the job but the name of its tube.
@@ -230,7 +230,7 @@ impl Store {
         ensures kept { SearchesStore 1 self.old self.new }
     {
         let number = self.jobs.number_of(id)?;
-        tube_at(self.table.tubes(), number)
+        tube_at(&self.table, number)
     }
 
     /// Returns the tube of the job with this id, and another reference to its body, or `NoMemory`
@@ -243,7 +243,7 @@ impl Store {
         ensures kept { SearchesStore 1 self.old self.new }
     {
         let (number, body) = self.jobs.share(id)?;
-        let tube = tube_at(self.table.tubes(), number)?;
+        let tube = tube_at(&self.table, number)?;
         Some((tube, body))
     }
 
@@ -296,40 +296,55 @@ impl Store {
 }
 
 // Returns the tube with this number, with its name.
-fn tube_at(tubes: &NumberedTubes, number: TubeNumber) -> Option<Tube>
-    ensures { result ≡ name_of (number_in number) tubes.now }
+fn tube_at(table: &TubeTable<TubeEntry>, number: TubeNumber) -> Option<Tube>
+    ensures { result ≡ name_of (number_in number) table.now.tubes }
 {
-    match tubes.name_of(number) {
+    match table.name_of(number) {
         None => None,
         Some(name) => Some(Tube::new(name, number)),
     }
 }
 
+// Returns the name of the tube with this number, for contracts only.
+#[inline(always)]
+fn ghost_name(table: &TubeTable<TubeEntry>, number: TubeNumber) -> GhostName
+    requires { is_some (name_of (number_in number) table.now.tubes) ≡ true }
+    ensures { result ≡ unwrap_or (name_of (number_in number) table.now.tubes) [] }
+{
+    GhostName::of(table.name_of(number).unwrap())
+}
+
 // Returns the number of the tube of a removed record, and the report about its job.
 fn removed_of(
-    tubes: &NumberedTubes,
+    table: &TubeTable<TubeEntry>,
     removed: Option<(TubeNumber, PriAndState)>,
 ) -> Option<(TubeNumber, JobRemoval)>
-    ensures { result ≡ option_map (removed_told tubes.now) removed }
+    requires { IfSome removed (λ r. is_some (name_of (number_in r.0) table.now.tubes) ≡ true) }
+    ensures { result ≡ option_map (removed_told table.now.tubes) removed }
 {
     let (number, at) = removed?;
-    let tube = GhostName::of(tubes, number);
+    let tube = ghost_name(table, number);
     Some((number, JobRemoval { tube, at }))
 }
 
 // Returns the number of the tube of a changed record, and the report about its job.
-fn told_of(tubes: &NumberedTubes, moved: Option<NumberedMove>) -> Option<(TubeNumber, JobMove)>
-    ensures { result ≡ option_map (moved_told tubes.now) moved }
+fn told_of(
+    table: &TubeTable<TubeEntry>,
+    moved: Option<NumberedMove>,
+) -> Option<(TubeNumber, JobMove)>
+    requires { IfSome moved (λ m. is_some (name_of (number_in m.tube) table.now.tubes) ≡ true) }
+    ensures { result ≡ option_map (moved_told table.now.tubes) moved }
 {
     let moved = moved?;
-    Some(report_of(tubes, moved))
+    Some(report_of(table, moved))
 }
 
 // Returns the same for a record that was found.
-fn report_of(tubes: &NumberedTubes, moved: NumberedMove) -> (TubeNumber, JobMove)
-    ensures { result ≡ moved_told tubes.now moved }
+fn report_of(table: &TubeTable<TubeEntry>, moved: NumberedMove) -> (TubeNumber, JobMove)
+    requires { is_some (name_of (number_in moved.tube) table.now.tubes) ≡ true }
+    ensures { result ≡ moved_told table.now.tubes moved }
 {
-    let tube = GhostName::of(tubes, moved.tube);
+    let tube = ghost_name(table, moved.tube);
     (
         moved.tube,
         JobMove {
@@ -343,17 +358,18 @@ fn report_of(tubes: &NumberedTubes, moved: NumberedMove) -> (TubeNumber, JobMove
 // Returns the same for a change that may not have been made, with the body.
 #[inline(always)]
 fn shared_of(
-    tubes: &NumberedTubes,
+    table: &TubeTable<TubeEntry>,
     shared: Option<Result<(NumberedMove, Body), NoMemory>>,
 ) -> Option<Result<((TubeNumber, JobMove), Body), NoMemory>>
-    ensures { result ≡ shared_told tubes.now shared }
+    requires { IsNamedIf table.now.tubes shared }
+    ensures { result ≡ shared_told table.now.tubes shared }
 {
     match shared {
         None => None,
         Some(Err(fault)) => Some(Err(fault)),
         Some(Ok(pair)) => {
             let (moved, body) = pair;
-            Some(Ok((report_of(tubes, moved), body)))
+            Some(Ok((report_of(table, moved), body)))
         }
     }
 }

@@ -8,14 +8,14 @@ ghost use Rattle.bq_state.specs.Counting.{AreCounts, DropsGone, IfCounted, tubes
 ghost use Rattle.bq_state.specs.{Counting.with_tallies_at, Crowds.{crowd_at, has_seats, recounted}, Dues.first_pause_end};
 ghost use Rattle.bq_state.specs.TubesSeen.{edited_at, entry_changed, is_named_at};
 ghost use Rattle.bq_state.specs.{Leaving.exists_in, Names.names_of, PauseEnds.AreEnds, Tallies.{has_jobs, tallies_of, tally_at}};
-ghost use Rattle.bq_state.specs.{Tallies.tally_moved, TubeEntries.{has_entry, names_alive, tube_changed_at}, TubeNumbers.HaveNumbers};
+ghost use Rattle.bq_state.specs.{Tallies.tally_moved, TubeEntries.{has_entry, names_alive, tube_changed_at}};
 
 use crate::known::{MaybeGone, Tally};
 use crate::name_lists::Names;
 use crate::store::Store;
 use crate::watch_list::default_tube;
 use bq_job::{Job, Moment, NoMemory, TubeName};
-use bq_jobs::{GhostName, JobMove, JobRemoval, NumberedTubes, TubeNumber, TubeTable};
+use bq_jobs::{GhostName, JobMove, JobRemoval, TubeNumber, TubeTable};
 pub use entry::{Crowd, Pausing, TubeChange, TubeEntry};
 pub(crate) use entry::{AddOrRemove, Roles, RolesChange};
 pub(crate) use pauses::PauseEnds;
@@ -58,13 +58,13 @@ impl Store {
         self.table.len()
     }
 
-    /// Returns the names of the tubes with their numbers.
-    #[tactic(auto, using(crate::proofs::NamedLemmas::have_numbers))]
-    pub fn names(&self) -> &NumberedTubes
-        ensures numbers { result.now.numbers ≡ self.now.tubes.numbers }
-        ensures known { HaveNumbers self.now.tubes.numbers self.now.tubes.entries }
+    /// Returns the name of a tube that has this number.
+    pub(crate) fn name_of(&self, tube: &GhostName, number: TubeNumber) -> &TubeName
+        requires { HasNumber tube.now number self.now.tubes.numbers }
+        ensures { result.now ≡ tube.now }
     {
-        self.table.tubes()
+        let _ = tube;
+        self.table.name_of(number).unwrap()
     }
 
     /// Returns the number of a tube, if it has an entry.
@@ -144,7 +144,7 @@ impl Store {
         requires { HasNumber job.now.tube number self.old.tubes.numbers }
         ensures { self.new ≡ record self.old { tubes = with_job_put job.now self.old.tubes } }
     {
-        let name = GhostName::registered(self.table.tubes(), &job.tube, number);
+        let name = GhostName::of(&job.tube);
         self.table.edit_numbered(&name, number, job);
     }
 

@@ -21,7 +21,7 @@ fn end_of(kept: &TubeTable<TubeEntry>, name: &TubeName, hint: TubeNumber) -> Opt
     ensures told { AreTold kept.now }
     ensures ordered { InOrder (slice_cmp nat_cmp) kept.now.entries }
 {
-    let number = kept.tubes().number_of(name, hint)?;
+    let number = kept.number_of(name, hint)?;
     kept.get_numbered(name, number).end(number)
 }
 
@@ -32,7 +32,7 @@ fn tube_of(kept: &TubeTable<TubeEntry>, end: &PauseEnd) -> Tube
     ensures number { end.now.number ≡ number_at result kept.now.tubes.numbers }
     ensures told { AreTold kept.now }
 {
-    Tube::new(kept.tubes().name_of(end.number).unwrap(), end.number)
+    Tube::new(kept.name_of(end.number).unwrap(), end.number)
 }
 
 /// Pauses the tube with this name, or ends its pause.

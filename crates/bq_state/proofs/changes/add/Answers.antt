@@ -19,8 +19,8 @@ invariant_of-state c =
     rw (
       c.add_job.ensures,
       c.is_wanted-is_wanted.ensures,
-      c.read-name.ensures,
-      c.registered-registered.ensures,
+      c.name_of-name.ensures,
+      c.of.ensures,
       waiters_counted _ _ _ _ _ st.sound.entries.of_seats st.sound.known.crowds
           st.sound.waiting,
       c.holder_waits-waits.ensures,

@@ -1,6 +1,7 @@
 use Rattle.std.proofs.Common.{◌∙◌, List, ap, arith, fold, refl, ℕ}
 use Rattle.std.specs.Prelude.{slice_get}
 use Rattle.bq_index.specs.Walk.{seen_by}
+use Rattle.bq_jobs.specs.FreeNumbers.{SlotState, values_in}
 use Rattle.bq_jobs.specs.Table.{Tabled, entries_at, visited}
 use Rattle.bq_jobs.specs.declared.table.Shown.{Shown}
 use Rattle.bq_jobs.proofs.TableViews.{table_length}
@@ -9,15 +10,16 @@ use Rattle.bq_jobs.proofs.table.TubeTable.walk.Goals as goal
 
 pub returns-clause-visitor : goal.returns-clause-visitor
 returns-clause-visitor g c =
-    let vs = c.as_slice.result.now in
+    let vs = values_in c.as_slice.result.now in
     let after = g.T.Visitor.after in
-    let make : g.row.T.Denot → Shown g.row.V.Denot g.row.T.Denot = λ t. record { values = c.as_slice.result; visitor = t } in
+    let make : g.row.T.Denot → Shown g.row.V.Denot g.row.T.Denot = λ t. record { slots = c.as_slice.result; visitor = t } in
     let step : Shown g.row.V.Denot g.row.T.Denot → List ℕ → ℕ → Shown g.row.V.Denot g.row.T.Denot =
-    λ s name n. record s { visitor = visited after s.visitor name (slice_get s.values.now n) } in
+    λ s name n. record s { visitor = visited after s.visitor name (slice_get (values_in s.slots.now) n) } in
     ap (λ (s : Shown g.row.V.Denot g.row.T.Denot). s.visitor) (c.walk.ensures.visitor
-    ∙ ap (fold (seen_by step) (make c.args.visitor)) c.by_name.ensures
-    ∙ walk_valued vs after make step (λ t name n. refl) c.self.inside.tubes.numbers c.args.visitor)
-    ∙ ap (λ us. fold (seen_by after) c.args.visitor (entries_at c.self.inside.tubes.numbers us)) c.as_slice.ensures.value
+    ∙ walk_valued vs after make step (λ t name n. refl) c.self.inside.numbers.entries c.args.visitor)
+    ∙ ap (λ (us : List (SlotState g.row.V.Denot)). fold (seen_by after) c.args.visitor (entries_at c.self.inside.numbers.entries
+    (values_in us)))
+    c.as_slice.ensures.value
     ∙ ap (λ (s : Tabled g.row.V.Denot). fold (seen_by after) c.args.visitor s.entries) c.self.view_is
 
 pub returns-clause-few : goal.returns-clause-few

@@ -9,7 +9,7 @@ pub returns-clause-end : goal.returns-clause-end
 returns-clause-end c = grind (arith, some_end)
 
 pub returns-in_err-number-clause-told : goal.returns-in_err-number-clause-told
-returns-in_err-number-clause-told c = told _ _ c.number_of.ensures.paired c.tubes.ensures.tubes c.tubes.ensures.keys
+returns-in_err-number-clause-told c = told c.args.kept.now c.number_of.ensures.paired c.number_of.ensures.keys
 
 pub returns-clause-told : goal.returns-clause-told
-returns-clause-told c = told _ _ c.number_of.ensures.paired c.tubes.ensures.tubes c.tubes.ensures.keys
+returns-clause-told c = told c.args.kept.now c.number_of.ensures.paired c.number_of.ensures.keys
