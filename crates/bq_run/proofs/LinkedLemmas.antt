@@ -3,7 +3,8 @@ use Rattle.std.proofs.Common.{◌≡◌, ℕ, zero, suc, ◌+◌, ◌<◌, Bool,
 use Rattle.std.proofs.Common.{refl, sym, ap, ◌∙◌, arith, subst, inl, inr, append-nil, add-zero, slice_index_or, not, nat_le}
 use Rattle.std.specs.Prelude.{◌==◌}
 use Rattle.std.specs.List.{list_all}
-use Rattle.std.proofs.lemmas.List.{length-append, length-map}
+use Rattle.std.proofs.lemmas.List.{get_or_append_left, length-append, length-map}
+use Rattle.std.proofs.lemmas.Slice.Zip.{AllZip-long}
 use Rattle.std.proofs.lemmas.{Bool.{cases_Bool, eqb-true, eqb-false, le-leb}, Grind.common_steps}
 use Rattle.bq_job.specs.declared.answer.Answer.{Answer}
 use Rattle.bq_job.specs.declared.settings.Settings.{Settings}
@@ -29,7 +30,7 @@ use Rattle.bq_link.specs.Ticks.{IsTickless}
 use Rattle.bq_run.specs.Linked.{AreSettled, AreStill, IsCoreStill, IsEndOf, IsLinked}
 use Rattle.bq_run.specs.Threads.{AreServed, IsControlOver, IsCoreOver}
 use Rattle.bq_run.proofs.GoneLemmas.{EndsByGone, control_ends_by_gone, none_waits, seat_ends_by_gone}
-use Rattle.bq_run.proofs.ThreadLemmas.{last_at, lasts_many, served_at}
+use Rattle.bq_run.proofs.ThreadLemmas.{last_at, zipped_at}
 
 -- the seat and the step of each entry
 abbrev pairs : List Entry → List (ℕ × Step)
@@ -257,8 +258,7 @@ pub all_done : {D C I : Type 0} (at : D → DoorSeen) (gives : C → List (Optio
     → AreAllDone at settings o.readings read.read read.failed core_last machine to ends doors
 all_done at gives left may_fail settings doors core core_back core_last firsts lasts ends first last clock after control read machine to
     doored served o k still kept settled =
-    let m = lasts_many at settings.max_job_size firsts lasts doors served in
-    let many : length lasts ≡ settings.seats = m.0 ∙ sym m.1 ∙ doored in
+    let many : length lasts ≡ settings.seats = AllZip-long _ doors lasts served.1 ∙ doored in
     let all : length (lasts ++ last ∷ []) ≡ settings.seats + 1 = omega (arith, many, length-append lasts (last ∷ [])) in
     record {
       many = kept.many ∙ all;
@@ -266,9 +266,9 @@ all_done at gives left may_fail settings doors core core_back core_last firsts l
       core_done = core_done_still settings o.readings core_back core_last machine to still o.done;
       settled = settled;
       served = λ place d e below.
-          let within : place < length (lasts ++ last ∷ []) = omega (arith, below) in
-          rw ((kept.each place e within).1, (kept.each place e within).2)
-          (served_at at settings.max_job_size firsts lasts doors last served place d e below);
+          let here = kept.each place e (omega (arith, below)) in
+          rw (here.1, here.2, get_or_append_left lasts (last ∷ []) e place (omega (arith, below)))
+          (zipped_at _ doors lasts served.1 place d e below);
       control_done = λ e.
           let within : settings.seats < length (lasts ++ last ∷ []) = omega arith in
           let is : slice_index_or (lasts ++ last ∷ []) settings.seats e ≡ last =
@@ -292,10 +292,8 @@ pub still_doored : {D : Type 0} (at : D → DoorSeen) (size seats : ℕ) (all fi
     (doors : List D) (first : SeatState)
     → firsts ++ first ∷ [] ≡ all → length all ≡ seats + 1 → AreServed at size firsts lasts doors → length doors ≡ seats
 still_doored at size seats all firsts lasts doors first whole many s =
-    let m = (lasts_many at size firsts lasts doors s).1 in
-    let l = length-append firsts (first ∷ []) in
     let w : length (firsts ++ first ∷ []) ≡ length all = ap length whole in
-    omega arith
+    omega (arith, length-append firsts (first ∷ []), AllZip-long _ firsts lasts s.0, AllZip-long _ doors lasts s.1)
 
 abbrev pub StepsKeepSettings : Type 0
 StepsKeepSettings = (first last : Machine) (at seat : ℕ) (what : Step) (outcome : Outcome) (given : List GivenAnswer)

@@ -7,7 +7,7 @@ use Rattle.std.proofs.lemmas.Bool.{eq-eqb}
 use Rattle.bq_job.specs.declared.settings.Settings.{Settings}
 use Rattle.bq_core_api.specs.Limits.{are_in_range}
 use Rattle.std.specs.List.{All, AllZip}
-use Rattle.std.proofs.lemmas.List.{length-append, Elements.{All-head, All-tail}}
+use Rattle.std.proofs.lemmas.{List.Elements.{All-head, All-tail, AllZip-get_or}, Slice.Zip.{AllZip-long, all_zipped_more}}
 use Rattle.bq_line.specs.Tending.{AreSame, DoorSeen, IsDoorServed}
 use Rattle.bq_host.specs.declared.fault.RunFault.{RunFault}
 use Rattle.bq_host.specs.declared.fault.RunFault.TheVariants.{BadConfiguration, NoMemory}
@@ -25,66 +25,45 @@ pub given_served : {D P : Type 0} (at : D → DoorSeen) (same : D → D → Type
     × same (door p) b.1) posts backs
     → AreServed at size (map end posts) (map (λ (b : SeatState × D). b.0) backs) (map (λ (b : SeatState × D). b.1) backs)
     × AreSame same (map door posts) (map (λ (b : SeatState × D). b.1) backs)
-given_served at same size end door limit [] [] limits h = (tt, tt)
+given_served at same size end door limit [] [] limits h = ((tt, tt), tt)
 given_served {D} {P} at same size end door limit (p ∷ posts) (b ∷ backs) limits h =
     let of = λ (q : P). limit q ≡ size in
     let more = given_served at same size end door limit posts backs (All-tail of p posts limits) h.1 in
-    (((h.0.0, rw (All-head of p posts limits) at h.0.1), more.0), (h.0.2, more.1))
+    (((h.0.0, more.0.0), (rw (All-head of p posts limits) at h.0.1, more.0.1)), (h.0.2, more.1))
 given_served at same size end door limit [] (b ∷ backs) limits h = absurd h
 given_served at same size end door limit (p ∷ posts) [] limits h = absurd h
 
--- as many ends were returned as threads were started
-pub lasts_many : {D : Type 0} (at : D → DoorSeen) (size : ℕ) (firsts lasts : List SeatState) (doors : List D)
-    → AreServed at size firsts lasts doors → (length lasts ≡ length firsts) × (length doors ≡ length firsts)
-lasts_many at size [] [] [] h = (refl, refl)
-lasts_many at size (f ∷ fs) (e ∷ es) (d ∷ ds) h = let more = lasts_many at size fs es ds h.1 in (ap suc more.0, ap suc more.1)
-lasts_many at size _ _ _ h = absurd h
-
--- each end that was returned is the one that its thread began with, and the end of the control line
--- comes after the others
-same_at : {D : Type 0} (at : D → DoorSeen) (size : ℕ) (firsts lasts : List SeatState) (doors : List D) (first last : SeatState)
-    → AreServed at size firsts lasts doors → IsSameSeat first last
-    → (place : ℕ) (d : SeatState) → place < length (lasts ++ last ∷ [])
-    → IsSameSeat (slice_index_or (firsts ++ first ∷ []) place d) (slice_index_or (lasts ++ last ∷ []) place d)
-same_at at size [] [] [] first last h same zero d below = same
-same_at at size [] [] [] first last h same (suc place) d below = absurd (omega (arith, below))
-same_at at size (f ∷ fs) (e ∷ es) (x ∷ xs) first last h same zero d below = h.0.0
-same_at at size (f ∷ fs) (e ∷ es) (x ∷ xs) first last h same (suc place) d below =
-    same_at at size fs es xs first last h.1 same place d (omega (arith, below))
-same_at at size _ _ _ first last h same place d below = absurd h
-
-pub back_paired : {D : Type 0} (at : D → DoorSeen) (size : ℕ) (core core_last : CoreState) (all firsts lasts : List SeatState)
-    (doors : List D) (first last : SeatState)
-    → AreNewSeats core all → firsts ++ first ∷ [] ≡ all → AreServed at size firsts lasts doors → IsSameSeat first last
+-- Each end that was returned is the one that its thread began with. The end of the control line
+-- comes after the others.
+pub back_paired : (core core_last : CoreState) (all firsts lasts : List SeatState) (first last : SeatState)
+    → AreNewSeats core all → firsts ++ first ∷ [] ≡ all → AllZip IsSameSeat firsts lasts → IsSameSeat first last
     → IsSameCore core core_last
     → ArePaired core_last (lasts ++ last ∷ [])
-back_paired at size core core_last all firsts lasts doors first last new whole served same same_core place d below =
+back_paired core core_last all firsts lasts first last new whole ends same same_core place d below =
     let new' : AreNewSeats core (firsts ++ first ∷ []) = rw whole new in
-    let within : place < length (firsts ++ first ∷ []) = let m = (lasts_many at size firsts lasts doors served).0 in
-    omega (arith, below, length-append firsts (first ∷ []), length-append lasts (last ∷ [])) in
+    let both = all_zipped_more IsSameSeat firsts lasts first last ends same in
+    let within : place < length (firsts ++ first ∷ []) =
+    omega (arith, below, AllZip-long IsSameSeat (firsts ++ first ∷ []) (lasts ++ last ∷ []) both) in
     let n = new' place d within in
-    let s = same_at at size firsts lasts doors first last served same place d below in
+    let s = AllZip-get_or IsSameSeat (firsts ++ first ∷ []) (lasts ++ last ∷ []) place d d both within in
     (s.0 ∙ n.number, (same_core.0 ∙ n.pair.0 ∙ sym s.1, (λ i. slice_get (same_core.1 i) (s.0 i)) ∙ n.pair.1 ∙ ap Some (sym s.2)))
 
--- each door was served by the end at its place
-pub served_at : {D : Type 0} (at : D → DoorSeen) (size : ℕ) (firsts lasts : List SeatState) (doors : List D) (last : SeatState)
-    → AreServed at size firsts lasts doors
-    → (place : ℕ) (d : D) (e : SeatState) → place < length doors
-    → IsDoorServed size (at (slice_index_or doors place d)) (slice_index_or (lasts ++ last ∷ []) place e).submitted
-    (slice_index_or (lasts ++ last ∷ []) place e).taken
-served_at at size [] [] [] last h place d e below = absurd (omega (arith, below))
-served_at at size (f ∷ fs) (y ∷ es) (x ∷ xs) last h zero d e below = h.0.1
-served_at at size (f ∷ fs) (y ∷ es) (x ∷ xs) last h (suc place) d e below =
-    served_at at size fs es xs last h.1 place d e (omega (arith, below))
-served_at at size _ _ _ last h place d e below = absurd h
+-- two related lists, by their elements at a place
+pub zipped_at : {A B : Type 0} (R : A → B → Type 0) (xs : List A) (ys : List B) → AllZip R xs ys
+    → (place : ℕ) (a : A) (b : B) → place < length xs → R (slice_index_or xs place a) (slice_index_or ys place b)
+zipped_at R [] [] h place a b below = absurd (omega (arith, below))
+zipped_at R (x ∷ xs) (y ∷ ys) h zero a b below = h.0
+zipped_at R (x ∷ xs) (y ∷ ys) h (suc place) a b below = zipped_at R xs ys h.1 place a b (omega (arith, below))
+zipped_at R _ _ h place a b below = absurd h
 
 -- All doors are at their end.
-pub all_at_end : {D : Type 0} (at : D → DoorSeen) (size : ℕ) (firsts lasts : List SeatState) (doors : List D)
-    → AreServed at size firsts lasts doors → All (λ (d : D). ((at d).is_out ≡ false) × ((at d).is_at_end ≡ true)) doors
-all_at_end at size [] [] [] h place d below = absurd (omega (arith, below))
-all_at_end at size (f ∷ fs) (e ∷ es) (x ∷ xs) h zero d below = (h.0.1.inside, h.0.1.at_end)
-all_at_end at size (f ∷ fs) (e ∷ es) (x ∷ xs) h (suc place) d below = all_at_end at size fs es xs h.1 place d (omega (arith, below))
-all_at_end at size _ _ _ h place d below = absurd h
+pub all_at_end : {D : Type 0} (at : D → DoorSeen) (size : ℕ) (lasts : List SeatState) (doors : List D)
+    → AllZip (λ (d : D) (e : SeatState). IsDoorServed size (at d) e.submitted e.taken) doors lasts
+    → All (λ (d : D). ((at d).is_out ≡ false) × ((at d).is_at_end ≡ true)) doors
+all_at_end at size [] [] h place d below = absurd (omega (arith, below))
+all_at_end at size (e ∷ es) (x ∷ xs) h zero d below = (h.0.inside, h.0.at_end)
+all_at_end at size (e ∷ es) (x ∷ xs) h (suc place) d below = all_at_end at size es xs h.1 place d (omega (arith, below))
+all_at_end at size _ _ h place d below = absurd h
 
 pub last_at : (lasts : List SeatState) (last e : SeatState) → slice_index_or (lasts ++ last ∷ []) (length lasts) e ≡ last
 last_at [] last e = refl

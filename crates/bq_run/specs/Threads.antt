@@ -1,5 +1,6 @@
 -- The results of a run's threads.
-use Rattle.std.specs.Prelude.{ℕ, ◌≡◌, ◌||◌, Bool, true, IsTrue, List, [], ◌∷◌, Option}
+use Rattle.std.specs.Prelude.{ℕ, ◌≡◌, ◌||◌, Bool, true, IsTrue, List, Option}
+use Rattle.std.specs.List.{AllZip}
 use Rattle.bq_job.specs.declared.settings.Settings.{Settings}
 use Rattle.bq_job.specs.promise.ControlDid.{IsControlDone}
 use Rattle.bq_job.specs.machine.Machine.{Machine}
@@ -13,10 +14,8 @@ use Rattle.bq_thread_work.specs.CoreWork.{IsCoreDone}
 -- The seats' threads have ended, in the order of their seats: each has the end that it began with,
 -- and served its door to its end.
 abbrev pub AreServed : {D : Type 0} → (D → DoorSeen) → ℕ → List SeatState → List SeatState → List D → Type 0
-AreServed at max_job_size [] [] [] = Unit {0}
-AreServed at max_job_size (first ∷ firsts) (last ∷ lasts) (door ∷ doors) =
-    (IsSameSeat first last × IsDoorServed max_job_size (at door) last.submitted last.taken) × AreServed at max_job_size firsts lasts doors
-AreServed at max_job_size _ _ _ = ⊥
+AreServed at max_job_size firsts lasts doors =
+    AllZip IsSameSeat firsts lasts × AllZip (λ door last. IsDoorServed max_job_size (at door) last.submitted last.taken) doors lasts
 
 -- The core's thread has ended. The core had compared nothing at first, and has made this many
 -- comparisons.

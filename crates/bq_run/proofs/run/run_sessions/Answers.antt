@@ -46,9 +46,8 @@ settled_run-requires-clause-pairs g c =
     let v = c.in-Ok-serve_posts.ensures in
     let ended = c.in-Ok-serve_posts.ended in
     let posts = c.in-Ok-new_posts.posts in
-    back_paired (door_seen g.D.Door) posts.core.new_core.config.max_job_size c.in-Ok.core_end ended.core_end
-    c.in-Ok.ends.items (map (λ q. q.end) posts.seats.items) ended.ends.items ended.doors.items
-    posts.control.end ended.control_end c.in-Ok.ensures.seats.1 p.ends v.served v.control.same
+    back_paired c.in-Ok.core_end ended.core_end c.in-Ok.ends.items (map (λ q. q.end) posts.seats.items) ended.ends.items
+    posts.control.end ended.control_end c.in-Ok.ensures.seats.1 p.ends v.served.0 v.control.same
     (subst (λ (end : CoreState). IsSameCore end ended.core_end) p.core v.core.same)
 
 pub returns-clause-served : goal.returns-clause-served
@@ -95,7 +94,7 @@ pub returns-clause-at_end : goal.returns-clause-at_end
 returns-clause-at_end g c =
     subst (λ doors. All (λ door. (g.D.Door.is_out door ≡ false) × (g.D.Door.is_at_end door ≡ true)) doors.items)
     (sym c.settled_run.ensures.rest.0)
-    (all_at_end (door_seen g.D.Door) _ _ _ _ c.in-Ok-serve_posts.ensures.served)
+    (all_at_end (door_seen g.D.Door) _ _ _ c.in-Ok-serve_posts.ensures.served.1)
 
 pub returns-clause-same : goal.returns-clause-same
 returns-clause-same g c =
