@@ -109,7 +109,7 @@ module _ {L : Type 0} (seen : L → LineSeen) where
 
   out_so_far : (size : ℕ) (a : Attendant L) (door : DoorSeen) (submitted : List Step) (taken more : List Answer)
       → (t : IsTended seen size a door submitted taken)
-      → AreLinesOwed size door.lines_over t.attends.before t.attends.got
+      → AreLinesOwed size door.lines_over t.before t.got
       → IsDoorOwedSoFar size (record { over = door.lines_over; out = line_out seen a.phase; is_out = door.is_out })
       submitted (taken ++ more)
   out_so_far size a door submitted taken more t owed = grind (arith, common_steps, out_at)
@@ -220,7 +220,7 @@ module _ {L D C I K : Type 0} {k : Core K} {c : Clock C} {l : Line L} {d : Door 
       (record { over = d.lines_over x; out = line_out l.seen a.phase; is_out = d.is_out x }) (steps_at t s.served.history)
       (answers_to t s.served.trace.given)
   seat_so_far t a x g =
-      let did = g.tended.attends in
+      let did = g.tended in
       let owed = seat_owed_so_far begun.settings begun.settings.max_job_size t (d.lines_over x) did.before did.now did.got
       (did.getting ++ waiting t (state_of k core)) s.served.history s.served.trace.given (k.machine core.timed.core) g.within ran.runs
       did.submitted_is

@@ -1,5 +1,5 @@
 -- How many connections have ended at a seat, and how often it was answered `Closed`.
-use Rattle.std.proofs.Common.{ℕ, ◌≡◌, ◌+◌, ◌≤◌, true, false, List, [], ◌∷◌, ◌++◌, length}
+use Rattle.std.proofs.Common.{ℕ, ◌≡◌, ◌≤◌, true, false, List, [], ◌∷◌, ◌++◌, length}
 use Rattle.std.proofs.Common.{refl, sym, ap, ◌∙◌, arith, append-nil}
 use Rattle.bq_job.specs.beside.Closings.{closes, closings}
 use Rattle.bq_job.specs.declared.answer.Answer.{Answer}
@@ -96,5 +96,5 @@ module _ {L : Type 0} (seen : L → LineSeen) (size : ℕ) where
   -- The connections that have ended took no other `Closed`.
   pub got_few : (a : Attendant L) (door : DoorSeen) (submitted : List Step) (taken : List Answer)
       → (t : IsTended seen size a door submitted taken) → closes taken ≤ ended_lines a door
-      → closes t.attends.got ≤ length door.lines_over
+      → closes t.got ≤ length door.lines_over
   got_few a door submitted taken t few = grind (arith, closes_append, at_closes)

@@ -46,21 +46,18 @@ none_taken seen size old new door next before got grows h =
 moves_to : {L : Type 0} (seen : L → LineSeen) (size : ℕ) (old : Attendant L) (new : SeatMachine) (phase : SeatPhase L)
     (door next : DoorSeen) (before : List Step) (got : List Answer) → (t : IsTended seen size old door before got)
     → next.lines_over ≡ door.lines_over → over_now old.phase ≤ over_now phase
-    → IsAt seen size new phase t.attends.now t.attends.getting → IsPlaced phase next
+    → IsAt seen size new phase t.now t.getting → IsPlaced phase next
     → IsTended seen size (attendant new phase) next (before ++ []) (got ++ []) × IsCounted old door [] (attendant new phase) next
 moves_to seen size old new phase door next before got t over grows at placed =
-    let a = t.attends in
     none_taken seen size old (attendant new phase) door next before got (let e = ap length over in omega arith) (record {
-      attends = record {
-        before = a.before;
-        now = a.now;
-        got = a.got;
-        getting = a.getting;
-        of_lines = rw over a.of_lines;
-        at_phase = at;
-        submitted_is = a.submitted_is;
-        taken_is = a.taken_is;
-      };
+      before = t.before;
+      now = t.now;
+      got = t.got;
+      getting = t.getting;
+      of_lines = rw over t.of_lines;
+      at_phase = at;
+      submitted_is = t.submitted_is;
+      taken_is = t.taken_is;
       placed = placed;
     })
 
@@ -73,7 +70,7 @@ pub tends_opened : {L : Type 0} (seen : L → LineSeen) (old new : SeatMachine) 
     → seen line ≡ new_line
     → Tends seen (attendant old phases.Between) door [] [] (attendant new (phases.On line action 0)) next
 tends_opened seen old new line action door next move over out more fresh size before got t =
-    let at = t.attends.at_phase in
+    let at = t.at_phase in
     moves_to seen size (attendant old phases.Between) new (phases.On line action 0) door next before got t over (omega arith)
     (seen line, none_begun action (seen line), rw (at.0, at.1) (opened_on size old new action (seen line) at.2 at.3 move fresh)) (out, more)
 
@@ -83,24 +80,21 @@ pub tends_shut : {L : Type 0} (seen : L → LineSeen) (machine : SeatMachine) (l
     → next.is_at_end ≡ door.is_at_end
     → Tends seen (attendant machine (phases.On line (actions.LineOver end) sent)) door [] [] (attendant machine phases.Between) next
 tends_shut seen machine line end sent door next left inside still size before got t =
-    let a = t.attends in
     let over : LineOver = record { seen = seen line; over = end } in
-    let on : IsOnLine size machine (seen line) (actions.LineOver end) a.now a.getting = rw a.at_phase.1 a.at_phase.2 in
+    let on : IsOnLine size machine (seen line) (actions.LineOver end) t.now t.getting = rw t.at_phase.1 t.at_phase.2 in
     let waits : awaited machine ≡ Awaited.ALine = let e = on.awaits in cc in
     none_taken seen size (attendant machine (phases.On line (actions.LineOver end) sent)) (attendant machine phases.Between) door next
     before got (let e = ap length left ∙ length-append door.lines_over (over ∷ []) in omega arith) (record {
-      attends = record {
-        before = a.before ++ a.now;
-        now = [];
-        got = a.got ++ a.getting;
-        getting = [];
-        of_lines =
-            rw left (lines_more size door.lines_over over a.before a.now a.got a.getting a.of_lines
-            (line_served size machine (seen line) end a.now a.getting on));
-        at_phase = (refl, refl, waits, on.limit_is);
-        submitted_is = a.submitted_is ∙ sym (append-nil (a.before ++ a.now));
-        taken_is = a.taken_is ∙ sym (append-nil (a.got ++ a.getting));
-      };
+      before = t.before ++ t.now;
+      now = [];
+      got = t.got ++ t.getting;
+      getting = [];
+      of_lines =
+          rw left (lines_more size door.lines_over over t.before t.now t.got t.getting t.of_lines
+          (line_served size machine (seen line) end t.now t.getting on));
+      at_phase = (refl, refl, waits, on.limit_is);
+      submitted_is = t.submitted_is ∙ sym (append-nil (t.before ++ t.now));
+      taken_is = t.taken_is ∙ sym (append-nil (t.got ++ t.getting));
       placed = (inside, still ∙ t.placed.1);
     })
 
@@ -110,21 +104,18 @@ tends_carried : {L : Type 0} (result : Progress) (seen : L → LineSeen) (old ne
     → CarriesOn result old (seen line) action sent new (seen later) next now submitted taken
     → Tends seen (attendant old (phases.On line action sent)) door submitted taken (attendant new (phases.On later next now)) door
 tends_carried result seen old new line later action next sent now submitted taken door carries size before got t =
-    let a = t.attends in
-    let at = a.at_phase in
+    let at = t.at_phase in
     let c = carries at.0 at.1 in
-    let counted = carried_counted result size old new at.0 c.0 action next a.now submitted a.getting taken c.2 at.2 in (
+    let counted = carried_counted result size old new at.0 c.0 action next t.now submitted t.getting taken c.2 at.2 in (
       record {
-        attends = record {
-          before = a.before;
-          now = a.now ++ submitted;
-          got = a.got;
-          getting = a.getting ++ taken;
-          of_lines = a.of_lines;
-          at_phase = (c.0, c.1, carried_on result size old new at.0 c.0 action next a.now submitted a.getting taken c.2 at.2);
-          submitted_is = ap (λ (xs : List Step). xs ++ submitted) a.submitted_is ∙ append_assoc a.before a.now submitted;
-          taken_is = ap (λ (xs : List Answer). xs ++ taken) a.taken_is ∙ append_assoc a.got a.getting taken;
-        };
+        before = t.before;
+        now = t.now ++ submitted;
+        got = t.got;
+        getting = t.getting ++ taken;
+        of_lines = t.of_lines;
+        at_phase = (c.0, c.1, carried_on result size old new at.0 c.0 action next t.now submitted t.getting taken c.2 at.2);
+        submitted_is = ap (λ (xs : List Step). xs ++ submitted) t.submitted_is ∙ append_assoc t.before t.now submitted;
+        taken_is = ap (λ (xs : List Answer). xs ++ taken) t.taken_is ∙ append_assoc t.got t.getting taken;
         placed = t.placed;
       },
       record { grows = let e : over_by action ≤ over_by next = counted.0 in omega arith; unclosed = counted.1 },
@@ -170,16 +161,14 @@ pub tended_new : {L : Type 0} (seen : L → LineSeen) (size : ℕ) (a : Attendan
     → IsTended seen size a door [] []
 tended_new {L} seen size a door seat new =
     subst (λ (q : SeatPhase L). IsTended seen size (attendant a.machine q) door [] []) (sym seat.phase) (record {
-      attends = record {
-        before = [];
-        now = [];
-        got = [];
-        getting = [];
-        of_lines = rw new.none_over (refl, refl);
-        at_phase = (refl, refl, seat.awaits, seat.limit);
-        submitted_is = refl;
-        taken_is = refl;
-      };
+      before = [];
+      now = [];
+      got = [];
+      getting = [];
+      of_lines = rw new.none_over (refl, refl);
+      at_phase = (refl, refl, seat.awaits, seat.limit);
+      submitted_is = refl;
+      taken_is = refl;
       placed = (new.inside, new.more);
     })
 
@@ -205,7 +194,7 @@ still_open : {L : Type 0} (seen : L → LineSeen) (machine : SeatMachine) (line 
     → seen later ≡ seen line → Tends seen (attendant machine (phases.On line action sent)) door [] []
     (attendant machine (phases.On later action sent)) door
 still_open seen machine line later action sent door same size before got t =
-    let at = t.attends.at_phase in
+    let at = t.at_phase in
     moves_to seen size (attendant machine (phases.On line action sent)) machine (phases.On later action sent) door door before got t refl
     (omega arith) (at.0, same ∙ at.1, at.2) t.placed
 

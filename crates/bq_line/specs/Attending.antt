@@ -1,13 +1,11 @@
--- What a seat has done so far.
+-- What a seat has done so far for its open connection.
 use Rattle.std.specs.Prelude.{ℕ, ◌≡◌, List, [], ◌∷◌, ◌++◌, Option, Some, None}
 use Rattle.bq_job.specs.declared.answer.Answer.{Answer}
 use Rattle.bq_job.specs.declared.line_end.LineFault.{LineFault}
 use Rattle.bq_job.specs.declared.line_end.LineFault.TheVariants as faults
 use Rattle.bq_job.specs.declared.step.Step.{Step}
 use Rattle.bq_job.specs.declared.step.Step.TheVariants.{Gone}
-use Rattle.bq_job.specs.promise.History.{LineOver}
 use Rattle.bq_job.specs.promise.LineSteps.{IsCutOff, LineSeen, answers_text}
-use Rattle.bq_job.specs.beside.SeatDid.{AreLinesServed}
 use Rattle.bq_seat.specs.Past.{Awaited, Past, awaited_by, with_action}
 use Rattle.bq_seat.specs.Finds.{Finds}
 use Rattle.bq_seat.specs.SeatStands.{StandsFor, awaited}
@@ -48,15 +46,3 @@ IsAt seen max_job_size machine (phases.On line action sent) submitted taken =
     (first : LineSeen) × (seen line ≡ with_part action sent first) × IsOnLine max_job_size machine first action submitted taken
 IsAt seen max_job_size machine phases.Leaving submitted taken = (submitted ≡ []) × (taken ≡ [])
 IsAt seen max_job_size machine phases.Done submitted taken = (submitted ≡ Gone ∷ []) × (taken ≡ [])
-
--- What a seat did: the connections that have ended, and then the open one.
-pub record IsAttending {L : Type 0} (seen : L → LineSeen) (max_job_size : ℕ) (machine : SeatMachine) (phase : SeatPhase L)
-    (lines : List LineOver) (submitted : List Step) (taken : List Answer) : Type 0 where
-  pub before : List Step
-  pub now : List Step
-  pub got : List Answer
-  pub getting : List Answer
-  pub of_lines : AreLinesServed max_job_size lines before got
-  pub at_phase : IsAt seen max_job_size machine phase now getting
-  pub submitted_is : submitted ≡ before ++ now
-  pub taken_is : taken ≡ got ++ getting

@@ -6,12 +6,12 @@ use Rattle.bq_job.specs.declared.step.Step.{Step}
 use Rattle.bq_job.specs.declared.step.Step.TheVariants.{Gone}
 use Rattle.bq_job.specs.promise.History.{LineOver}
 use Rattle.bq_job.specs.promise.LineSteps.{LineSeen}
-use Rattle.bq_job.specs.beside.SeatDid.{IsSeatDone}
+use Rattle.bq_job.specs.beside.SeatDid.{AreLinesServed, IsSeatDone}
 use Rattle.bq_job.specs.machine.OneClient.{has_closed}
 use Rattle.bq_seat.specs.Past.{Awaited}
 use Rattle.bq_seat.specs.SeatStands.{awaited}
 use Rattle.bq_seat.specs.declared.machine.SeatMachine.{SeatMachine}
-use Rattle.bq_line.specs.Attending.{IsAttending}
+use Rattle.bq_line.specs.Attending.{IsAt}
 use Rattle.bq_line.specs.Carried.{CanEnd}
 use Rattle.bq_line.specs.Links.{Calls, as_submitted}
 use Rattle.bq_line.specs.Streams.{IsSureLine, StaysOver, StreamSeen}
@@ -50,11 +50,18 @@ IsPlaced (phases.On line action sent) door = (door.is_out ≡ true) × (door.is_
 IsPlaced phases.Leaving door = (door.is_out ≡ false) × (door.is_at_end ≡ true)
 IsPlaced phases.Done door = (door.is_out ≡ false) × (door.is_at_end ≡ true)
 
--- What a seat has done so far: it submitted these steps and took these answers, and its door is in
--- the matching state.
+-- What a seat has done so far: it submitted these steps and took these answers, for the connections
+-- that have ended and then for the open one. Its door is in the matching state.
 pub record IsTended {L : Type 0} (seen : L → LineSeen) (max_job_size : ℕ) (a : Attendant L) (door : DoorSeen)
     (submitted : List Step) (taken : List Answer) : Type 0 where
-  pub attends : IsAttending seen max_job_size a.machine a.phase door.lines_over submitted taken
+  pub before : List Step
+  pub now : List Step
+  pub got : List Answer
+  pub getting : List Answer
+  pub of_lines : AreLinesServed max_job_size door.lines_over before got
+  pub at_phase : IsAt seen max_job_size a.machine a.phase now getting
+  pub submitted_is : submitted ≡ before ++ now
+  pub taken_is : taken ≡ got ++ getting
   pub placed : IsPlaced a.phase door
 
 -- one if the action ends the connection, which was closed then
