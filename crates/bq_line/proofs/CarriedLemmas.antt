@@ -10,7 +10,7 @@ use Rattle.bq_seat.specs.declared.machine.SeatMachine.{SeatMachine}
 use Rattle.bq_seat.specs.declared.machine.Event.TheVariants as events
 use Rattle.bq_seat.specs.SeatMoves.{IsMove}
 use Rattle.bq_job.specs.texts.AnswerText.{answer_text}
-use Rattle.bq_line.specs.Carried.{CanEnd, Carried, CarriedPart, EndsAs, HasGone, IsWrittenAs, MayCall, with_part}
+use Rattle.bq_line.specs.Carried.{CanEnd, CarriedPart, EndsAs, HasGone, IsWrittenAs, MayCall, with_part}
 use Rattle.bq_line.specs.declared.attendant.Progress.{Progress}
 use Rattle.bq_line.specs.declared.attendant.Progress.TheVariants as results
 use Rattle.bq_line.specs.Writing.{BreaksOff, with_begun, with_written}
@@ -21,13 +21,7 @@ use Rattle.bq_line.specs.declared.attendant.SeatPhase.{SeatPhase}
 use Rattle.bq_line.specs.declared.attendant.SeatPhase.TheVariants as phases
 use Rattle.bq_job.specs.declared.line_end.LineEnd.{LineEnd}
 
-abbrev pub Comes : {K : Type 0} → (K → List Step → List Answer → K → Type 0) → Progress → SeatMachine → LineSeen → K → SeatMachine
-    → LineSeen → K → Action → Action → Type 0
-Comes trace result old seen link new later after next action =
-    (submitted : List Step) × (taken : List Answer) × HasGone trace link action submitted taken after
-    × Carried result old seen action new later next submitted taken
-
--- the same by parts
+-- An action was carried out, or a part of it, with what the link did.
 abbrev pub ComesOn : {K : Type 0} → (K → List Step → List Answer → K → Type 0) → Progress → SeatMachine → LineSeen → ℕ → K → SeatMachine
     → LineSeen → ℕ → K → Action → Action → Type 0
 ComesOn trace result old seen sent link new later now after next action =
@@ -37,13 +31,6 @@ ComesOn trace result old seen sent link new later now after next action =
 -- Nothing of an answer is written yet.
 pub none_begun : (action : Action) (line : LineSeen) → line ≡ with_part action 0 line
 none_begun action line = grind (arith, common_steps)
-
--- An action that writes no answer was carried out at once.
-pub at_once : {K : Type 0} (trace : K → List Step → List Answer → K → Type 0) (result : Progress) (old : SeatMachine) (seen : LineSeen)
-    (sent : ℕ) (link : K) (new : SeatMachine) (later : LineSeen) (after : K) (next action : Action)
-    → ((answer : Answer) → action ≡ actions.Write answer → ⊥) → Comes trace result old seen link new later after next action
-    → ComesOn trace result old seen sent link new later 0 after next action
-at_once trace result old seen sent link new later after next action other c = grind (arith, none_begun)
 
 module _ {K : Type 0} (trace : K → List Step → List Answer → K → Type 0) (old : SeatMachine) (seen later : LineSeen) (sent : ℕ) (link : K)
     {action : Action} {answer : Answer} (is : action ≡ actions.Write answer) where

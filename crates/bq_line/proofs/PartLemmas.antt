@@ -1,10 +1,9 @@
 -- Parts of a connection in memory that are done.
 use Rattle.std.proofs.Common.{◌≡◌, ◌<◌, ℕ, ◌+◌, ◌-◌, zero, suc, Bool, true, ◌||◌, ◌==◌, List}
-use Rattle.std.proofs.Common.{[], ◌∷◌, ◌++◌, refl, sym, ap, ◌∙◌, arith, append_assoc, length, take, drop, take-add}
+use Rattle.std.proofs.Common.{[], ◌∷◌, ◌++◌, refl, ap, arith, append_assoc, length, take, drop, take-add}
 use Rattle.std.proofs.Common.{get_or}
 use Rattle.std.proofs.lemmas.Grind.{common_steps}
-use Rattle.std.proofs.Math.Seq.{drop-cons}
-use Rattle.bq_line.specs.LineParts.{part_bytes, bytes_up_to, is_over, open_place}
+use Rattle.bq_line.specs.LineParts.{part_bytes, bytes_up_to, is_over}
 use Rattle.bq_line.specs.declared.line.mem_line.Part.{Part}
 use Rattle.bq_line.specs.declared.line.mem_line.Part.TheVariants as parts
 
@@ -49,12 +48,3 @@ passed_fault all place offset part lt is fault = passed_whole all place offset p
 -- A read that returns bytes does not end the connection's input.
 pub still_open : (ended : Bool) (n : ℕ) → 0 < n → ended ≡ (ended || n == 0)
 still_open ended n h2 = grind arith
-
-drop_at : (all : List Part) (place : ℕ) (part : Part) → place < length all → part ≡ get_or all place part
-    → drop place all ≡ part ∷ drop (suc place) all
-drop_at all place part lt is = drop-cons all place part lt ∙ ap (λ p. p ∷ drop (suc place) all) (sym is)
-
--- a part that is done is skipped
-pub open_next : (all : List Part) (place offset written : ℕ) (part : Part) → place < length all → part ≡ get_or all place part
-    → is_over offset written part ≡ true → open_place all (suc place) 0 written ≡ open_place all place offset written
-open_next all place offset written part lt is over = rw (drop_at all place part lt is, over) (omega arith)

@@ -1,5 +1,5 @@
 -- Texts that are written in several parts.
-use Rattle.std.proofs.Common.{◌≡◌, ℕ, zero, suc, ◌+◌, ◌-◌, ◌≤◌, Bool, true, List, [], ◌∷◌, ◌++◌}
+use Rattle.std.proofs.Common.{◌≡◌, ℕ, zero, suc, ◌-◌, ◌≤◌, Bool, true, List, [], ◌∷◌, ◌++◌}
 use Rattle.std.proofs.Common.{sym, ap, ◌∙◌, arith, length, take, drop, append_assoc, if◌then◌else◌}
 use Rattle.std.proofs.Common.{◌==◌, Result}
 use Rattle.std.proofs.lemmas.Grind.{common_steps}

@@ -8,14 +8,10 @@ use Rattle.bq_line.specs.declared.attendant.Progress.TheVariants as results
 use Rattle.bq_seat.specs.declared.machine.Action.{Action}
 use Rattle.bq_seat.specs.declared.machine.Action.TheVariants as actions
 
--- The link was asked to take the step of this action, and did not.
-abbrev pub IsRefused : {K : Type 0} → (K → Step → K → Type 0) → K → Action → K → Type 0
-IsRefused refused old (actions.Submit step) new = refused old step new
-IsRefused refused old _ new = ⊥
-
 -- The result is that the step was not accepted only if the link did not accept it, and that there is no mail only if the link had none.
 abbrev pub Lacks : {K : Type 0} → (K → Step → K → Type 0) → (K → K → Type 0) → Progress → K → Action → K → Type 0
-Lacks refused had_none results.NotAccepted old action new = IsRefused refused old action new
+Lacks refused had_none results.NotAccepted old (actions.Submit step) new = refused old step new
+Lacks refused had_none results.NotAccepted old _ new = ⊥
 Lacks refused had_none results.NoMail old action new = had_none old new
 Lacks refused had_none _ old action new = Unit {0}
 

@@ -1,5 +1,5 @@
 -- What a seat's link does.
-use Rattle.std.specs.Prelude.{◌≡◌, ◌⊎◌, Bool, true, false, List, [], ◌∷◌, ◌++◌, Result, Ok, Err, if◌then◌else◌}
+use Rattle.std.specs.Prelude.{◌≡◌, ◌⊎◌, Bool, true, false, List, [], ◌∷◌, ◌++◌, if◌then◌else◌}
 use Rattle.bq_job.specs.declared.answer.Answer.{Answer}
 use Rattle.bq_job.specs.declared.step.Step.{Step}
 use Rattle.bq_job.specs.promise.History.{is_tick}
@@ -11,13 +11,7 @@ use Rattle.bq_seat.specs.declared.machine.Action.TheVariants as actions
 abbrev pub as_submitted : Step → List Step
 as_submitted step = if is_tick step then [] else step ∷ []
 
--- The step was submitted, or it was returned and nothing was submitted.
-abbrev pub Submits : {K : Type 0} → (K → List Step → List Answer → K → Type 0) → K → Step → Result (Unit {0}) Step → K → Type 0
-Submits trace old step (Ok done) new = trace old (as_submitted step) [] new
-Submits trace old step (Err back) new = (back ≡ step) × trace old [] [] new
-
--- The same for a step passed by reference: the result says whether it was submitted, and a step
--- that was not is unchanged.
+-- The step was submitted, or it was not: then nothing was submitted, and the step is unchanged.
 abbrev pub SubmitsInPlace : {K : Type 0} → (K → List Step → List Answer → K → Type 0) → K → Step → Bool → Step → K → Type 0
 SubmitsInPlace trace old step true left new = trace old (as_submitted step) [] new
 SubmitsInPlace trace old step false left new = (left ≡ step) × trace old [] [] new

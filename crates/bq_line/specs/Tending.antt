@@ -1,6 +1,6 @@
 -- A seat that attends to a door, and what it does at each of its turns.
 use Rattle.std.specs.Prelude.{ℕ, ◌≡◌, ◌⊎◌, Bool, true, false, List, [], ◌∷◌, ◌++◌, None, ◌≤◌, ◌+◌, length}
-use Rattle.std.specs.List.{All}
+use Rattle.std.specs.List.{All, AllZip}
 use Rattle.bq_job.specs.declared.answer.Answer.{Answer}
 use Rattle.bq_job.specs.declared.step.Step.{Step}
 use Rattle.bq_job.specs.declared.step.Step.TheVariants.{Gone}
@@ -73,14 +73,6 @@ abbrev pub polls_by : Action → Bool
 polls_by actions.PollMail = true
 polls_by _ = false
 
-abbrev pub submits_by : Action → Bool
-submits_by (actions.Submit step) = true
-submits_by _ = false
-
-abbrev pub writes_by : Action → Bool
-writes_by (actions.Write answer) = true
-writes_by _ = false
-
 -- one if the seat's connection has ended, but was not shut yet
 abbrev pub over_now : {L : Type 0} → SeatPhase L → ℕ
 over_now (phases.On line action sent) = over_by action
@@ -93,13 +85,13 @@ is_polling _ = false
 
 -- whether the seat submits a step next, which may be that no more connections come
 abbrev pub is_submitting : {L : Type 0} → SeatPhase L → Bool
-is_submitting (phases.On line action sent) = submits_by action
+is_submitting (phases.On line (actions.Submit step) sent) = true
 is_submitting phases.Leaving = true
 is_submitting _ = false
 
 -- whether the seat writes an answer next
 abbrev pub is_writing : {L : Type 0} → SeatPhase L → Bool
-is_writing (phases.On line action sent) = writes_by action
+is_writing (phases.On line (actions.Write answer) sent) = true
 is_writing _ = false
 
 -- how many connections have ended at a seat
@@ -193,6 +185,4 @@ pub record IsDoorServed (max_job_size : ℕ) (door : DoorSeen) (submitted : List
 
 -- The doors that come back are those that were passed in, in order.
 abbrev pub AreSame : {D : Type 0} → (D → D → Type 0) → List D → List D → Type 0
-AreSame same [] [] = Unit {0}
-AreSame same (first ∷ firsts) (last ∷ lasts) = same first last × AreSame same firsts lasts
-AreSame same _ _ = ⊥
+AreSame same firsts lasts = AllZip same firsts lasts
