@@ -36,9 +36,6 @@ pub changed_phase : {L : Type 0} (seats : List (Attendant L)) (i : ℕ) (new : A
     → i < length seats → new.phase ≡ place → (slice_index_or (slice_set seats i new) i a).phase ≡ place
 changed_phase seats i new a place below is = ap (λ z. z.phase) (get_or-set_same seats i new a below) ∙ is
 
-pub changed_none : {L : Type 0} {seats : List (Attendant L)} {i : ℕ} → ChangesOnly i seats seats
-changed_none = record { many = refl; others = λ t differs a. refl }
-
 pub changed_then : {L : Type 0} {i : ℕ} {a b c : List (Attendant L)} → ChangesOnly i a b → ChangesOnly i b c → ChangesOnly i a c
 changed_then h k = grind arith
 

@@ -10,8 +10,7 @@ use Rattle.bq_job.specs.declared.step.Step.{Step}
 use Rattle.bq_job.specs.declared.step.Step.TheVariants.{Tick}
 use Rattle.bq_job.specs.machine.Dispatch.{GivenAnswer}
 use Rattle.bq_job.specs.promise.History.{is_tick}
-use Rattle.bq_seat.specs.declared.machine.Action.{Action}
-use Rattle.bq_line.specs.Links.{Calls, TakesInPlace}
+use Rattle.bq_line.specs.Links.{Calls}
 use Rattle.bq_host.specs.Clocks.{Gives}
 use Rattle.bq_host.specs.Hubs.{HubTrace, KeepsFresh, OnlyMoves, TraceInOrder, state_of, with_pending}
 use Rattle.bq_host.specs.MailStates.{IsInOrder, OnlyDelivers}
@@ -117,15 +116,6 @@ module _ {C K : Type 0} (k : Core K) where
     )
     trace_passed old t true false ready settings over ticked empty o = grind (arith, trace_over 0 old t true (over refl))
     trace_passed old t false due ready settings over ticked empty o = grind (arith, trace_over 0 old t false (over refl))
-
-    -- A seat took an answer after its hub stayed the same for all seats.
-    pub takes_on : (seat : ℕ) (first next last : Hub C K) (place after : Action) (took : Bool)
-        → HubTrace k c seat first [] [] next → TakesInPlace (HubTrace k c seat) next place took after last
-        → TakesInPlace (HubTrace k c seat) first place took after last
-    takes_on seat first next last place after true still takes =
-        (takes.0, takes.1, trace_then seat seat first next last [] [] [] (takes.0 ∷ []) refl still takes.2)
-    takes_on seat first next last place after false still takes =
-        (takes.0, trace_then seat seat first next last [] [] [] [] refl still takes.1)
 
     -- What a seat did, whether its link to the hub was used or not.
     pub called : (seat : ℕ) (first last : Hub C K) (submitted : List Step) (taken : List Answer)

@@ -1,6 +1,5 @@
 -- Properties that hold for each element of a list, as elements are added and taken.
-use Rattle.std.proofs.Common.{◌≡◌, ℕ, List, [], ◌∷◌, ◌++◌, Some, subst, sym, take, ◌+◌, replicate, arith, append-nil, length}
-use Rattle.std.proofs.lemmas.Grind.{common_steps}
+use Rattle.std.proofs.Common.{◌≡◌, ℕ, List, [], ◌∷◌, ◌++◌, Some, subst, sym, take, arith, append-nil, length}
 use Rattle.std.specs.List.{All, AllZip}
 use Rattle.std.specs.Option.{option_to_list}
 use Rattle.std.proofs.lemmas.List.Elements.{All-head, All-pop, All-push, All-rest, All-take}
@@ -19,9 +18,6 @@ first_passes xs ys x P e h = All-head P x ys (subst (All P) e h)
 
 pub rest_passes : {X : Type 0} (xs ys : List X) (x : X) (P : X → Type 0) → xs ≡ x ∷ ys → All P xs → All P ys
 rest_passes xs ys x P e h = All-rest P x ys xs e h
-
-pub one_more : {X : Type 0} (n : ℕ) (x y : X) (xs ys : List X) → xs ≡ replicate n x → ys ≡ xs ++ y ∷ [] → y ≡ x → ys ≡ replicate (n + 1) x
-one_more n x y xs ys xs_are ys_are same = grind (arith, common_steps)
 
 -- R holds place by place for two lists: `all`, and `done` followed by any elements for which it holds
 -- with the rest of `all`.

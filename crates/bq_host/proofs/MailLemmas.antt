@@ -1,7 +1,6 @@
 -- An answer is put into the mail of a seat, or taken out of it.
-use Rattle.std.proofs.Common.{◌≡◌, ℕ, ◌<◌, Bool, Option, List, [], ◌∷◌, ◌++◌, arith, length, slice_set}
-use Rattle.std.specs.Prelude.{IsNone, slice_index_or}
-use Rattle.std.specs.Option.{option_to_list}
+use Rattle.std.proofs.Common.{◌≡◌, ℕ, ◌<◌, Bool, List, [], ◌∷◌, ◌++◌, arith, length, slice_set}
+use Rattle.std.specs.Prelude.{slice_index_or}
 use Rattle.std.proofs.lemmas.{Bool.{eq-eqb, eqb-true, eqb-false}, Grind.common_steps}
 use Rattle.std.proofs.lemmas.List.{length-set}
 use Rattle.bq_job.specs.declared.answer.Answer.{Answer}
@@ -9,14 +8,6 @@ use Rattle.bq_job.specs.machine.Dispatch.{GivenAnswer}
 use Rattle.bq_job.specs.promise.Runs.{answers_to}
 use Rattle.bq_host.specs.{MailStates.{MailState, timed_of, waiting}, Traces.SeatTrace}
 use Rattle.bq_host.proofs.{TimedRunLemmas.ran_none, TraceLemmas.{only, seat_took}}
-
-pub still_at : (items : List (List Answer)) (i : ℕ) (old new : List Answer) → i < length items → old ≡ slice_index_or items i old
-    → new ≡ old → slice_set items i new ≡ items
-still_at items i old new below at is = grind (arith, common_steps)
-
--- No answer was taken out of a mail.
-pub none_taken : (taken : Option Answer) (old rest : List Answer) → old ≡ option_to_list taken ++ rest → IsNone taken → rest ≡ old
-none_taken taken old rest is none = grind arith
 
 -- the seat took its oldest answer
 pub seat_takes : (d : MailState) (seat i : ℕ) (old rest taken : List Answer) → i ≡ seat → i < length d.mails

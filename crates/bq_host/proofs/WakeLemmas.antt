@@ -9,7 +9,7 @@ use Rattle.std.proofs.lemmas.List.{get_or-set_other, get_or-set_same, get_or_def
 use Rattle.bq_job.specs.declared.answer.Answer.{Answer}
 use Rattle.bq_job.specs.promise.Runs.{answers_to}
 use Rattle.bq_job.specs.machine.Dispatch.{GivenAnswer}
-use Rattle.bq_host.specs.MailStates.{MailState, OnlyDelivers, waiting}
+use Rattle.bq_host.specs.MailStates.{MailState, OnlyDelivers}
 use Rattle.bq_host.specs.Marks.{times}
 use Rattle.bq_host.specs.WakeLists.{WakeList, Wakes, to_wake}
 
@@ -58,9 +58,6 @@ wakes_posted old new seat answer w many put = record {
   where
     b : Bool
     b = nat_lt seat w.seats && (times seat w.waiting == 0)
-
-    other : (t : ℕ) → (seat == t) ≡ false → answers_to t ((seat, answer) ∷ []) ≡ []
-    other t e = rw e refl
 
     at : (t : ℕ) → t < w.seats → slice_index_or old t [] ≡ [] → ((seat == t) ≡ true) × (seat ≡ t) ⊎ ((seat == t) ≡ false) × (seat ≢ t)
         → (t < length old) ⊎ (length old ≤ t) → (slice_index_or new t [] ≡ []) ⊎ (0 < times t (to_wake seat w).waiting)

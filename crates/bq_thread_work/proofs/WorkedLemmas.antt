@@ -45,10 +45,6 @@ gone_only : (seat : ℕ) (what : Step) (flags : List Bool) (t : ℕ) → IsSet (
     → IsSet flags t ⊎ ((t ≡ seat) × (what ≡ Gone))
 gone_only seat what flags t set = grind (arith, common_steps)
 
--- No flag is added or taken away.
-pub same_many : (seat : ℕ) (what : Step) (old new : List Bool) → new ≡ gone_after seat what old → length new ≡ length old
-same_many seat what old new marked = grind (arith, common_steps)
-
 marks : (seat : ℕ) (what : Step) (old new : List Bool) (all : List (ℕ × Step)) → new ≡ gone_after seat what old
     → ((t : ℕ) → IsSet old t → HasGone (steps_of t all)) → (t : ℕ) → IsSet new t → HasGone (steps_of t (all ++ (seat, what) ∷ []))
 marks seat what old new all m h t set = elim (gone_only seat what old t (rw m at set)) [

@@ -1,8 +1,4 @@
-use Rattle.std.proofs.Common.{◌≡◌, ◌&&◌, Bool, false, true, arith}
 use Rattle.bq_host.proofs.timed_core.TimedCore.tick_if_due.Goals as goal
-
-not_due : (may : Bool) → (may && false) ≡ true → ⊥
-not_due may e = grind arith
 
 pub returns-then-may_tick-clause-ticked : goal.returns-then-may_tick-clause-ticked
 returns-then-may_tick-clause-ticked g c = λ e.
