@@ -1,6 +1,6 @@
 //! A hub, at which one thread serves seats: the core with its clock, and the answers that no seat has
 //! taken yet.
-ghost use Rattle.std.specs.Prelude.{◌≡◌, ◌<◌, ◌≤◌, ◌+◌, ◌++◌, ◌∷◌, [], ℕ, None, Option, Some, true, false};
+ghost use Rattle.std.specs.Prelude.{◌≡◌, ◌<◌, ◌≤◌, ◌+◌, ◌++◌, ◌∷◌, [], ℕ, None, Some, true, false};
 ghost use Rattle.std.specs.Prelude.{◌↔◌, ◌⊎◌, ◌&&◌, not, IfErr, IfOk, IsErrOf, IsTrue, IsNone, MatchResult, length, slice_index_or, if◌then◌else◌};
 ghost use Rattle.std.specs.Option.{option_to_list};
 ghost use Rattle.bq_job.specs.declared.answer.Answer.{Answer};

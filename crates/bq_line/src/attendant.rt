@@ -1,7 +1,7 @@
 //! A seat that attends to a door: it serves the door's connections one after another, one action at
 //! a time. Also its link to the core, and how one action is carried out at its connection and its
 //! link.
-ghost use Rattle.std.specs.Prelude.{◌≡◌, ◌⊎◌, ◌≤◌, ◌↔◌, [], false, true, not, IfOk, IsTrue, ◌<◌, ◌++◌, ℕ, List, length};
+ghost use Rattle.std.specs.Prelude.{◌≡◌, ◌⊎◌, ◌≤◌, ◌↔◌, [], false, true, not, IfOk, IsTrue, ℕ, List};
 ghost use Rattle.bq_seat.specs.Outstanding.{ReadsWith};
 ghost use Rattle.bq_seat.specs.Past.{Awaited};
 ghost use Rattle.bq_seat.specs.SeatStands.{awaited};
@@ -11,7 +11,6 @@ ghost use Rattle.bq_line.specs.Tending.{DoorSeen, GoesOn, IsPlaced, MayEndAt, Mo
 ghost use Rattle.bq_line.specs.Tending.{is_polling, is_submitting, is_writing};
 ghost use Rattle.bq_job.specs.declared.answer.Answer.{Answer};
 ghost use Rattle.bq_job.specs.declared.step.Step.{Step};
-ghost use Rattle.bq_job.specs.promise.LineSteps.{LineSeen};
 ghost use Rattle.bq_line.specs.Streams.{StaysOver};
 ghost use Rattle.bq_line.specs.Carried.{Carried, CarriedPart, HasGone};
 ghost use Rattle.bq_line.specs.Lacking.{Lacks, LacksAt};

@@ -1,5 +1,5 @@
 //! A desk that threads share, and the links to it.
-ghost use Rattle.std.specs.Prelude.{◌≡◌, ◌≤◌};
+ghost use Rattle.std.specs.Prelude.{◌≤◌};
 
 use crate::bells::{Bells, Rings};
 use bq_job::{Answer, Seat, Step};

@@ -1,6 +1,6 @@
 //! The visits of a round: the actions that a visited seat does without waiting, before other seats
 //! have their turn.
-ghost use Rattle.std.specs.Prelude.{◌≡◌, ◌-◌, ◌&&◌, not, true, false, IsNone};
+ghost use Rattle.std.specs.Prelude.{◌≡◌, ◌-◌, not, true, false, IsNone};
 ghost use Rattle.bq_event_loop.specs.Visits.{actions_of, cost_of, is_over_after, left_after, only_writes, task_in, turn_of};
 
 use crate::turns::{Stands, Task, Turn};

@@ -1,4 +1,4 @@
-ghost use Rattle.std.specs.Prelude.{◌≡◌, ◌≤◌, ◌+◌, ◌++◌, ◌∷◌, ◌-◌, [], drop, length, map, vec_len, if◌then◌else◌};
+ghost use Rattle.std.specs.Prelude.{◌≡◌, ◌≤◌, ◌+◌, ◌++◌, ◌-◌, [], drop, length, map, vec_len, if◌then◌else◌};
 ghost use Rattle.std.specs.Prelude.{◌↔◌, IfErr, IfOk, IsNone, Ok, false, true};
 ghost use Rattle.std.specs.List.{All};
 ghost use Rattle.std.specs.Option.{option_to_list};

@@ -1,5 +1,5 @@
 //! A connection: the stream of a client over a socket, with what is known of its readiness.
-ghost use Rattle.std.specs.Prelude.{◌≡◌, Bool, IfOk, None, OnErr, OnOk, ◌++◌, false, not, true};
+ghost use Rattle.std.specs.Prelude.{◌≡◌, IfOk, None, OnErr, OnOk, ◌++◌, false, not, true};
 ghost use Rattle.std.specs.Option.{option_map};
 ghost use Rattle.bq_line.specs.Ready.{KeepsReports, both};
 ghost use Rattle.bq_line.specs.Streams.{FailsIf, KeepsWaits, MovesNothing, ReadsFrom, WritesTo, stream_seen};

@@ -1,4 +1,4 @@
-ghost use Rattle.std.specs.Prelude.{◌≡◌, ◌≤◌, ◌<◌, ◌+◌, length, vec_len, min, take, slice_get, IfOk, IsOk, IsErr, IfSome, false, true};
+ghost use Rattle.std.specs.Prelude.{◌≡◌, ◌≤◌, ◌<◌, ◌+◌, length, vec_len, min, slice_get, IfOk, IsOk, IsErr, IfSome, false, true};
 ghost use Rattle.std.specs.Io.{ReadsAtMost, WritesAtMost};
 ghost use Rattle.std.specs.Vec.{vec_capacity};
 ghost use Rattle.bq_line.specs.LineCalls.{after_flush, after_read, after_write, new_line};

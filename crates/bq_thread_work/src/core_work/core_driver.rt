@@ -40,7 +40,6 @@ impl<C: Clock + Drop, K: QueueCore + Drop> CoreDriver<C, K> {
     ghost use Rattle.bq_job.specs.machine.Machine.{new_machine};
     ghost use Rattle.bq_link.specs.NewEnds.{IsNewCore};
     ghost use Rattle.bq_link.specs.Submissions.{MayTake};
-    ghost use Rattle.std.specs.Prelude.{ℕ};
     ghost use Rattle.bq_host.specs.Timed.{TakesStep};
     ghost use Rattle.bq_thread_work.specs.CoreWork.{IsNewRoom};
     ghost use Rattle.bq_thread_work.specs.Sending.{AreStuck};
