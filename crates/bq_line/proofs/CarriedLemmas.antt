@@ -10,16 +10,13 @@ use Rattle.bq_seat.specs.declared.machine.SeatMachine.{SeatMachine}
 use Rattle.bq_seat.specs.declared.machine.Event.TheVariants as events
 use Rattle.bq_seat.specs.SeatMoves.{IsMove}
 use Rattle.bq_job.specs.texts.AnswerText.{answer_text}
-use Rattle.bq_line.specs.Carried.{CanEnd, CarriedPart, EndsAs, HasGone, IsWrittenAs, MayCall, with_part}
+use Rattle.bq_line.specs.Carried.{CanEnd, CarriedPart, HasGone, IsWrittenAs, MayCall, with_part}
 use Rattle.bq_line.specs.declared.attendant.Progress.{Progress}
 use Rattle.bq_line.specs.declared.attendant.Progress.TheVariants as results
 use Rattle.bq_line.specs.Writing.{BreaksOff, with_begun, with_written}
-use Rattle.bq_line.specs.Links.{Calls, as_submitted}
+use Rattle.bq_line.specs.Links.{as_submitted}
 use Rattle.bq_line.specs.Submitting.{HasSubmittedOn, TakesOrWaits}
-use Rattle.bq_line.specs.Tending.{MayEndAt, Uses}
-use Rattle.bq_line.specs.declared.attendant.SeatPhase.{SeatPhase}
-use Rattle.bq_line.specs.declared.attendant.SeatPhase.TheVariants as phases
-use Rattle.bq_job.specs.declared.line_end.LineEnd.{LineEnd}
+use Rattle.bq_line.specs.Tending.{Uses}
 
 -- An action was carried out, or a part of it, with what the link did.
 abbrev pub ComesOn : {K : Type 0} → (K → List Step → List Answer → K → Type 0) → Progress → SeatMachine → LineSeen → ℕ → K → SeatMachine
@@ -77,18 +74,6 @@ pub gone : {K : Type 0} (trace : K → List Step → List Answer → K → Type 
     → ((submitted : List Step) (taken : List Answer) → trace first submitted taken last → P submitted taken) → (last ≡ first → P [] [])
     → HasGone trace first action submitted taken last → MayCall action submitted taken → P submitted taken
 gone trace P first last action submitted taken h7 h8 h9 h10 = grind arith
-
-pub ends_on : {L : Type 0} (result : Progress) (phase : SeatPhase L) (line : L) (action : Action) (sent : ℕ)
-    → phase ≡ phases.On line action sent → ((end : LineEnd) → action ≡ actions.LineOver end → ⊥) → CanEnd result action
-    → MayEndAt result phase
-ends_on result phase line action sent e other c = grind arith
-
--- Unless something moved, the link submitted nothing and took nothing.
-pub rests : {K : Type 0} (trace : K → List Step → List Answer → K → Type 0) (result : Progress) (first last : K) (action : Action)
-    (submitted : List Step) (taken : List Answer)
-    → HasGone trace first action submitted taken last → MayCall action submitted taken → EndsAs result action submitted taken
-    → (result ≡ results.Moved → ⊥) → Calls trace first [] [] last
-rests trace result first last action submitted taken h c ends moved = grind arith
 
 -- The answer that the place for the next action lends is the one that the action writes.
 pub writes_this : {action : Action} {lent : Answer} (writes : (answer : Answer) × (action ≡ actions.Write answer))

@@ -1,6 +1,6 @@
 -- How many connections have ended at a seat, and how often it was answered `Closed`.
 use Rattle.std.proofs.Common.{ℕ, ◌≡◌, ◌≤◌, true, false, List, [], ◌∷◌, ◌++◌, length}
-use Rattle.std.proofs.Common.{refl, sym, ap, ◌∙◌, arith, append-nil}
+use Rattle.std.proofs.Common.{refl, ap, arith, append-nil}
 use Rattle.bq_job.specs.beside.Closings.{closes, closings}
 use Rattle.bq_job.specs.declared.answer.Answer.{Answer}
 use Rattle.bq_job.specs.declared.step.Step.{Step}
@@ -44,10 +44,8 @@ unclosed_steps (step ∷ taken) h = unclosed_steps taken h
 -- no close was submitted before this step
 turn_closings : (step : Step) (taken : List Step) (mail : List Answer) → IsInTurn step taken mail → closings taken ≡ 0
 turn_closings steps.Connect taken mail t = ap closings t
-turn_closings (steps.Ask request) taken mail t =
-    ap closings (t.1.steps_are ∙ sym (append-nil _)) ∙ asked_steps_closings t.0 [] refl
-turn_closings steps.End taken mail t =
-    ap closings (t.1.steps_are ∙ sym (append-nil _)) ∙ asked_steps_closings t.0 [] refl
+turn_closings (steps.Ask request) taken mail t = grind (arith, append-nil, asked_steps_closings t.0 [] refl)
+turn_closings steps.End taken mail t = grind (arith, append-nil, asked_steps_closings t.0 [] refl)
 turn_closings steps.Close taken mail t = grind (arith, asked_steps_closings)
 turn_closings _ taken mail t = absurd t
 

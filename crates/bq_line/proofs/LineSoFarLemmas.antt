@@ -1,6 +1,7 @@
 -- An open connection so far, whatever action comes next: its steps, and what was written to it.
 use Rattle.std.proofs.Common.{◌≡◌, ℕ, List, [], ◌∷◌, ◌++◌, Option, Some, None, take}
-use Rattle.std.proofs.Common.{refl, sym, ap, ◌∙◌, subst, append_assoc}
+use Rattle.std.proofs.Common.{refl, sym, ap, ◌∙◌, subst, arith}
+use Rattle.std.proofs.lemmas.Grind.{common_steps}
 use Rattle.bq_job.specs.declared.answer.Answer.{Answer}
 use Rattle.bq_job.specs.declared.line_end.LineFault.{LineFault}
 use Rattle.bq_job.specs.declared.line_end.LineFault.TheVariants as faults
@@ -23,25 +24,13 @@ use Rattle.bq_line.proofs.WritingLemmas.{take_begins}
 -- fewer steps
 steps_fewer : (size : ℕ) (line : LineHeard) (all taken more : List Step) → all ≡ taken ++ more → IsStepsSoFar size line all
     → IsStepsSoFar size line taken
-steps_fewer size line all taken more is s = record {
-  first = s.first;
-  rest = s.rest;
-  asked = s.asked;
-  end_steps = s.end_steps;
-  more = more ++ s.more;
-  read_is = s.read_is;
-  reads = s.reads;
-  ends = s.ends;
-  begins = s.begins ∙ ap (λ (xs : List Step). xs ++ s.more) is ∙ append_assoc taken more s.more;
-}
+steps_fewer size line all taken more is s = grind (arith, common_steps)
 
 written_begins : (fault : Option LineFault) (handed : List Answer) (bytes : List ℕ) → IsWrittenSo fault handed bytes
     → IsBeginning bytes (answers_text handed)
 written_begins None handed bytes w = begins_whole bytes (answers_text handed) w
 written_begins (Some faults.Read) handed bytes w = begins_whole bytes (answers_text handed) w
-written_begins (Some faults.Write) handed bytes w =
-    subst (λ (xs : List Answer). IsBeginning bytes (answers_text xs)) (sym w.answers_are)
-    (texts_cut bytes w.cut w.first w.last w.written_is w.is_beginning)
+written_begins (Some faults.Write) handed bytes w = grind (arith, common_steps)
 
 -- ---- an open line
 
@@ -93,7 +82,6 @@ pub line_so_far : (size : ℕ) (machine : SeatMachine) (line : LineSeen) (action
     → IsLineOwedSoFar size (with_part action sent line) submitted (taken ++ waiting)
 line_so_far size machine line (actions.Submit step) sent submitted taken waiting o =
     quiet size machine line (actions.Submit step) submitted (step ∷ []) taken waiting o refl refl refl refl
-line_so_far size machine line (actions.Write answer) sent submitted taken waiting o =
-    writing size machine line answer sent submitted taken waiting o
+line_so_far size machine line (actions.Write answer) sent submitted taken waiting o = search writing
 line_so_far size machine line action sent submitted taken waiting o =
     quiet size machine line action submitted [] taken waiting o (same_steps o.past.steps) refl refl refl

@@ -1,6 +1,7 @@
 -- A seat and its door continue with each thing that the seat does.
 use Rattle.std.proofs.Common.{ℕ, ◌≡◌, ◌≤◌, true, false, List, [], ◌∷◌, ◌++◌, length}
 use Rattle.std.proofs.Common.{refl, sym, ap, ◌∙◌, arith, subst, append-nil, append_assoc, length-append, inl, inr}
+use Rattle.std.proofs.lemmas.Grind.{common_steps}
 use Rattle.bq_job.specs.declared.answer.Answer.{Answer}
 use Rattle.bq_job.specs.declared.line_end.LineEnd.{LineEnd}
 use Rattle.bq_job.specs.declared.step.Step.{Step}
@@ -31,16 +32,10 @@ use Rattle.bq_line.proofs.CountedLemmas.{carried_counted}
 use Rattle.bq_line.proofs.SeatLemmas.{carried_on, line_served, opened_on}
 
 -- nothing more was submitted and taken
-none_more : {L : Type 0} (seen : L → LineSeen) (size : ℕ) (a : Attendant L) (door : DoorSeen) (before : List Step) (got : List Answer)
-    → IsTended seen size a door before got → IsTended seen size a door (before ++ []) (got ++ [])
-none_more seen size a door before got h = rw (append-nil before, append-nil got) h
-
--- The same with the seat's connections counted: it took nothing.
 none_taken : {L : Type 0} (seen : L → LineSeen) (size : ℕ) (old new : Attendant L) (door next : DoorSeen) (before : List Step)
     (got : List Answer) → ended_lines old door ≤ ended_lines new next → IsTended seen size new next before got
     → IsTended seen size new next (before ++ []) (got ++ []) × IsCounted old door [] new next
-none_taken seen size old new door next before got grows h =
-    (none_more seen size new next before got h, record { grows = grows; unclosed = λ p. refl })
+none_taken seen size old new door next before got grows h = grind (arith, common_steps)
 
 -- The seat moved to another phase, with what was submitted and taken for its open connection so far.
 moves_to : {L : Type 0} (seen : L → LineSeen) (size : ℕ) (old : Attendant L) (new : SeatMachine) (phase : SeatPhase L)
@@ -70,9 +65,7 @@ pub tends_opened : {L : Type 0} (seen : L → LineSeen) (old new : SeatMachine) 
     → seen line ≡ new_line
     → Tends seen (attendant old phases.Between) door [] [] (attendant new (phases.On line action 0)) next
 tends_opened seen old new line action door next move over out more fresh size before got t =
-    let at = t.at_phase in
-    moves_to seen size (attendant old phases.Between) new (phases.On line action 0) door next before got t over (omega arith)
-    (seen line, none_begun action (seen line), rw (at.0, at.1) (opened_on size old new action (seen line) at.2 at.3 move fresh)) (out, more)
+    grind (arith, common_steps, moves_to, none_begun action (seen line), opened_on)
 
 -- A connection that has ended was shut.
 pub tends_shut : {L : Type 0} (seen : L → LineSeen) (machine : SeatMachine) (line : L) (end : LineEnd) (sent : ℕ) (door next : DoorSeen)

@@ -1,7 +1,6 @@
-use Rattle.std.proofs.Common.{[], ◌∙◌, ap, refl, inl, inr, arith}
-use Rattle.bq_seat.specs.NextActions.{does_of}
+use Rattle.std.proofs.Common.{[], refl, inl, inr, arith}
 use Rattle.bq_line.specs.Tending.{door_seen}
-use Rattle.bq_line.proofs.CarriedLemmas.{ends_on, rests, uses_carried}
+use Rattle.bq_line.proofs.CarriedLemmas.{uses_carried}
 use Rattle.bq_line.proofs.TendingLemmas.{from_phase, on_action, tends_acted, tends_submitted}
 use Rattle.bq_line.proofs.attendant.Attendant.go_on.Goals as goal
 
@@ -33,14 +32,10 @@ returns-in_default-does-clause-trace g c =
     from_phase g.K.Link.trace _ _ c.in-On.is (h.0, h.1, t.0, t.1 at)
 
 pub returns-in_default-does-clause-progress : goal.returns-in_default-does-clause-progress
-returns-in_default-does-clause-progress g c =
-    ends_on _ _ c.in-On.line c.in-On.action c.in-On.sent c.in-On.is
-    (λ end is. c.in_default-does.not-LineOver end (c.does.ensures.does ∙ ap does_of is)) c.carry_out.ensures.carried.3.0.can_end
+returns-in_default-does-clause-progress g c = grind arith
 
 pub returns-in_default-does-clause-still : goal.returns-in_default-does-clause-still
-returns-in_default-does-clause-still g c = λ moved.
-    let h = c.carry_out.ensures.carried in
-    rests g.K.Link.trace _ _ _ c.in-On.action h.0 h.1 h.2 h.3.1 h.3.0 moved
+returns-in_default-does-clause-still g c = grind arith
 
 pub returns-in_default-does-clause-sure : goal.returns-in_default-does-clause-sure
 returns-in_default-does-clause-sure g c = grind arith
