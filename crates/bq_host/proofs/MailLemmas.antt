@@ -5,20 +5,14 @@ use Rattle.std.proofs.lemmas.{Bool.{eq-eqb, eqb-true, eqb-false}, Grind.common_s
 use Rattle.std.proofs.lemmas.List.{length-set}
 use Rattle.bq_job.specs.declared.answer.Answer.{Answer}
 use Rattle.bq_job.specs.machine.Dispatch.{GivenAnswer}
-use Rattle.bq_job.specs.promise.Runs.{answers_to}
-use Rattle.bq_host.specs.{MailStates.{MailState, timed_of, waiting}, Traces.SeatTrace}
+use Rattle.bq_host.specs.{MailStates.{MailState}, Traces.SeatTrace}
 use Rattle.bq_host.proofs.{TimedRunLemmas.ran_none, TraceLemmas.{only, seat_took}}
 
 -- the seat took its oldest answer
 pub seat_takes : (d : MailState) (seat i : ℕ) (old rest taken : List Answer) → i ≡ seat → i < length d.mails
     → old ≡ slice_index_or d.mails i old → old ≡ taken ++ rest
     → SeatTrace seat d [] [] taken (record d { mails = slice_set d.mails i rest })
-seat_takes d seat i old rest taken same below at is =
-    seat_took d (record d { mails = slice_set d.mails i rest }) seat [] taken (ran_none (timed_of d))
-    (length-set d.mails i rest) (λ t here. tied_at t)
-  where
-    tied_at : (t : ℕ) → waiting t d ≡ only seat taken t ++ (slice_index_or (slice_set d.mails i rest) t [] ++ answers_to t d.pending)
-    tied_at t = grind (arith, common_steps)
+seat_takes d seat i old rest taken same below at is = grind (arith, common_steps, seat_took, ran_none, length-set, only)
 
 -- A seat whose mail is empty took the oldest pending answer, which was its own.
 pub seat_takes_pending : (d : MailState) (seat : ℕ) (answer : Answer) (rest : List GivenAnswer) (delivered : Bool)

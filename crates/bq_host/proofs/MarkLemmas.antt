@@ -74,10 +74,7 @@ module _ {M : Type 0} (p : M → Bool) (away : M) where
   -- There is room for one more.
   pub room : (xs : List ℕ) (marks : List M) (s : ℕ) (y : M) → HasMarks p away xs marks → s < length marks
       → p (slice_index_or marks s away) ≡ false → p y ≡ true → length xs < length marks
-  room xs marks s y has below was is =
-      let most = fits (xs ++ s ∷ []) (slice_set marks s y) (entered xs marks s y has below was is) in
-      let more : length (xs ++ s ∷ []) ≡ length xs + 1 = grind (arith, common_steps) in
-      omega (arith, most, length-set marks s y, more)
+  room xs marks s y has below was is = grind (arith, common_steps, fits, entered xs marks s y has below was is, length-set marks s y)
 
   -- The mark of a seat of a list.
   pub marked : (xs ys : List ℕ) (marks : List M) (s : ℕ) → HasMarks p away (xs ++ s ∷ ys) marks

@@ -28,13 +28,7 @@ the_empty = []
 tied_on : (t : ℕ) (first next last : MailState) (given later : List GivenAnswer) (taken more : List Answer)
     → waiting t first ++ answers_to t given ≡ taken ++ waiting t next → waiting t next ++ answers_to t later ≡ more ++ waiting t last
     → waiting t first ++ answers_to t (given ++ later) ≡ (taken ++ more) ++ waiting t last
-tied_on t first next last given later taken more h i =
-    ap (λ (xs : List Answer). waiting t first ++ xs) (answers_append t given later)
-    ∙ sym (append_assoc (waiting t first) (answers_to t given) (answers_to t later))
-    ∙ ap (λ (xs : List Answer). xs ++ answers_to t later) h
-    ∙ append_assoc taken (waiting t next) (answers_to t later)
-    ∙ ap (λ (xs : List Answer). taken ++ xs) i
-    ∙ sym (append_assoc taken more (waiting t last))
+tied_on t first next last given later taken more h i = grind (arith, answers_append, append_assoc)
 
 -- what the core did, whatever was taken out of the mail
 ran_of : (d n : MailState) (readings : List (Option ℕ)) (history : List Entry) (took : ℕ → List Answer)

@@ -50,6 +50,7 @@ impl<'a, C: Clock + Drop, K: QueueCore + Drop> Link for HubSeat<'a, C, K> {
     }
 
     // The hub's mail never sleeps.
+    #[tactic(auto, using(crate::proofs::HubSeatLemmas::took_further))]
     fn mail_at_once(&mut self, action: &mut NextAction) -> bool {
         self.hub.take_to(self.seat, action)
     }

@@ -6,9 +6,4 @@ pub returns-then-self-clause-trace : goal.returns-then-self-clause-trace
 returns-then-self-clause-trace g c = (c.requires.order, trace_none g.K.QueueCore g.C.Clock c.args.seat c.args.self.now)
 
 pub returns-clause-trace : goal.returns-clause-trace
-returns-clause-trace g c =
-    grind (
-      arith,
-      trace_delivered g.K.QueueCore g.C.Clock c.args.seat c.args.self.now c.deliver_pending.new.self
-          c.deliver_pending.ensures.delivered,
-    )
+returns-clause-trace g c = grind (arith, trace_delivered g.K.QueueCore g.C.Clock c.args.seat c.args.self.now c.deliver_pending.new.self)
