@@ -1,6 +1,6 @@
 -- What the threads of a run did, combined along the core's history.
 use Rattle.std.proofs.Common.{◌≡◌, ℕ, zero, suc, ◌+◌, ◌<◌, Bool, true, List, [], ◌∷◌, ◌++◌, Option, map, filter, length}
-use Rattle.std.proofs.Common.{refl, sym, ap, ◌∙◌, arith, subst, inl, inr, append-nil, add-zero, slice_index_or, not, nat_le}
+use Rattle.std.proofs.Common.{refl, sym, ap, ◌∙◌, arith, subst, append-nil, add-zero, slice_index_or, not, nat_le}
 use Rattle.std.specs.Prelude.{◌==◌}
 use Rattle.std.specs.List.{list_all}
 use Rattle.std.proofs.lemmas.List.{get_or_append_left, length-append, length-map}
@@ -55,8 +55,7 @@ tickless_whole (x ∷ xs) h = rw h.0 (ap (λ (ys : List (ℕ × Step)). x ∷ ys
 seats_below : (seats : ℕ) (entries : List Entry) → AreBelow (seats + 1) (pairs entries)
     → list_all (λ (e : Entry). nat_le e.seat seats) entries ≡ true
 seats_below seats [] h = refl
-seats_below seats (e ∷ entries) h =
-    rw (le-leb e.seat seats (omega (arith, h.0))) (seats_below seats entries h.1)
+seats_below seats (e ∷ entries) h = grind (arith, le-leb, seats_below seats entries h.1)
 
 -- the answers that the end at a place took, and those that wait for it
 taken_at : List SeatState → ℕ → List Answer
@@ -128,14 +127,7 @@ module _ {D : Type 0} (at : D → DoorSeen) (settings : Settings) (readings : Li
       (end_at place e).taken s.done
 
   ends_by_gone : (place : ℕ) (e : SeatState) → place < length ends → EndsByGone (end_at place e).submitted
-  ends_by_gone place e below = elim (cases_Bool (place == settings.seats)) [
-    | inl same ↦ rw (eqb-true place settings.seats same)
-        (control_ends_by_gone text failed (end_at settings.seats e).submitted (a.control_done e))
-    | inr other ↦
-        let less : place < length doors = let m = a.many in let d = a.doored in let n = eqb-false place settings.seats other in
-        omega (arith, below) in
-        door_ends_by_gone place e less
-  ]
+  ends_by_gone place e below = grind (arith, cases_Bool, eqb-true, control_ends_by_gone, eqb-false, door_ends_by_gone)
 
   submitted_is : (place : ℕ) (e : SeatState) → place < length ends → steps_at place history ≡ (end_at place e).submitted
   submitted_is place e below =
@@ -148,16 +140,7 @@ module _ {D : Type 0} (at : D → DoorSeen) (settings : Settings) (readings : Li
       ∙ sym (s.submitted_is ∙ ap (λ (xs : List Step). steps_of place core.taken ++ xs) none ∙ append-nil (steps_of place core.taken))
 
   end_of : (place : ℕ) (e : SeatState) → place < length ends → IsEndOf history given core place (end_at place e)
-  end_of place e below =
-      let s = a.settled place e below in
-      let within : place < settings.seats + 1 = let m = a.many in omega (arith, below) in
-      record {
-        number = s.number;
-        pair = s.pair;
-        submitted_is = submitted_is place e below;
-        given_is = a.core_done.sent_is place within;
-        sent_is = sym s.sent_is;
-      }
+  end_of place e below = grind (arith, submitted_is)
 
   pub linked : IsLinked settings.seats history given core ends
   linked = record { many = a.many; taken_is = taken_is; each = end_of }
@@ -205,8 +188,7 @@ module _ {D : Type 0} (at : D → DoorSeen) (settings : Settings) (readings : Li
       rw (submitted_is settings.seats e here) (a.control_done e)
 
   nobody_else : list_all (λ (e : Entry). nat_le e.seat settings.seats) (without_ticks history) ≡ true
-  nobody_else = seats_below settings.seats (without_ticks history)
-      (rw taken_is a.core_done.numbers)
+  nobody_else = grind (arith, seats_below, taken_is)
 
   -- One history of all threads.
   pub record IsJoinedRun : Type 0 where
@@ -309,5 +291,4 @@ run_keeps law first (t ∷ taken) last g =
 -- A run does not change the settings.
 pub run_keeps_settings : StepsKeepSettings → (settings : Settings) (readings : List (Option ℕ)) (history : List Entry)
     (given : List GivenAnswer) (last : Machine) → IsRun settings readings history given last → last.settings ≡ settings
-run_keeps_settings law settings readings _ _ last run =
-    run_keeps law (new_machine settings) run.runs.1.taken last run.runs.1.goes
+run_keeps_settings law settings readings _ _ last run = grind (arith, run_keeps)

@@ -3,7 +3,6 @@ use Rattle.std.proofs.Common.{◌≡◌, ◌==◌, ◌&&◌, ℕ, zero, suc, ◌
 use Rattle.std.proofs.Common.{◌∷◌, ◌++◌, ◌∙◌, Some, map, length, refl, sym, ap, arith}
 use Rattle.std.proofs.Common.{slice_get, slice_index_or}
 use Rattle.std.specs.Prelude.{◌↔◌, IsErrOf, IsTrue, Result}
-use Rattle.std.proofs.lemmas.Bool.{eq-eqb}
 use Rattle.bq_job.specs.declared.settings.Settings.{Settings}
 use Rattle.bq_core_api.specs.Limits.{are_in_range}
 use Rattle.std.specs.List.{All, AllZip}
@@ -85,15 +84,9 @@ no_fault t fault e = absurd cc
 pub other_fault : {T : Type 0} → IsErrOf {T = T} {E = RunFault} (Err NoMemory) BadConfiguration → ⊥
 other_fault e = absurd cc
 
-never : false ≡ true → ⊥
-never e = absurd cc
-
 -- A run with a configuration in its ranges and a door for each seat is not rejected for its
 -- configuration.
 pub well_configured : {T : Type 0} (result : Result T RunFault) (config same : Settings) (doors : ℕ) → same ≡ config
     → IsTrue (are_in_range same) → doors ≡ config.seats → (IsErrOf result BadConfiguration → ⊥)
     → IsErrOf result BadConfiguration ↔ IsTrue (not (are_in_range config && doors == config.seats))
-well_configured result config same doors is range many other =
-    let fits : (doors == config.seats) ≡ true = eq-eqb doors config.seats many in
-    let good : are_in_range config ≡ true = rw is at range in
-    (λ e. absurd (other e), λ h. absurd (never (rw (good, fits) at h)))
+well_configured result config same doors is range many other = grind arith

@@ -39,17 +39,7 @@ pub record IsServingAlone (settings : Settings) (seat : ℕ) (readings : List (O
 pub begins_alone : (settings : Settings) (seat : ℕ) (state : MailState) (machine : SeatMachine) (seen : LineSeen) (action : Action)
     → IsNewMailState settings state → IsOnLine settings.max_job_size machine seen action [] []
     → IsServingAlone settings seat [] state machine seen action 0
-begins_alone settings seat state machine seen action new on =
-    record {
-      first = state;
-      submitted = [];
-      taken = [];
-      new = new;
-      trace = seat_none state seat;
-      before = seen;
-      part = none_begun action seen;
-      on_line = on;
-    }
+begins_alone settings seat state machine seen action new on = grind (arith, seat_none, none_begun)
 
 pub goes_on_alone : (result : Progress) (settings : Settings) (seat : ℕ) (readings reads : List (Option ℕ)) (state next : MailState)
     (old new : SeatMachine) (seen later : LineSeen) (action then_action : Action) (sent now : ℕ)
@@ -58,17 +48,7 @@ pub goes_on_alone : (result : Progress) (settings : Settings) (seat : ℕ) (read
     → CarriesOn result old seen action sent new later then_action now submitted taken
     → IsServingAlone settings seat (readings ++ reads) next new later then_action now
 goes_on_alone result settings seat readings reads state next old new seen later action then_action sent now submitted taken s w carries =
-    let c = carries s.before s.part in record {
-      first = s.first;
-      submitted = s.submitted ++ submitted;
-      taken = s.taken ++ taken;
-      new = s.new;
-      trace = seat_on s.first state next seat readings reads s.submitted submitted s.taken taken s.trace w;
-      before = c.0;
-      part = c.1;
-      on_line = carried_on result settings.max_job_size old new s.before c.0 action then_action s.submitted submitted s.taken taken
-          c.2 s.on_line;
-    }
+    grind (arith, seat_on s.first state next seat readings reads s.submitted submitted s.taken taken s.trace w, carried_on)
 
 -- steps at one seat only
 alone_there : (seat : ℕ) (history : List Entry) → ((other : ℕ) → other ≢ seat → steps_at other history ≡ [])

@@ -1,5 +1,5 @@
 -- Answers are sent one after another, or kept.
-use Rattle.std.proofs.Common.{arith, ◌≡◌, ◌≢◌, ℕ, List, [], ◌∷◌, ◌++◌, refl, sym, ap, ◌∙◌, append-nil, append_assoc}
+use Rattle.std.proofs.Common.{arith, ◌≡◌, ◌≢◌, ℕ, List, [], ◌∷◌, ◌++◌, refl, append-nil, append_assoc}
 use Rattle.std.proofs.lemmas.{Bool.{cases_Bool, eq-eqb, eqb-true, eqb-false}, Grind.common_steps}
 use Rattle.bq_job.specs.declared.answer.Answer.{Answer}
 use Rattle.bq_job.specs.machine.Dispatch.{GivenAnswer}
@@ -15,25 +15,12 @@ sent_on a b c xs ys zs h i = grind arith
 
 -- with other answers after them
 pub sent_before : (a b : CoreState) (xs ys more : List GivenAnswer) → AreSent a xs b ys → AreSent a (xs ++ more) b (ys ++ more)
-sent_before a b xs ys more h = record {
-  intake = h.intake;
-  rings = h.rings;
-  taken = h.taken;
-  each = λ seat within. parted seat (sent_to b seat) ys ∙ ap (λ (all : List Answer). all ++ answers_to seat more) (h.each seat within)
-      ∙ sym (parted seat (sent_to a seat) xs);
-}
-  where
-    parted : (seat : ℕ) (sent : List Answer) (these : List GivenAnswer)
-        → sent ++ answers_to seat (these ++ more) ≡ (sent ++ answers_to seat these) ++ answers_to seat more
-    parted seat sent these = ap (λ (all : List Answer). sent ++ all) (answers_append seat these more)
-        ∙ sym (append_assoc sent (answers_to seat these) (answers_to seat more))
+sent_before a b xs ys more h = grind (arith, answers_append, append_assoc)
 
 -- one answer is the next to be sent, and the others follow
 pub sent_next : (a b : CoreState) (kept left rest new : List GivenAnswer) (g : GivenAnswer) → left ≡ g ∷ rest
     → AreSent a (kept ++ g ∷ []) b new → AreSent a (kept ++ left) b (new ++ rest)
-sent_next a b kept left rest new g is h =
-    rw (append_assoc kept (g ∷ []) rest ∙ ap (λ (all : List GivenAnswer). kept ++ all) (sym is))
-    at (sent_before a b (kept ++ g ∷ []) new rest h)
+sent_next a b kept left rest new g is h = grind (arith, append_assoc kept (g ∷ []) rest, sent_before a b (kept ++ g ∷ []) new rest h)
 
 -- the answer of another end
 pub to_other : (seat t : ℕ) (answer : Answer) → seat ≢ t → answers_to t ((seat, answer) ∷ []) ≡ []

@@ -1,7 +1,6 @@
-use Rattle.std.proofs.Common.{◌≡◌, ◌∙◌, List, ap, false, map, true, vec_len, subst, sym, arith, Err}
-use Rattle.std.specs.List.{All}
+use Rattle.std.proofs.Common.{◌≡◌, ◌∙◌, List, ap, map, vec_len, subst, sym, arith, Err}
 use Rattle.bq_job.specs.declared.settings.Settings.{Settings}
-use Rattle.bq_line.specs.Tending.{AreSame, door_seen}
+use Rattle.bq_line.specs.Tending.{door_seen}
 use Rattle.bq_host.specs.declared.fault.RunFault.TheVariants.{BadConfiguration}
 use Rattle.bq_link.specs.EndStates.{CoreState, IsSameCore, SeatState}
 use Rattle.bq_run.specs.ThreadRuns.{IsRunOf}
@@ -18,10 +17,7 @@ returns-in-Err-clause-bad_configuration g c =
     (λ e. let same : c.in-Err.fault ≡ BadConfiguration = cc in absurd (c.serve_posts.ensures.fault (c.in-Err.is ∙ ap (λ f. Err f) same)))
 
 pub returns-in_default-clause-bad_configuration : goal.returns-in_default-clause-bad_configuration
-returns-in_default-clause-bad_configuration g c =
-    well_configured _ c.args.config c.in_ok-new_core.new_core.config
-    (vec_len c.args.doors) c.in_ok-new_core.ensures.config c.in_ok-new_core.new_core.range
-    (let b = c.if-len-from.false in let d = c.len.ensures in let e = c.from.ensures in omega arith) other_fault
+returns-in_default-clause-bad_configuration g c = grind arith
 
 pub returns-in_default-new_posts-clause-bad_configuration : goal.returns-in_default-new_posts-clause-bad_configuration
 returns-in_default-new_posts-clause-bad_configuration g c =
@@ -36,9 +32,7 @@ returns-clause-bad_configuration g c =
     (let b = c.if-len-from.false in let d = c.len.ensures in let e = c.from.ensures in omega arith) (no_fault _ BadConfiguration)
 
 pub settled_run-requires-clause-of_intake : goal.settled_run-requires-clause-of_intake
-settled_run-requires-clause-of_intake g c =
-    c.in-Ok-serve_posts.ensures.core.same.0 ∙ ap (λ (end : CoreState). end.intake) c.in-Ok-new_posts.ensures.core
-    ∙ c.in-Ok.ensures.core.0
+settled_run-requires-clause-of_intake g c = grind arith
 
 pub settled_run-requires-clause-pairs : goal.settled_run-requires-clause-pairs
 settled_run-requires-clause-pairs g c =
@@ -91,15 +85,10 @@ returns-clause-served g c =
     })
 
 pub returns-clause-at_end : goal.returns-clause-at_end
-returns-clause-at_end g c =
-    subst (λ doors. All (λ door. (g.D.Door.is_out door ≡ false) × (g.D.Door.is_at_end door ≡ true)) doors.items)
-    (sym c.settled_run.ensures.rest.0)
-    (all_at_end (door_seen g.D.Door) _ _ _ c.in-Ok-serve_posts.ensures.served.1)
+returns-clause-at_end g c = grind (arith, all_at_end)
 
 pub returns-clause-same : goal.returns-clause-same
-returns-clause-same g c =
-    subst (λ doors. AreSame g.D.Door.same c.args.doors.items doors.items) (sym c.settled_run.ensures.rest.0)
-    (rw c.in-Ok-new_posts.ensures.doors at c.in-Ok-serve_posts.ensures.same)
+returns-clause-same g c = grind arith
 
 pub returns-clause-settings : goal.returns-clause-settings
 returns-clause-settings g c = run_keeps_settings c.steps_keep_settings.ensures _ _ _ _ _ (returns-clause-served g c).history.run

@@ -3,8 +3,7 @@ use Rattle.bq_host.proofs.HubLemmas.{trace_none}
 use Rattle.bq_run_one.proofs.one.pass_time_before.Goals as goal
 
 pub returns-then-matches-clause-ready : goal.returns-then-matches-clause-ready
-returns-then-matches-clause-ready g c =
-    let trace = c.pass_time-due.ensures.trace in (trace.0, omega (arith, trace.1.0.2.trace.many, c.requires.ready.1))
+returns-then-matches-clause-ready g c = grind arith
 
 pub returns-else-matches-clause-trace : goal.returns-else-matches-clause-trace
 returns-else-matches-clause-trace g c = trace_none g.K.QueueCore g.C.Clock 0 c.args.hub.now

@@ -1,27 +1,17 @@
-use Rattle.std.proofs.Common.{◌≡◌, ◌∙◌, ap, subst, sym}
+use Rattle.std.proofs.Common.{ap, subst, arith}
 use Rattle.bq_job.specs.declared.settings.Settings.{Settings}
 use Rattle.bq_job.specs.machine.Machine.{Machine}
 use Rattle.bq_job.specs.promise.Headline.{IsHistoryOfLine}
-use Rattle.bq_core.specs.CoreState.{CoreState}
-use Rattle.bq_host.specs.Hubs.{state_of}
-use Rattle.bq_host.specs.MailStates.{IsNewMailState}
-use Rattle.bq_host.specs.Meanings.{Core}
 use Rattle.bq_run_one.proofs.one.run_one.Goals as goal
 
 pub serve_line-requires-clause-hub : goal.serve_line-requires-clause-hub
-serve_line-requires-clause-hub g c =
-    let made = c.in_ok-hub.ensures.made in
-    let k : Core CoreState = record { machine = λ core. core.machine; comparisons = λ core. core.comparisons } in
-    subst (λ (s : Settings). IsNewMailState s (state_of k c.in_ok-hub.hub)) (sym (ap (λ (m : Machine). m.settings) made.core)) made
+serve_line-requires-clause-hub g c = grind arith
 
 pub serve_line-requires-clause-lone : goal.serve_line-requires-clause-lone
-serve_line-requires-clause-lone g c =
-    let seats : c.args.config.seats ≡ 1 = c.if-config-ne1.false in
-    ap (λ (m : Machine). m.settings.seats) c.in_ok-hub.ensures.made.core ∙ seats
+serve_line-requires-clause-lone g c = grind arith
 
 pub serve_line-requires-clause-limit : goal.serve_line-requires-clause-limit
-serve_line-requires-clause-limit g c = c.in-Ok.ensures.limit
-    ∙ sym (ap (λ (m : Machine). m.settings.max_job_size) c.in_ok-hub.ensures.made.core)
+serve_line-requires-clause-limit g c = grind arith
 
 pub returns-clause-served : goal.returns-clause-served
 returns-clause-served g c =

@@ -1,18 +1,11 @@
-use Rattle.std.proofs.Common.{refl, arith}
-use Rattle.bq_line.specs.Tending.{attendant, door_seen}
-use Rattle.bq_line.specs.declared.attendant.SeatPhase.TheVariants as phases
+use Rattle.std.proofs.Common.{arith}
+use Rattle.bq_line.specs.Tending.{door_seen}
 use Rattle.bq_line.proofs.TendingLemmas.{tended_new}
 use Rattle.bq_thread_work.proofs.SeatWorkLemmas.{tended_on}
 use Rattle.bq_thread_work.proofs.seat_work.seat_work.Goals as goal
 
 pub loop-init : goal.loop-init
-loop-init g c =
-    let at = door_seen g.D.Door in
-    let size = c.args.machine.reader.max_job_size in
-    let a = attendant c.args.machine phases.Between in
-    let first = tended_new g.L.Line.seen size a (at c.args.door)
-    (record { phase = refl; awaits = c.requires.machine; limit = refl }) c.requires.door in
-    grind arith
+loop-init g c = grind (arith, tended_new)
 
 pub loop-preserved : goal.loop-preserved
 loop-preserved g c =
