@@ -1,6 +1,6 @@
 -- Seats are served in turn: one acts, and the others stay as they were.
 use Rattle.std.proofs.lemmas.Grind.{common_steps}
-use Rattle.std.proofs.Common.{◌≡◌, ℕ, ◌+◌, ◌<◌, ◌≤◌, List, [], ◌++◌, Option, length, refl, sym}
+use Rattle.std.proofs.Common.{◌≡◌, ℕ, ◌<◌, ◌≤◌, List, [], ◌++◌, Option, length, refl, sym}
 use Rattle.std.proofs.Common.{ap, ◌∙◌, arith, subst, append_assoc, slice_set, slice_index_or}
 use Rattle.std.proofs.lemmas.List.{get_or_default, length-set}
 use Rattle.bq_job.specs.beside.Closings.{closes, closings}
@@ -83,9 +83,6 @@ served_on {L} {D} l d size control told first core next readings reads seats lat
 
     here : (t : ℕ) → t < length later → t < length seats
     here t below = omega (arith, many, below)
-
-    past : (t : ℕ) → length later < t → length seats < t
-    past t above = omega (arith, many, above)
 
     goes : (t : ℕ) → t < length seats → (a : Attendant L) (x : D)
         → IsTended l.seen size (slice_index_or later t a) (door_seen d (slice_index_or after t x)) (steps_at t (s.history ++ part))
