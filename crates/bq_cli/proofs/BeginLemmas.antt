@@ -1,5 +1,5 @@
 -- How a server begins: a new control line over an input has the bytes that the input has left.
-use Rattle.std.proofs.Common.{◌≡◌, ◌∙◌, ◌≤◌, ℕ, ◌==◌, Bool, List, [], Option, None, Some, IfOk, IfSome, Result, Ok, Err, ap, refl}
+use Rattle.std.proofs.Common.{◌≡◌, ◌∙◌, ◌≤◌, ℕ, ◌==◌, Bool, List, [], Option, None, Some, IfOk, IfSome, Result, Ok, Err, ap}
 use Rattle.std.proofs.Common.{if◌then◌else◌, subst, sym}
 use Rattle.std.proofs.KnownBytes.{prepend_known-nil}
 use Rattle.std.specs.Io.Buffered.{reader_buffer, reader_capacity, reader_inner, reader_remaining}

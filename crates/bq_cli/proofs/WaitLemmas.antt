@@ -1,5 +1,5 @@
 -- A wait that is shorter than one that ends in time ends in time too.
-use Rattle.std.proofs.Common.{◌≤◌, ℕ, Option, Some, None, arith}
+use Rattle.std.proofs.Common.{ℕ, Option, Some, None, arith}
 use Rattle.bq_event_loop.specs.Sleeping.{IsNoLonger}
 use Rattle.bq_cli.specs.Sooner.{IsSooner}
 

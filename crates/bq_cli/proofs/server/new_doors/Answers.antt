@@ -1,4 +1,4 @@
-use Rattle.std.proofs.Common.{◌≡◌, List, subst, sym, arith}
+use Rattle.std.proofs.Common.{arith}
 use Rattle.bq_line.specs.Tending.{IsNewDoor}
 use Rattle.bq_host.proofs.ListLemmas.{all_pushed}
 use Rattle.bq_cli.specs.Servers.{IsDoorAt, TcpDoor}
