@@ -1,12 +1,12 @@
 -- A side that is a single box or nothing.
-use Rattle.std.proofs.Common.{◌≡◌, ◌≤◌, Bool, true, ◌++◌, Option, arith}
-use Rattle.std.specs.Prelude.{is_some}
+use Rattle.std.proofs.Common.{◌≡◌, ◌≤◌, Bool, true, [], ◌++◌, Option, Some, arith}
+use Rattle.std.specs.{Option.option_map, Prelude.is_some}
 use Rattle.std.specs.declared.cmp.Ordering.{Ordering}
 use Rattle.std.specs.declared.cmp.Ordering.TheVariants.{Less, Equal, Greater}
 use Rattle.std.specs.Ordering.{is_eq}
 use Rattle.std.specs.Map.{lookup}
 use Rattle.std.specs.BTreeMap.{is_at}
-use Rattle.bq_index.specs.Order.{LacksKeyOf, with_entry}
+use Rattle.bq_index.specs.{Order.{LacksKeyOf, with_entry}, Removed.{lookup_if, removed_if}}
 use Rattle.bq_index.specs.Tree.{entries_in, entries_of, entry_in, height_in, height_of, Comparison, ComparisonOfEntries, IsAlone}
 use Rattle.bq_index.specs.Tree.{IsBalancedFrom, IsLevel}
 use Rattle.bq_index.specs.declared.tree.Node.{Node}
@@ -21,6 +21,11 @@ module _ {K V : Type 0} (test : K → Bool) where
   pub height_if_found : (o : Option (Node K V)) → IsBalancedFrom o → height_of o ≤ 1 → true ≡ is_some (lookup test (entries_of o))
       → height_of o ≡ 1
   height_if_found o h1 h2 h3 = grind arith
+
+  pub none_left : (q : V → Bool) (o : Option (Node K V)) (n : Node K V) → IsBalancedFrom o → height_of o ≤ 1
+      → true ≡ is_some (lookup_if test q (entries_of o)) → Some n ≡ o
+      → removed_if test (option_map (λ e. e.1) (entry_in n)) (entries_of o) ≡ []
+  none_left q o n h1 h2 h3 h4 = grind arith
 
 -- two single boxes, by how their keys compare: the first one is added to the second one
 module _ {K V : Type 0} (R : K → K → Ordering) where

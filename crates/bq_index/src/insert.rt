@@ -2,101 +2,46 @@
 // is rotated there. Each step of a descent returns whether the height of its box has changed. If it
 // has not, the boxes above stay as they are. The last step of a descent is a separate function, so
 // that the steps on the way have small stack frames and ask no more than they need.
-ghost use Rattle.std.specs.Prelude.{◌≡◌, ◌+◌, ◌<◌, ◌≤◌, ◌++◌, Some, None, IsSome};
+ghost use Rattle.std.specs.Prelude.{◌≡◌, ◌+◌, ◌<◌, ◌≤◌, ◌++◌, Some, None};
 ghost use Rattle.std.specs.Option.{option_to_list};
 ghost use Rattle.bq_index.specs.Order.{InOrder, LacksKeyOf, with_entry};
-ghost use Rattle.bq_index.specs.Tree.{entries, entries_in, entries_of, entry_in, height, height_in, HasOneSideAtMost, left_in, right_in};
+ghost use Rattle.bq_index.specs.Tree.{entries, entries_in, entries_of, entry_in, far, height, height_in, height_of, HasOneSideAtMost, joined, near};
 ghost use Rattle.bq_index.specs.Tree.{HasParts, IsBalanced, IsLevel, IsRaised, RaisedByAtMost};
 
 use super::alone::{compare_single, key_alone, swap_with};
 use super::find::compare_within;
 use super::rotation::mend;
-use super::tree::{Node, Tree, fill, keep};
+use super::tree::{Node, Side, Tree, fill, keep};
 use std::cmp::Ordering;
 use std::mem;
 
-// Attaches a box with a single entry as the left side of a box that has none. Returns whether the
+// Attaches a box with a single entry on a side of a box that has nothing there. Returns whether the
 // height of the box has changed.
+#[tactic(auto, using(crate::proofs::Sides::free_on_left, crate::proofs::Sides::free_on_right))]
 #[inline(never)]
-fn hang_left<K, V>(here: &mut Node<K, V>, node: Box<Node<K, V>>) -> bool
+fn hang<K, V>(here: &mut Node<K, V>, side: Side, node: Box<Node<K, V>>) -> bool
 where
     K: Drop,
     V: Drop,
     requires here_level { IsLevel here.old }
-    requires none { left_in here.old ≡ None }
+    requires none { near side here.old ≡ None }
     requires level { IsLevel node.value }
     requires low { height_in node.value ≡ 1 }
-    ensures is { entries_in here.new ≡ entries_in node.value
-        ++ (option_to_list (entry_in here.old) ++ entries_of (right_in here.old)) }
+    ensures is { entries_in here.new
+        ≡ joined side (entries_in node.value) (option_to_list (entry_in here.old)) (entries_of (far side here.old)) }
     ensures raised { IsRaised here.old here.new result }
 {
     match mem::replace(here, Node::Spare) {
         Node::Alone { key, value } => {
-            fill(
-                here,
-                Node::OnLeft {
-                    key,
-                    left: node,
-                    value,
-                },
-            );
-            true
-        }
-        Node::OnRight { key, right, value } => {
-            fill(
-                here,
-                Node::Both {
-                    height: 2,
-                    key,
-                    left: node,
-                    right,
-                    value,
-                },
-            );
-            false
-        }
-        _ => unreachable!(),
-    }
-}
-
-// Attaches a box with a single entry as the right side of a box that has none. Returns whether the
-// height of the box has changed.
-#[inline(never)]
-fn hang_right<K, V>(here: &mut Node<K, V>, node: Box<Node<K, V>>) -> bool
-where
-    K: Drop,
-    V: Drop,
-    requires here_level { IsLevel here.old }
-    requires none { right_in here.old ≡ None }
-    requires level { IsLevel node.value }
-    requires low { height_in node.value ≡ 1 }
-    ensures is { entries_in here.new ≡ entries_of (left_in here.old)
-        ++ (option_to_list (entry_in here.old) ++ entries_in node.value) }
-    ensures raised { IsRaised here.old here.new result }
-{
-    match mem::replace(here, Node::Spare) {
-        Node::Alone { key, value } => {
-            fill(
-                here,
-                Node::OnRight {
-                    key,
-                    right: node,
-                    value,
-                },
-            );
+            fill(here, Node::on(side, key, node, value));
             true
         }
         Node::OnLeft { key, left, value } => {
-            fill(
-                here,
-                Node::Both {
-                    height: 2,
-                    key,
-                    left,
-                    right: node,
-                    value,
-                },
-            );
+            fill(here, Node::fork(left, key, node, value));
+            false
+        }
+        Node::OnRight { key, right, value } => {
+            fill(here, Node::fork(node, key, right, value));
             false
         }
         _ => unreachable!(),
@@ -131,80 +76,48 @@ fn in_order<K: Ord, V>(
     }
 }
 
-// Inserts a box with a single entry on the left of a box that has a single box there and nothing on
-// its right. The three boxes then are one with two sides, of the same height.
+// Inserts a box with a single entry on a side of a box that has a single box there and nothing on
+// the other side. The three boxes then are one with two sides, of the same height.
+#[tactic(auto, using(crate::proofs::Sides::single_on_left, crate::proofs::Sides::single_on_right))]
 #[inline(never)]
-fn spread_left<K: Ord, V>(here: &mut Node<K, V>, node: Box<Node<K, V>>, count: &mut u64) -> bool
+fn spread<K: Ord, V>(
+    here: &mut Node<K, V>,
+    side: Side,
+    node: Box<Node<K, V>>,
+    count: &mut u64,
+) -> bool
 where
     K: Drop,
     V: Drop,
     requires here_level { IsLevel here.old }
-    requires side { IsSome (left_in here.old) }
-    requires none { right_in here.old ≡ None }
+    requires low { height_of (near side here.old) ≡ 1 }
+    requires none { far side here.old ≡ None }
     requires level { IsLevel node.value }
     requires alone { height_in node.value ≡ 1 }
-    requires absent { LacksKeyOf K.cmp (entry_in node.value) (entries_of (left_in here.old)) }
+    requires absent { LacksKeyOf K.cmp (entry_in node.value) (entries_of (near side here.old)) }
     requires room { count.old < 400 }
-    ensures is { entries_in here.new ≡ with_entry K.cmp (entry_in node.value) (entries_of (left_in here.old))
-        ++ (option_to_list (entry_in here.old) ++ entries_of (right_in here.old)) }
+    ensures is { entries_in here.new ≡ joined side (with_entry K.cmp (entry_in node.value) (entries_of (near side here.old)))
+        (option_to_list (entry_in here.old)) (entries_of (far side here.old)) }
     ensures raised { IsRaised here.old here.new result }
     ensures counted { count.new ≡ count.old + 1 }
 {
-    let Node::OnLeft { key, left, value } = mem::replace(here, Node::Spare) else {
-        unreachable!()
-    };
-    let (first, second) = in_order(left, node, count);
-    let (mut key, mut value, mut second) = (key, value, second);
-    swap_with(&mut key, &mut value, &mut *second);
-    fill(
-        here,
-        Node::Both {
-            height: 2,
-            key,
-            left: first,
-            right: second,
-            value,
-        },
-    );
-    false
-}
-
-// Inserts a box with a single entry on the right of a box that has a single box there and nothing on
-// its left. The three boxes then are one with two sides, of the same height.
-#[inline(never)]
-fn spread_right<K: Ord, V>(here: &mut Node<K, V>, node: Box<Node<K, V>>, count: &mut u64) -> bool
-where
-    K: Drop,
-    V: Drop,
-    requires here_level { IsLevel here.old }
-    requires side { IsSome (right_in here.old) }
-    requires none { left_in here.old ≡ None }
-    requires level { IsLevel node.value }
-    requires alone { height_in node.value ≡ 1 }
-    requires absent { LacksKeyOf K.cmp (entry_in node.value) (entries_of (right_in here.old)) }
-    requires room { count.old < 400 }
-    ensures is { entries_in here.new ≡ entries_of (left_in here.old)
-        ++ (option_to_list (entry_in here.old) ++ with_entry K.cmp (entry_in node.value) (entries_of (right_in here.old))) }
-    ensures raised { IsRaised here.old here.new result }
-    ensures counted { count.new ≡ count.old + 1 }
-{
-    let Node::OnRight { key, right, value } = mem::replace(here, Node::Spare) else {
-        unreachable!()
-    };
-    let (first, second) = in_order(right, node, count);
-    let (mut key, mut value, mut first) = (key, value, first);
-    swap_with(&mut key, &mut value, &mut *first);
-    fill(
-        here,
-        Node::Both {
-            height: 2,
-            key,
-            left: first,
-            right: second,
-            value,
-        },
-    );
-    false
+    match mem::replace(here, Node::Spare) {
+        Node::OnLeft { key, left, value } => {
+            let (first, second) = in_order(left, node, count);
+            let (mut key, mut value, mut second) = (key, value, second);
+            swap_with(&mut key, &mut value, &mut *second);
+            fill(here, Node::fork(first, key, second, value));
+            false
+        }
+        Node::OnRight { key, right, value } => {
+            let (first, second) = in_order(right, node, count);
+            let (mut key, mut value, mut first) = (key, value, first);
+            swap_with(&mut key, &mut value, &mut *first);
+            fill(here, Node::fork(first, key, second, value));
+            false
+        }
+        _ => unreachable!(),
+    }
 }
 
 // Inserts a box with a single entry below a box that has at most one side.
@@ -227,12 +140,12 @@ where
 {
     match compare_within(key_alone(&node), here.key(), count) {
         Ordering::Less => match here {
-            Node::OnLeft { .. } => spread_left(here, node, count),
-            _ => hang_left(here, node),
+            Node::OnLeft { .. } => spread(here, Side::Left, node, count),
+            _ => hang(here, Side::Left, node),
         },
         Ordering::Greater => match here {
-            Node::OnRight { .. } => spread_right(here, node, count),
-            _ => hang_right(here, node),
+            Node::OnRight { .. } => spread(here, Side::Right, node, count),
+            _ => hang(here, Side::Right, node),
         },
         Ordering::Equal => unreachable!(),
     }

@@ -9,16 +9,16 @@ ghost use Rattle.std.specs.BTreeMap.{is_at};
 ghost use Rattle.bq_index.specs.Edited.{value_of};
 ghost use Rattle.bq_index.specs.Order.{InOrder};
 ghost use Rattle.bq_index.specs.Removed.{lookup_if, passing, removed_if, value_of_top};
-ghost use Rattle.bq_index.specs.Tree.{entries, entries_in, entries_of, entry_in, entry_of_top, height, height_in, height_of};
-ghost use Rattle.bq_index.specs.Tree.{HasOneSideAtMost, left_in, right_in, IsBalanced, IsBalancedFrom, IsLevel, IsLevelWithSide, IsLowered};
+ghost use Rattle.bq_index.specs.Tree.{entries, entries_in, entries_of, entry_in, entry_of_top, far, height, height_in, height_of};
+ghost use Rattle.bq_index.specs.Tree.{HasOneSideAtMost, joined, left_in, near, right_in, IsBalanced, IsBalancedFrom, IsLevel, IsLevelWithSide, IsLowered};
 ghost use Rattle.bq_index.specs.Tree.{IsWithoutFirst, LosesEntry, RaisedByAtMost};
 ghost use Rattle.bq_index.specs.declared.tree.Node.TheVariants.{Spare};
 ghost use Rattle.bq_index.specs.declared.tree.Tree.TheVariants.{Leaf};
 
 use super::alone::{compare_alone, swap_with, taken};
 use super::find::compare_within;
-use super::rotation::{mend, sink_left, sink_right};
-use super::tree::{Node, Tree, fill, keep};
+use super::rotation::{mend, sink};
+use super::tree::{Node, Side, Tree, fill, keep};
 use super::walk::Test;
 use std::cmp::Ordering;
 use std::mem;
@@ -69,129 +69,103 @@ fn is_passing_key_of<K: Ord, V, T: Test<K, V>>(
     passes_in(key, node, test)
 }
 
-// Returns whether the key is that of the left side, which is a single box or nothing, and its value
+// Returns whether the key is that of a side of a box, which is a single box or nothing, and its value
 // passes the test.
-fn is_on_left<K: Ord, V, T: Test<K, V>>(
+fn is_on<K: Ord, V, T: Test<K, V>>(
     here: &Node<K, V>,
+    side: Side,
     key: &K,
     count: &mut u64,
     test: &T,
 ) -> bool
-    requires balanced { IsBalancedFrom (left_in here.now) }
-    requires low { height_of (left_in here.now) ≤ 1 }
+    requires balanced { IsBalancedFrom (near side here.now) }
+    requires low { height_of (near side here.now) ≤ 1 }
     requires room { count.old < 400 }
     ensures answer { result
-        ≡ is_some (lookup_if (is_at (K.cmp key.now)) (T.passed test.now key.now) (entries_of (left_in here.now))) }
-    ensures counted { RaisedByAtMost (height_of (left_in here.now)) count.old count.new }
+        ≡ is_some (lookup_if (is_at (K.cmp key.now)) (T.passed test.now key.now) (entries_of (near side here.now))) }
+    ensures counted { RaisedByAtMost (height_of (near side here.now)) count.old count.new }
 {
-    match here {
-        Node::OnLeft { left, .. } => is_passing_key_of(key, left, count, test),
-        Node::Both { left, .. } => is_passing_key_of(key, left, count, test),
-        _ => false,
+    match here.side(side) {
+        None => false,
+        Some(node) => is_passing_key_of(key, node, count, test),
     }
 }
 
-// Returns whether the key is that of the right side, which is a single box or nothing, and its value
-// passes the test.
-fn is_on_right<K: Ord, V, T: Test<K, V>>(
-    here: &Node<K, V>,
-    key: &K,
-    count: &mut u64,
-    test: &T,
-) -> bool
-    requires balanced { IsBalancedFrom (right_in here.now) }
-    requires low { height_of (right_in here.now) ≤ 1 }
-    requires room { count.old < 400 }
-    ensures answer { result
-        ≡ is_some (lookup_if (is_at (K.cmp key.now)) (T.passed test.now key.now) (entries_of (right_in here.now))) }
-    ensures counted { RaisedByAtMost (height_of (right_in here.now)) count.old count.new }
-{
-    match here {
-        Node::OnRight { right, .. } => is_passing_key_of(key, right, count, test),
-        Node::Both { right, .. } => is_passing_key_of(key, right, count, test),
-        _ => false,
-    }
-}
-
-// Takes the left side, which is a single box, off a box. Returns that box, and whether the height
-// of `here` has changed.
-#[inline(never)]
-fn shed_left<K, V>(here: &mut Node<K, V>) -> (Box<Node<K, V>>, bool)
+// Takes a side, which is a single box, off a box. Returns that box.
+#[tactic(auto, using(crate::proofs::Sides::single_on_left, crate::proofs::Sides::single_on_right))]
+#[inline(always)]
+fn detach<K, V>(here: &mut Node<K, V>, side: Side) -> Box<Node<K, V>>
 where
     K: Drop,
     V: Drop,
     requires here_level { IsLevel here.old }
-    requires low { height_of (left_in here.old) ≡ 1 }
-    ensures is { entries_in here.new ≡ option_to_list (entry_in here.old) ++ entries_of (right_in here.old) }
-    ensures lowered { IsLowered here.old here.new result.1 }
-    ensures shed { Some result.0.value ≡ left_in here.old }
+    requires low { height_of (near side here.old) ≡ 1 }
+    ensures detached { Some result.value ≡ near side here.old }
+    ensures none { near side here.new ≡ None }
+    ensures other { far side here.new ≡ far side here.old }
+    ensures entry { entry_in here.new ≡ entry_in here.old }
+    ensures is { entries_in here.new
+        ≡ joined side [] (option_to_list (entry_in here.old)) (entries_of (far side here.old)) }
 {
     match mem::replace(here, Node::Spare) {
         Node::OnLeft { key, left, value } => {
             fill(here, Node::Alone { key, value });
-            (left, true)
+            left
+        }
+        Node::OnRight { key, right, value } => {
+            fill(here, Node::Alone { key, value });
+            right
         }
         Node::Both {
-            height,
             key,
             left,
             right,
             value,
-        } => {
-            fill(here, Node::OnRight { key, right, value });
-            if height > 2 {
-                let changed = sink_right(here);
-                (left, changed)
-            } else {
-                (left, false)
+            ..
+        } => match side {
+            Side::Left => {
+                fill(here, Node::OnRight { key, right, value });
+                left
             }
-        }
+            Side::Right => {
+                fill(here, Node::OnLeft { key, left, value });
+                right
+            }
+        },
         _ => unreachable!(),
     }
 }
 
-// Takes the right side, which is a single box, off a box. Returns that box, and whether the height
-// of `here` has changed.
+// Takes a side, which is a single box, off a box. Returns that box, and whether the height of `here`
+// has changed.
 #[inline(never)]
-fn shed_right<K, V>(here: &mut Node<K, V>) -> (Box<Node<K, V>>, bool)
+fn shed<K, V>(here: &mut Node<K, V>, side: Side) -> (Box<Node<K, V>>, bool)
 where
     K: Drop,
     V: Drop,
     requires here_level { IsLevel here.old }
-    requires low { height_of (right_in here.old) ≡ 1 }
-    ensures is { entries_in here.new ≡ entries_of (left_in here.old) ++ (option_to_list (entry_in here.old) ++ []) }
+    requires low { height_of (near side here.old) ≡ 1 }
+    ensures is { entries_in here.new
+        ≡ joined side [] (option_to_list (entry_in here.old)) (entries_of (far side here.old)) }
     ensures lowered { IsLowered here.old here.new result.1 }
-    ensures shed { Some result.0.value ≡ right_in here.old }
+    ensures shed { Some result.0.value ≡ near side here.old }
 {
-    match mem::replace(here, Node::Spare) {
-        Node::OnRight { key, right, value } => {
-            fill(here, Node::Alone { key, value });
-            (right, true)
-        }
-        Node::Both {
-            height,
-            key,
-            left,
-            right,
-            value,
-        } => {
-            fill(here, Node::OnLeft { key, left, value });
-            if height > 2 {
-                let changed = sink_left(here);
-                (right, changed)
-            } else {
-                (right, false)
-            }
-        }
-        _ => unreachable!(),
+    let high = here.height();
+    let near = detach(here, side);
+    if high > 2 {
+        let changed = sink(here, side);
+        return (near, changed);
     }
+    let changed = here.height() != high;
+    (near, changed)
 }
 
-// Removes the key from the left side of a box, which is a single box or nothing, if the value there
-// passes the test. Returns whether the height of `here` has changed.
+// Removes the key from a side of a box, which is a single box or nothing, if the value there passes
+// the test. Returns whether the height of `here` has changed.
 #[tactic(auto, using(crate::proofs::Parts::come_apart, crate::proofs::Single::height_if_found))]
-fn cut_left<K: Ord, V, T: Test<K, V>>(
+fn cut<K: Ord, V, T: Test<K, V>>(
     here: &mut Node<K, V>,
+    side: Side,
     key: &K,
     count: &mut u64,
     found: &mut Tree<K, V>,
@@ -201,19 +175,19 @@ where
     K: Drop,
     V: Drop,
     requires here_level { IsLevel here.old }
-    requires low { height_of (left_in here.old) ≤ 1 }
+    requires low { height_of (near side here.old) ≤ 1 }
     requires none { found.old ≡ Leaf }
     requires room { count.old < 400 }
     ensures is { entries_in here.new
-        ≡ removed_if (is_at (K.cmp key.now)) (value_of_top found.new) (entries_of (left_in here.old))
-        ++ (option_to_list (entry_in here.old) ++ entries_of (right_in here.old)) }
+        ≡ joined side (removed_if (is_at (K.cmp key.now)) (value_of_top found.new) (entries_of (near side here.old)))
+        (option_to_list (entry_in here.old)) (entries_of (far side here.old)) }
     ensures found { value_of_top found.new
-        ≡ lookup_if (is_at (K.cmp key.now)) (T.passed test.now key.now) (entries_of (left_in here.old)) }
+        ≡ lookup_if (is_at (K.cmp key.now)) (T.passed test.now key.now) (entries_of (near side here.old)) }
     ensures lowered { IsLowered here.old here.new result }
-    ensures counted { RaisedByAtMost (height_of (left_in here.old)) count.old count.new }
+    ensures counted { RaisedByAtMost (height_of (near side here.old)) count.old count.new }
 {
-    if is_on_left(here, key, count, test) {
-        let (removed, changed) = shed_left(here);
+    if is_on(here, side, key, count, test) {
+        let (removed, changed) = shed(here, side);
         keep(found, Tree::Fork(removed));
         changed
     } else {
@@ -221,92 +195,35 @@ where
     }
 }
 
-// Removes the key from the right side of a box, which is a single box or nothing, if the value there
-// passes the test. Returns whether the height of `here` has changed.
-#[tactic(auto, using(crate::proofs::Parts::come_apart, crate::proofs::Single::height_if_found))]
-fn cut_right<K: Ord, V, T: Test<K, V>>(
-    here: &mut Node<K, V>,
-    key: &K,
-    count: &mut u64,
-    found: &mut Tree<K, V>,
-    test: &T,
-) -> bool
-where
-    K: Drop,
-    V: Drop,
-    requires here_level { IsLevel here.old }
-    requires low { height_of (right_in here.old) ≤ 1 }
-    requires none { found.old ≡ Leaf }
-    requires room { count.old < 400 }
-    ensures is { entries_in here.new ≡ entries_of (left_in here.old)
-        ++ (option_to_list (entry_in here.old)
-        ++ removed_if (is_at (K.cmp key.now)) (value_of_top found.new) (entries_of (right_in here.old))) }
-    ensures found { value_of_top found.new
-        ≡ lookup_if (is_at (K.cmp key.now)) (T.passed test.now key.now) (entries_of (right_in here.old)) }
-    ensures lowered { IsLowered here.old here.new result }
-    ensures counted { RaisedByAtMost (height_of (right_in here.old)) count.old count.new }
-{
-    if is_on_right(here, key, count, test) {
-        let (removed, changed) = shed_right(here);
-        keep(found, Tree::Fork(removed));
-        changed
-    } else {
-        false
-    }
-}
-
-// Takes the entry out of a box whose left side is a single box, and puts the entry of that box in
-// its place. Returns the box, which has the entry now, and whether the height of `here` has
-// changed.
+// Takes the entry out of a box of which a side is a single box, and puts the entry of that box in its
+// place. Returns the box, which has the entry now, and whether the height of `here` has changed.
 #[inline(never)]
-fn trade_left<K, V>(here: &mut Node<K, V>) -> (Box<Node<K, V>>, bool)
+fn trade<K, V>(here: &mut Node<K, V>, side: Side) -> (Box<Node<K, V>>, bool)
 where
     K: Drop,
     V: Drop,
     requires here_level { IsLevel here.old }
-    requires low { height_of (left_in here.old) ≡ 1 }
+    requires low { height_of (near side here.old) ≡ 1 }
     ensures traded { LosesEntry here.old here.new result.0.value result.1 }
     ensures level { IsLevel result.0.value }
     ensures alone { height_in result.0.value ≡ 1 }
 {
     match here {
         Node::OnLeft { key, left, value } => swap_with(key, value, left),
-        Node::Both {
-            key,
-            left,
-            value,
-            ..
-        } => swap_with(key, value, left),
-        _ => unreachable!(),
-    }
-    shed_left(here)
-}
-
-// Takes the entry out of a box whose right side is a single box, and puts the entry of that box in
-// its place. Returns the box, which has the entry now, and whether the height of `here` has
-// changed.
-#[inline(never)]
-fn trade_right<K, V>(here: &mut Node<K, V>) -> (Box<Node<K, V>>, bool)
-where
-    K: Drop,
-    V: Drop,
-    requires here_level { IsLevel here.old }
-    requires low { height_of (right_in here.old) ≡ 1 }
-    ensures traded { LosesEntry here.old here.new result.0.value result.1 }
-    ensures level { IsLevel result.0.value }
-    ensures alone { height_in result.0.value ≡ 1 }
-{
-    match here {
         Node::OnRight { key, right, value } => swap_with(key, value, right),
         Node::Both {
             key,
+            left,
             right,
             value,
             ..
-        } => swap_with(key, value, right),
+        } => match side {
+            Side::Left => swap_with(key, value, left),
+            Side::Right => swap_with(key, value, right),
+        },
         _ => unreachable!(),
     }
-    shed_right(here)
+    shed(here, side)
 }
 
 // Takes the first entry out of a box that has a side, or out of a box below it. Returns a box with
@@ -321,10 +238,10 @@ where
 {
     let low = here.left_height();
     if low == 0 {
-        return trade_right(here);
+        return trade(here, Side::Right);
     }
     if low == 1 {
-        return shed_left(here);
+        return shed(here, Side::Left);
     }
     match here {
         Node::Both { left, .. } => {
@@ -367,7 +284,7 @@ where
 // Takes the entry out of a box that has a side. Returns a box with that entry, and whether the
 // height of `here` has changed.
 #[tactic(auto, using(crate::proofs::Parts::come_apart))]
-fn trade<K, V>(here: &mut Node<K, V>) -> (Box<Node<K, V>>, bool)
+fn take_entry<K, V>(here: &mut Node<K, V>) -> (Box<Node<K, V>>, bool)
 where
     K: Drop,
     V: Drop,
@@ -376,10 +293,10 @@ where
 {
     let low = here.right_height();
     if low == 0 {
-        return trade_left(here);
+        return trade(here, Side::Left);
     }
     if low == 1 {
-        return trade_right(here);
+        return trade(here, Side::Right);
     }
     trade_below(here)
 }
@@ -397,7 +314,7 @@ where
     ensures value { option_map (λ e. e.1) (entry_of_top found.new) ≡ option_map (λ e. e.1) (entry_in here.old) }
     ensures lowered { IsLowered here.old here.new result }
 {
-    let (removed, changed) = trade(here);
+    let (removed, changed) = take_entry(here);
     keep(found, Tree::Fork(removed));
     changed
 }
@@ -453,8 +370,8 @@ where
     ensures counted { RaisedByAtMost (height_in here.old) count.old count.new }
 {
     match compare_within(key, here.key(), count) {
-        Ordering::Less => cut_left(here, key, count, found, test),
-        Ordering::Greater => cut_right(here, key, count, found, test),
+        Ordering::Less => cut(here, Side::Left, key, count, found, test),
+        Ordering::Greater => cut(here, Side::Right, key, count, found, test),
         Ordering::Equal => take_out_if(here, key, found, test),
     }
 }
@@ -489,14 +406,14 @@ where
         } => match compare_within(key, own, count) {
             Ordering::Less => {
                 if !left.is_high() {
-                    return cut_left(here, key, count, found, test);
+                    return cut(here, Side::Left, key, count, found, test);
                 }
                 let shrunk = remove_below(left, key, count, found, test);
                 mend(here, shrunk)
             }
             Ordering::Greater => {
                 if !right.is_high() {
-                    return cut_right(here, key, count, found, test);
+                    return cut(here, Side::Right, key, count, found, test);
                 }
                 let shrunk = remove_below(right, key, count, found, test);
                 mend(here, shrunk)

@@ -1,11 +1,11 @@
 // Rebalancing of a tree. Code that few calls need is in separate functions, so that the others have
 // small stack frames.
-ghost use Rattle.std.specs.Prelude.{◌≡◌, ◌+◌, ◌<◌, max, None, Some, IsFalse, IsSome};
-ghost use Rattle.bq_index.specs.Tree.{entry_in, height, height_in, height_of, held, left_in, right_in};
-ghost use Rattle.bq_index.specs.Tree.{AreBalanced, IsBalancedFrom, IsNearlyLevel, DifferByAtMost, HasItsHeight, IsMended};
+ghost use Rattle.std.specs.Prelude.{◌≡◌, ◌+◌, ◌<◌, ◌≤◌, max, None, Some, IsFalse, IsSome};
+ghost use Rattle.bq_index.specs.Tree.{entries_in, entry_in, far, height, height_in, height_of, held, left_in, near, right_in};
+ghost use Rattle.bq_index.specs.Tree.{AreBalanced, IsBalancedFrom, IsLevel, IsNearlyLevel, DifferByAtMost, HasItsHeight, IsMended};
 ghost use Rattle.bq_index.specs.Tree.{IsRebalanced, differ};
 
-use super::tree::{Node, Tree, fill, open, put};
+use super::tree::{Node, Side, Tree, fill, open, put};
 use std::mem;
 
 // Balances a box in place after the height of one side has changed by at most one level. `changed`
@@ -97,23 +97,30 @@ where
     }
 }
 
-// Rotates a box to the right, in place, after it lost its right side, with which it was three levels
-// high. Returns whether its height has changed.
-#[inline(never)]
-pub(crate) fn sink_left<K, V>(node: &mut Node<K, V>) -> bool
+// Rotates a box that lost the only box on a side, with which it was three levels high. Returns whether
+// its height has changed.
+#[tactic(auto, using(crate::proofs::Heights::falls_right, crate::proofs::Parts::between_sides))]
+pub(crate) fn sink<K, V>(node: &mut Node<K, V>, side: Side) -> bool
 where
     K: Drop,
     V: Drop,
     requires filled { IsSome (entry_in node.old) }
-    requires none { right_in node.old ≡ None }
-    requires balanced { IsBalancedFrom (left_in node.old) }
-    requires high { height_of (left_in node.old) ≡ 2 }
-    ensures rebalanced { IsRebalanced (left_in node.old) (entry_in node.old) (right_in node.old) (Some node.new) }
+    requires none { near side node.old ≡ None }
+    requires balanced { IsBalancedFrom (far side node.old) }
+    requires high { height_of (far side node.old) ≡ 2 }
+    ensures is { entries_in node.new ≡ entries_in node.old }
+    ensures level { IsLevel node.new }
+    ensures high { (height_in node.new ≤ 3) × (2 ≤ height_in node.new) }
     ensures changed { result ≡ differ 3 (height_in node.new) }
 {
-    let (left, entry, right) = node.take_parts();
-    lean_left(node, left, entry, right);
-    node.height() != 3
+    match side {
+        Side::Left => !lift_right(node),
+        Side::Right => {
+            let (left, entry, right) = node.take_parts();
+            lean_left(node, left, entry, right);
+            node.height() != 3
+        }
+    }
 }
 
 // Rotates a box to the left, in place. It has nothing on its left and two levels on its right.
@@ -217,23 +224,6 @@ where
         }
         Node::Alone { .. } | Node::Spare | Node::SpareBefore(_) => unreachable!(),
     }
-}
-
-// Rotates such a box after it lost its left side, with which it was three levels high. Returns
-// whether its height has changed.
-#[inline(always)]
-#[tactic(auto, using(crate::proofs::Heights::falls_right))]
-pub(crate) fn sink_right<K, V>(node: &mut Node<K, V>) -> bool
-where
-    K: Drop,
-    V: Drop,
-    requires none { left_in node.old ≡ None }
-    requires balanced { IsBalancedFrom (right_in node.old) }
-    requires high { height_of (right_in node.old) ≡ 2 }
-    ensures rebalanced { IsRebalanced (left_in node.old) (entry_in node.old) (right_in node.old) (Some node.new) }
-    ensures changed { result ≡ differ 3 (height_in node.new) }
-{
-    !lift_right(node)
 }
 
 // Balances a box by taking it apart. Returns whether its height has changed.

@@ -1,8 +1,8 @@
 // A balanced tree of boxes, which contracts see by its entries in order and its height, and the
 // chain of the spare boxes.
-ghost use Rattle.std.specs.Prelude.{◌≡◌, ◌+◌, ◌<◌, ◌≤◌, max, [], IsSome, IfSome, IfNone, IfOk, Some, true, false};
-ghost use Rattle.bq_index.specs.Tree.{chain_length, entries, entries_of, entry_in, height, height_in};
-ghost use Rattle.bq_index.specs.Tree.{height_of, held, left_in, length_behind, lent, right_in, with_height, differ};
+ghost use Rattle.std.specs.Prelude.{◌∷◌, ◌++◌, ◌≡◌, ◌+◌, ◌<◌, ◌≤◌, max, [], IsSome, IfSome, IfNone, IfOk, Some, true, false};
+ghost use Rattle.bq_index.specs.Tree.{chain_length, entries, entries_in, entries_of, entry_in, height, height_in};
+ghost use Rattle.bq_index.specs.Tree.{height_of, held, joined, left_in, length_behind, lent, near, right_in, with_height, differ};
 ghost use Rattle.bq_index.specs.Tree.{AreBalanced, IsBalanced, IsBalancedFrom, IsKeyOf, IsLevel, HasParts, DifferByAtMost};
 ghost use Rattle.bq_index.specs.declared.tree.Node.TheVariants.{Spare};
 ghost use Rattle.bq_index.specs.declared.tree.Tree.TheVariants.{Leaf};
@@ -50,6 +50,13 @@ pub(crate) enum Node<K, V> {
         right: Box<Node<K, V>>,
         value: V,
     },
+}
+
+// A side of a box. What is done alike on both sides takes it as an argument.
+#[derive(Clone, Copy)]
+pub(crate) enum Side {
+    Left,
+    Right,
 }
 
 impl<K, V> Node<K, V> {
@@ -166,6 +173,54 @@ impl<K, V> Node<K, V> {
         }
     }
 
+    // Returns the box of a side.
+    pub(crate) fn side(&self, side: Side) -> Option<&Node<K, V>>
+        ensures { lent result ≡ near side self.now }
+    {
+        match side {
+            Side::Left => self.left(),
+            Side::Right => self.right(),
+        }
+    }
+
+    // Returns a box with an entry, with a box on a side of it and nothing on the other one.
+    #[inline(always)]
+    pub(crate) fn on(side: Side, key: K, node: Box<Node<K, V>>, value: V) -> Self
+        ensures high { height_in result ≡ 2 }
+        ensures level { IsLevel node.value → height_in node.value ≡ 1 → IsLevel result }
+        ensures is { entries_in result ≡ joined side (entries_in node.value) ((key, value) ∷ []) [] }
+    {
+        match side {
+            Side::Left => Node::OnLeft {
+                key,
+                left: node,
+                value,
+            },
+            Side::Right => Node::OnRight {
+                key,
+                right: node,
+                value,
+            },
+        }
+    }
+
+    // Returns a box with an entry, with a single box on each side.
+    #[inline(always)]
+    pub(crate) fn fork(left: Box<Node<K, V>>, key: K, right: Box<Node<K, V>>, value: V) -> Self
+        ensures high { height_in result ≡ 2 }
+        ensures level { IsLevel left.value → height_in left.value ≡ 1 → IsLevel right.value → height_in right.value ≡ 1
+            → IsLevel result }
+        ensures is { entries_in result ≡ entries_in left.value ++ ((key, value) ∷ entries_in right.value) }
+    {
+        Node::Both {
+            height: 2,
+            key,
+            left,
+            right,
+            value,
+        }
+    }
+
     // Returns a box of two trees with an entry between them, whose height is `high`.
     pub(crate) fn of(high: u8, left: Tree<K, V>, entry: (K, V), right: Tree<K, V>) -> Self
         requires balanced { AreBalanced left right }
@@ -229,6 +284,7 @@ impl<K, V> Node<K, V> {
         ensures left { held result.0 ≡ left_in self.old }
         ensures entry { Some result.1 ≡ entry_in self.old }
         ensures right { held result.2 ≡ right_in self.old }
+        ensures spare { self.new ≡ Spare }
     {
         mem::replace(self, Node::Spare).into_parts()
     }

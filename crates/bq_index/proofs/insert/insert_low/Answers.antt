@@ -2,8 +2,8 @@ use Rattle.bq_index.proofs.Parts.{by_key, by_other, come_apart, goes_right, hung
 use Rattle.std.proofs.Common.{arith}
 use Rattle.bq_index.proofs.insert.insert_low.Goals as goal
 
-pub spread_left-requires : goal.spread_left-requires
-spread_left-requires g c = grind arith
+pub spread-requires : goal.spread-requires
+spread-requires g c = grind arith
 
 pub returns-in-OnLeft-clause-is : goal.returns-in-OnLeft-clause-is
 returns-in-OnLeft-clause-is g c = grind arith
@@ -11,8 +11,8 @@ returns-in-OnLeft-clause-is g c = grind arith
 pub returns-in-OnLeft-clause-counted : goal.returns-in-OnLeft-clause-counted
 returns-in-OnLeft-clause-counted g c = grind arith
 
-pub spread_right-requires : goal.spread_right-requires
-spread_right-requires g c = grind arith
+pub spread-requires-in-OnRight : goal.spread-requires-in-OnRight
+spread-requires-in-OnRight g c = grind arith
 
 pub returns-in-OnRight-clause-is : goal.returns-in-OnRight-clause-is
 returns-in-OnRight-clause-is g c = grind arith

@@ -126,8 +126,5 @@ mend-requires-clause-kept g t c = grind (arith, common_steps)
 pub mend-requires-in-Greater-clause-kept : goal.mend-requires-in-Greater-clause-kept
 mend-requires-in-Greater-clause-kept g t c = grind (arith, common_steps)
 
-pub cut_left-requires-clause-room : goal.cut_left-requires-clause-room
-cut_left-requires-clause-room g t c = omega (arith, c.requires.room, c.requires.here_level.1, c.compare_within.ensures.counts_one)
-
-pub cut_right-requires-clause-room : goal.cut_right-requires-clause-room
-cut_right-requires-clause-room g t c = omega (arith, c.requires.room, c.requires.here_level.1, c.compare_within.ensures.counts_one)
+pub cut-requires-clause-room : goal.cut-requires-clause-room
+cut-requires-clause-room g t c = omega (arith, c.requires.room, c.requires.here_level.1, c.compare_within.ensures.counts_one)

@@ -10,14 +10,14 @@ returns-in-Less-clause-is g c =
     let p = come_apart c.args.here.now c.requires.here_level.0 in
     let at = by_other g.K.Ord.cmp c.args.key.now c.key.result.now _ _ c.key.ensures c.compare_within.ensures.answer in
     let w = is_below g.met.K.Ord.total c.args.key.now p c.requires.in_order at c.in-Less.is in
-    c.cut_left.ensures.is ∙ sym (gone_below c.args.key.now p.is (value_of_top c.cut_left.new.found) w)
+    c.cut.ensures.is ∙ sym (gone_below c.args.key.now p.is (value_of_top c.cut.new.found) w)
 
 pub returns-in-Less-clause-found : goal.returns-in-Less-clause-found
 returns-in-Less-clause-found g c =
     let at = by_other g.K.Ord.cmp c.args.key.now c.key.result.now _ _ c.key.ensures c.compare_within.ensures.answer in
     let w = is_below g.met.K.Ord.total c.args.key.now
     (come_apart c.args.here.now c.requires.here_level.0) c.requires.in_order at c.in-Less.is in
-    c.cut_left.ensures.found ∙ ap (passing (g.T.Test.passed c.args.test.now c.args.key.now)) (sym w.looked_up)
+    c.cut.ensures.found ∙ ap (passing (g.T.Test.passed c.args.test.now c.args.key.now)) (sym w.looked_up)
 
 pub returns-in-Greater-clause-is : goal.returns-in-Greater-clause-is
 returns-in-Greater-clause-is g c = grind (arith, common_steps, come_apart c.args.here.now c.requires.here_level.0, c.requires.here_level.0)
@@ -27,7 +27,7 @@ returns-in-Greater-clause-found g c =
     let at = by_other g.K.Ord.cmp c.args.key.now c.key.result.now _ _ c.key.ensures c.compare_within.ensures.answer in
     let w = is_above g.met.K.Ord.total c.args.key.now
     (come_apart c.args.here.now c.requires.here_level.0) c.requires.in_order at c.in-Greater.is in
-    c.cut_right.ensures.found ∙ ap (passing (g.T.Test.passed c.args.test.now c.args.key.now)) (sym w.looked_up)
+    c.cut-in-Greater.ensures.found ∙ ap (passing (g.T.Test.passed c.args.test.now c.args.key.now)) (sym w.looked_up)
 
 pub returns-in-Equal-clause-is : goal.returns-in-Equal-clause-is
 returns-in-Equal-clause-is g c =
