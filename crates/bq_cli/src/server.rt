@@ -22,7 +22,7 @@ use bq_host::RunFault;
 use bq_job::NoMemory;
 use bq_line::control_line::ControlReader;
 use bq_line::line::{BufferedLine, Connection, Line, ReadBuffer};
-use bq_line::{Door, FreeDoors, Refusals, TcpDoor, clock};
+use bq_line::{Door, FreeDoors, Refusals, Reports, TcpDoor, clock};
 use bq_program::{
     Fault, LogForm, Need, Options, Program, WhenFull, fault_of_loop, tell_cannot_listen,
     tell_server,
@@ -500,10 +500,12 @@ fn new_door<'l, R: Clock + Eprint>(
     ensures new { IsNewDoor (door_seen ⟦<TcpDoor<'l, R> as Door>⟧ result) }
     ensures at { IsDoorAt listener.now sessions result }
 {
-    TcpDoor::new(rt, listener, sessions, buffer)
-        .telling(&tell.refusals)
-        .among(&tell.free)
-        .counted(tell.ending.doors())
+    let reports = Reports {
+        refusals: Some(&tell.refusals),
+        free: Some(&tell.free),
+        open: Some(tell.ending.doors()),
+    };
+    TcpDoor::new(rt, listener, sessions, buffer, reports)
 }
 
 // Makes a door for each seat, all at one listener.

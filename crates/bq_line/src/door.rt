@@ -10,6 +10,7 @@ pub use listen_door::ListenDoor;
 pub use mem_door::MemDoor;
 pub use open_doors::OpenDoors;
 pub use refusals::Refusals;
+pub use reports::Reports;
 pub use turned_away::TurnedAway;
 
 mod accept;
@@ -21,6 +22,7 @@ mod listen_door;
 mod mem_door;
 mod open_doors;
 mod refusals;
+mod reports;
 mod turned_away;
 
 use crate::line::{Line, ReadBuffer, Watcher};

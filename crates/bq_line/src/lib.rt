@@ -8,8 +8,8 @@
 #![tactic(auto)]
 
 pub use door::{
-    Door, DoorFault, FreeDoors, Listen, ListenDoor, MemDoor, OpenDoors, Opening, Refusals, TcpDoor,
-    TurnedAway,
+    Door, DoorFault, FreeDoors, Listen, ListenDoor, MemDoor, OpenDoors, Opening, Refusals, Reports,
+    TcpDoor, TurnedAway,
 };
 pub use line::Watcher;
 

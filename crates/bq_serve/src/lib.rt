@@ -18,8 +18,8 @@ pub use bq_line::line::{
     Connection, Duplex, IoLine, Line, MemLine, NotWatched, Part, ReadBuffer, Readiness, Socket,
 };
 pub use bq_line::{
-    Door, DoorFault, FreeDoors, Listen, ListenDoor, MemDoor, OpenDoors, Opening, Refusals, TcpDoor,
-    Watcher,
+    Door, DoorFault, FreeDoors, Listen, ListenDoor, MemDoor, OpenDoors, Opening, Refusals, Reports,
+    TcpDoor, Watcher,
 };
 pub use bq_link::{Anything, CoreEnd, Intake, IntakeInvariant, NoTicks, SeatEnd, links};
 pub use bq_run_one::{One, run_one};

@@ -7,10 +7,8 @@ ghost use Rattle.bq_line.specs.Watched.{IsWatched};
 
 use super::accept::{NotAccepted, accept, accept_now, close_next};
 use super::failures::Failures;
-use super::free_doors::FreeDoors;
 use super::line_record::LineRecord;
-use super::open_doors::OpenDoors;
-use super::refusals::Refusals;
+use super::reports::Reports;
 use super::{Door, DoorFault, Listen, Opening, TurnedAway};
 use crate::line::{BufferedLine, Connection, Line, ReadBuffer, Socket, Watcher};
 use bq_job::LineEnd;
@@ -25,12 +23,7 @@ use std::rt::Clock;
 pub struct ListenDoor<'l, R, T> {
     rt: &'l R,
     listener: &'l T,
-    // Reports that connections can't be accepted.
-    refusals: Option<&'l Refusals>,
-    // Reports that all doors are taken.
-    free: Option<&'l FreeDoors>,
-    // Counts the doors that still take connections.
-    counted: Option<&'l OpenDoors>,
+    reports: Reports<'l>,
     // How many more connections come; `None` for no limit.
     left: Option<u32>,
     // The read buffer of the next connection. It is lent to an open connection, and comes back with
@@ -54,26 +47,27 @@ pub struct ListenDoor<'l, R, T> {
 
 impl<'l, R: Clock + Eprint, S: Socket + Drop + Send, T: Listen<Stream = S>> ListenDoor<'l, R, T> {
     /// Returns a door for `sessions` connections of the listener, or for connections without limit
-    /// if it is `None`. They are read through `buffer`, one after another.
+    /// if it is `None`. They are read through `buffer`, one after another. The door reports
+    /// through `reports`.
     pub fn new(
         rt: &'l R,
         listener: &'l T,
         sessions: Option<u32>,
         buffer: ReadBuffer,
+        reports: Reports<'l>,
     ) -> ListenDoor<'l, R, T>
         ensures inside { ⟦<ListenDoor<'l, R, T> as Door>⟧.is_out result ≡ false }
         ensures more { ⟦<ListenDoor<'l, R, T> as Door>⟧.is_at_end result ≡ false }
         ensures none_over { ⟦<ListenDoor<'l, R, T> as Door>⟧.lines_over result ≡ [] }
         ensures at { result.listener ≡ listener.entry }
+        ensures reports { result.reports ≡ reports.entry }
         ensures allowed { result.left ≡ sessions }
         ensures no_fault { result.met_fault ≡ false }
     {
         ListenDoor {
             rt,
             listener,
-            refusals: None,
-            free: None,
-            counted: None,
+            reports,
             left: sessions,
             buffer: Some(buffer),
             is_out: false,
@@ -88,38 +82,6 @@ impl<'l, R: Clock + Eprint, S: Socket + Drop + Send, T: Listen<Stream = S>> List
 }
 
 impl<'l, R: Clock + Eprint, T> ListenDoor<'l, R, T> {
-    ghost use Rattle.bq_line.specs.ListenDoors.{KeepsDoor};
-
-    /// Returns the same door, which also reports connections that can't be accepted.
-    pub fn telling(mut self, refusals: &'l Refusals) -> ListenDoor<'l, R, T>
-        ensures kept { KeepsDoor self.entry result }
-        ensures told { result.refusals ≡ Some refusals.entry }
-    {
-        self.refusals = Some(refusals);
-        self
-    }
-
-    /// Returns the same door as one of a group that reports when all of its doors are taken.
-    pub fn among(mut self, free: &'l FreeDoors) -> ListenDoor<'l, R, T>
-        ensures kept { KeepsDoor self.entry result }
-        ensures refusals { result.refusals ≡ self.entry.refusals }
-        ensures told { result.free ≡ Some free.entry }
-    {
-        self.free = Some(free);
-        self
-    }
-
-    /// Returns the same door as one of a group that is counted.
-    pub fn counted(mut self, among: &'l OpenDoors) -> ListenDoor<'l, R, T>
-        ensures kept { KeepsDoor self.entry result }
-        ensures refusals { result.refusals ≡ self.entry.refusals }
-        ensures free { result.free ≡ self.entry.free }
-        ensures counted { result.counted ≡ Some among.entry }
-    {
-        self.counted = Some(among);
-        self
-    }
-
     /// Returns true if the door has ended because a connection could not be accepted.
     pub fn met_fault(&self) -> bool
         ensures { result ≡ self.now.met_fault }
@@ -128,7 +90,7 @@ impl<'l, R: Clock + Eprint, T> ListenDoor<'l, R, T> {
     }
 
     fn tell_taken(&self) {
-        if let Some(free) = self.free {
+        if let Some(free) = self.reports.free {
             free.take(self.rt);
         }
     }
@@ -138,22 +100,22 @@ impl<'l, R: Clock + Eprint, T> ListenDoor<'l, R, T> {
         if self.left == Some(0) {
             return;
         }
-        if let Some(free) = self.free {
+        if let Some(free) = self.reports.free {
             free.give_back(self.rt);
         }
     }
 
     fn tell_fault(&self) {
-        if let Some(free) = self.free {
+        if let Some(free) = self.reports.free {
             free.leave();
         }
-        if let Some(doors) = self.counted {
+        if let Some(doors) = self.reports.open {
             doors.fail();
         }
     }
 
     fn tell_end(&self) {
-        if let Some(doors) = self.counted {
+        if let Some(doors) = self.reports.open {
             doors.close();
         }
     }
@@ -249,7 +211,7 @@ impl<'l, R: Clock + Eprint, S: Socket + Drop + Send, T: Listen<Stream = S>> Door
             self.tell_end();
             return Ok(None);
         }
-        match accept(self.rt, self.listener, self.refusals) {
+        match accept(self.rt, self.listener, self.reports.refusals) {
             Ok(stream) => {
                 self.tell_taken();
                 let buffer = self.lend();
@@ -310,7 +272,7 @@ impl<'l, R: Clock + Eprint, S: Socket + Drop + Send, T: Listen<Stream = S>> Door
         match accept_now(
             self.rt,
             self.listener,
-            self.refusals,
+            self.reports.refusals,
             &mut self.met_shortage,
             watcher,
         ) {
@@ -339,7 +301,7 @@ impl<'l, R: Clock + Eprint, S: Socket + Drop + Send, T: Listen<Stream = S>> Door
         if !self.never_waits {
             return TurnedAway::Waits;
         }
-        let Some(free) = self.free else {
+        let Some(free) = self.reports.free else {
             return TurnedAway::Waits;
         };
         if !free.closes_more() {
