@@ -1,7 +1,7 @@
 -- The jobs by their ids.
-use Rattle.std.proofs.Common.{◌≡◌, ℕ, suc, true, false, cond, List, [], ◌∷◌, Some, None, map, arith, refl, ap, ◌∙◌, inl, inr}
+use Rattle.std.proofs.lemmas.Grind.{common_steps}
+use Rattle.std.proofs.Common.{◌≡◌, ℕ, suc, true, false, cond, List, [], ◌∷◌, Some, None, map, arith, refl, ap, inl, inr}
 use Rattle.std.specs.Prelude.{◌==◌, nat_lt}
-use Rattle.std.specs.Cmp.{unsigned_tied}
 use Rattle.std.specs.Ordering.{is_eq, nat_cmp}
 use Rattle.std.specs.Map.{lookup, remove_entry, set_value}
 use Rattle.std.specs.BTreeMap.{is_at, insert_entry}
@@ -13,11 +13,11 @@ use Rattle.bq_job.specs.beside.Lawful.{AreIdsWithin}
 use Rattle.bq_jobs.specs.Changed.{with_changed}
 use Rattle.bq_jobs.specs.Inside.{jobs_of, with_id}
 use Rattle.bq_jobs.specs.JobsSeen.{with_added, without}
-use Rattle.bq_jobs.proofs.Changes.{none_changed, others_above, same_back, without_first}
+use Rattle.bq_jobs.proofs.Changes.{none_changed, all_kept, others_above}
 
 -- numbers compare equal exactly if they are the same
 pub is_eq_nat : (a b : ℕ) → is_eq (nat_cmp a b) ≡ (b == a)
-is_eq_nat a b = unsigned_tied a b ∙ same_back a b
+is_eq_nat a b = grind arith
 
 pub same_jobs : (jobs : List Job) → jobs_of (map with_id jobs) ≡ jobs
 same_jobs [] = refl
@@ -49,7 +49,7 @@ pub remove_by_id : (low next id : ℕ) (jobs : List Job) → AreIdsWithin low jo
 remove_by_id low next id [] h = refl
 remove_by_id low next id (k ∷ jobs) h =
     elim (cases_Bool (k.id == id)) [
-      | inl out ↦ grind (arith, without_first low next k jobs h)
+      | inl out ↦ grind (arith, all_kept, others_above)
       | inr kept ↦ rw (is_eq_nat id k.id, kept) (ap (λ es. with_id k ∷ es) (remove_by_id (suc k.id) next id jobs h.1))
     ]
 
@@ -59,8 +59,4 @@ pub set_by_id : (low next id : ℕ) (f : Job → Job) (j : Job) (jobs : List Job
     → set_value (is_at (nat_cmp id)) (map with_id jobs) (f j) ≡ map with_id (with_changed id f jobs)
 set_by_id low next id f j [] h found same = refl
 set_by_id low next id f j (k ∷ jobs) h found same =
-    elim (cases_Bool (k.id == id)) [
-      | inl out ↦ grind (arith, none_changed, others_above)
-      | inr kept ↦ rw (is_eq_nat id k.id, kept)
-          (ap (λ es. with_id k ∷ es) (set_by_id (suc k.id) next id f j jobs h.1 (rw kept at found) same))
-    ]
+    grind (arith, common_steps, is_eq_nat, none_changed, others_above, set_by_id (suc k.id) next id f j jobs h.1)

@@ -6,7 +6,6 @@ use Rattle.std.specs.Prelude.{◌==◌, nat_lt, count_by, if◌then◌else◌, n
 use Rattle.std.specs.List.{AllByRecursion as All, Contains}
 use Rattle.std.proofs.lemmas.Bool.{cases_Bool}
 use Rattle.std.proofs.lemmas.Bool.Decides.{nat_tests}
-use Rattle.std.proofs.lemmas.Cmp.{nat_eq_equiv}
 use Rattle.bq_job.specs.declared.job.Job.{Job}
 use Rattle.bq_job.specs.machine.Changes.{job_with}
 use Rattle.bq_job.specs.beside.Lawful.{AreIdsWithin}
@@ -17,10 +16,6 @@ use Rattle.bq_job.proofs.LookupLemmas.{found_job, job_found, job_in_rest}
 use Rattle.bq_jobs.specs.Changed.{IgnoresTube, KeepsTube}
 use Rattle.bq_jobs.specs.JobsSeen.{with_added, without}
 use Rattle.bq_jobs.specs.Laws.{AddsAtTheEnd, ChosenHasItsId, NextIsFree}
-
--- the test of two numbers does not depend on their order
-pub same_back : (a b : ℕ) → (a == b) ≡ (b == a)
-same_back a b = nat_eq_equiv.symm a b
 
 -- the lowest id is below the next one
 pub low_below : (low next : ℕ) (jobs : List Job) → AreIdsWithin low jobs next → low ≤ next
@@ -92,16 +87,7 @@ found_among_added q j (k ∷ jobs) = grind (arith, found_among_added q j jobs)
 pub added_within : (low next : ℕ) (j : Job) (jobs : List Job) → low ≤ j.id → j.id < next → job_with j.id jobs ≡ None
     → AreIdsWithin low jobs next → AreIdsWithin low (with_added j jobs) next
 added_within low next j [] l u free h = (l, u)
-added_within low next j (k ∷ jobs) l u free h =
-    elim (cases_Bool (k.id == j.id)) [
-      | inl same ↦ absurd (let g = rw same at free in cc)
-      | inr other ↦
-          let rest : job_with j.id jobs ≡ None = rw other at free in
-          elim (cases_Bool (nat_lt k.id j.id)) [
-            | inl before ↦ rw before (h.0, added_within (suc k.id) next j jobs (grind (arith, nat_tests)) u rest h.1)
-            | inr after ↦ rw after (l, (grind (arith, nat_tests), h.1))
-          ]
-    ]
+added_within low next j (k ∷ jobs) l u free h = grind (arith, common_steps, cases_Bool, nat_tests, added_within (suc k.id) next j jobs)
 
 pub count_added : (p : Job → Bool) (j : Job) (jobs : List Job) → count_by p (with_added j jobs) ≡ cond (p j) 1 0 + count_by p jobs
 count_added p j [] = count_cons p j []
@@ -117,25 +103,16 @@ length_added j jobs = grind (arith, count_added, count_all)
 
 -- removals
 pub found_without : (q id : ℕ) (jobs : List Job) → job_with q (without id jobs) ≡ cond (id == q) None (job_with q jobs)
-found_without q id jobs = job_in_rest id q jobs ∙ ap (λ b. cond b None (job_with q jobs)) (same_back q id)
+found_without q id jobs = grind (arith, job_in_rest)
 
 pub without_within : (low next id : ℕ) (jobs : List Job) → AreIdsWithin low jobs next → AreIdsWithin low (without id jobs) next
 without_within low next id jobs h = ids_of_filter (λ k. not (k.id == id)) low next jobs h
-
--- removal of the first job
-pub without_first : (low next : ℕ) (k : Job) (jobs : List Job) → AreIdsWithin low (k ∷ jobs) next → without k.id jobs ≡ jobs
-without_first low next k jobs h = all_kept k.id jobs (others_above k.id (suc k.id) next jobs (omega arith) h.1)
 
 pub count_without : (p : Job → Bool) (low next id : ℕ) (j : Job) (jobs : List Job) → AreIdsWithin low jobs next → job_with id jobs ≡ Some j
     → cond (p j) 1 0 + count_by p (without id jobs) ≡ count_by p jobs
 count_without p low next id j [] h found = absurd cc
 count_without p low next id j (k ∷ jobs) h found =
-    elim (cases_Bool (k.id == id)) [
-      | inl out ↦ grind (arith, without_first low next k jobs h, count_cons p k jobs)
-      | inr kept ↦
-          let i = count_without p (suc k.id) next id j jobs h.1 (rw kept at found) in
-          rw kept (rw (count_cons p k (without id jobs), count_cons p k jobs) (omega (arith, i)))
-    ]
+    grind (arith, cases_Bool, all_kept, others_above, count_cons p k, count_without p (suc k.id) next id j jobs h.1)
 
 pub length_without : (low next id : ℕ) (j : Job) (jobs : List Job) → AreIdsWithin low jobs next → job_with id jobs ≡ Some j
     → suc (length (without id jobs)) ≡ length jobs
@@ -161,17 +138,8 @@ pub changed : (low next id : ℕ) (f : Job → Job) (j : Job) (jobs : List Job) 
     → (f j).id ≡ id → with_added (f j) (without id jobs) ≡ map (λ k. if k.id == id then f k else k) jobs
 changed low next id f j [] h found same = absurd cc
 changed low next id f j (k ∷ jobs) h found same =
-    elim (cases_Bool (k.id == id)) [
-      | inl out ↦ grind (arith, others_above, all_kept, added_first, none_changed)
-      | inr kept ↦
-          let found_then : job_with id jobs ≡ Some j = rw kept at found in
-          let above : nat_lt k.id (f j).id ≡ true = is_above k id next jobs j (f j) h.1 found_then same in
-          rw kept (rw above (ap (λ ks. k ∷ ks) (changed (suc k.id) next id f j jobs h.1 found_then same)))
-    ]
-  where
-    is_above : (k : Job) (id next : ℕ) (jobs : List Job) (j new : Job) → AreIdsWithin (suc k.id) jobs next → job_with id jobs ≡ Some j
-        → new.id ≡ id → nat_lt k.id new.id ≡ true
-    is_above k id next jobs j new h found same = grind (arith, not_found, others_above)
+    let rest = changed (suc k.id) next id f j jobs h.1 in
+    grind (arith, cases_Bool, all_kept, added_first, none_changed, others_above, not_found, all_from_low, nat_tests, rest)
 
 -- after its removal, an id finds no job
 pub not_there : (id : ℕ) (jobs : List Job) → job_with id (without id jobs) ≡ None

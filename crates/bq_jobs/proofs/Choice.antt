@@ -5,7 +5,7 @@ use Rattle.std.specs.Prelude.{is_some}
 use Rattle.std.specs.declared.cmp.Ordering.{Ordering}
 use Rattle.std.specs.declared.cmp.Ordering.TheVariants.{Less, Equal}
 use Rattle.std.specs.Cmp.{Equal-is, IsTotalOrder, eq_by_cmp_equiv, tied_then, unsigned_tied}
-use Rattle.std.specs.Ordering.{is_eq, is_gt, match_ordering, nat_cmp, ordering_then}
+use Rattle.std.specs.Ordering.{is_eq, is_gt, nat_cmp, ordering_then}
 use Rattle.std.specs.List.{AllByRecursion as All}
 use Rattle.std.specs.List.Sorted.{IsStrictlySortedBy}
 use Rattle.std.specs.Map.{keys_of, lookup, remove_entry}
@@ -31,30 +31,16 @@ then_equal_second a b h = equal_from b ((and_parts (is_eq a) (is_eq b) (tied_the
 pub numbers_tie : (a b : ℕ) → nat_cmp a b ≡ Equal → a ≡ b
 numbers_tie a b h = eqb-true a b (sym (unsigned_tied a b) ∙ ap is_eq h)
 
-pub none_below : (a : ℕ) → is_gt (nat_cmp 0 a) ≡ false
-none_below a = grind arith
-
-pub then_not_greater : (a b : Ordering) → is_gt a ≡ false → is_gt b ≡ false → is_gt (ordering_then a b) ≡ false
-then_not_greater a b h2 h3 = grind arith
-
 -- The order of pairs agrees with the comparison of pairs.
 pub pair_not_after : (a i b j : ℕ) → is_gt (ordering_then (nat_cmp a b) (nat_cmp i j)) ≡ false → is_pair_before b j a i ≡ false
 pair_not_after a i b j h = grind (arith, common_steps)
 
 module _ {K V : Type 0} {R : K → K → Ordering} (o : IsTotalOrder R) where
-  inserted_cases : (q p : K) (v : V) (e : K × V) (es : List (K × V)) (a : Ordering) → R p e.0 ≡ a
-      → (lookup (is_at (R p)) es ≡ None → lookup (is_at (R q)) (insert_entry R es p v) ≡ cond (is_eq (R q p)) (Some v)
-      (lookup (is_at (R q)) es))
-      → cond (is_eq a) (Some e.1) (lookup (is_at (R p)) es) ≡ None
-      → lookup (is_at (R q)) (match_ordering a ((p, v) ∷ e ∷ es) ((e.0, v) ∷ es) (e ∷ insert_entry R es p v)) ≡ cond (is_eq (R q p))
-      (Some v) (cond (is_eq (R q e.0)) (Some e.1) (lookup (is_at (R q)) es))
-  inserted_cases q p v e es a h6 h7 h8 = grind arith
-
   -- lookup after an insertion
   pub lookup_inserted : (q p : K) (v : V) (es : List (K × V)) → lookup (is_at (R p)) es ≡ None
       → lookup (is_at (R q)) (insert_entry R es p v) ≡ cond (is_eq (R q p)) (Some v) (lookup (is_at (R q)) es)
   lookup_inserted q p v [] absent = refl
-  lookup_inserted q p v (e ∷ es) absent = inserted_cases q p v e es (R p e.0) refl (lookup_inserted q p v es) absent
+  lookup_inserted q p v (e ∷ es) absent = grind (arith, lookup_inserted q p v es)
 
   -- lookup after a removal
   pub lookup_removed : (q p : K) (es : List (K × V)) → InOrder R es

@@ -1,40 +1,35 @@
 -- The first job of each kind is at the first place of a group.
-use Rattle.std.proofs.Common.{◌≡◌, ℕ, ◌^◌, true, List, Option, Some, None, refl}
+use Rattle.std.proofs.lemmas.Bool.{cases_Bool}
+use Rattle.std.proofs.Common.{◌≡◌, ◌^◌, true, List, Some, rules, arith}
 use Rattle.std.specs.Prelude.{option_map}
 use Rattle.bq_job.specs.declared.job.Job.{Job}
 use Rattle.bq_jobs.specs.contracts.places.GroupOrd.TheImpl.Laws as group_laws
 use Rattle.bq_jobs.specs.contracts.places.TimerOrd.TheImpl.Laws as timer_laws
 use Rattle.bq_jobs.specs.declared.places.Holder.{Holder}
-use Rattle.bq_jobs.specs.declared.places.Holder.TheVariants as holders
 use Rattle.bq_jobs.specs.declared.places.ShelfPlace.{ShelfPlace}
 use Rattle.bq_jobs.specs.declared.places.Timer.{Timer}
-use Rattle.bq_jobs.specs.declared.places.Timer.TheVariants as timers
 use Rattle.bq_jobs.specs.declared.numbered_jobs.NumberedJobs.TheInside.{Inside as Parts}
 use Rattle.bq_jobs.specs.Inside.{jobs_of}
-use Rattle.bq_jobs.specs.JobsSeen.{ranked}
 use Rattle.bq_jobs.specs.PlaceOrder.{first_rank}
 use Rattle.bq_jobs.specs.Places.{timer_place, group_place}
 use Rattle.bq_jobs.specs.Ranks.{first_by, first_held, first_timed, id_in, is_of, is_timed, moment_of, rank_of}
 use Rattle.bq_jobs.proofs.FirstOfGroup.{in_group, rank_is}
-use Rattle.bq_jobs.proofs.Firsts.{group_cmp, timer_cmp, group_own, timer_own, listed_grouped, due_grouped, lease_grouped, held_grouped}
-use Rattle.bq_jobs.proofs.Firsts.{listed_numbered, due_numbered, lease_numbered, held_numbered}
+use Rattle.bq_jobs.proofs.Firsts.{group_cmp, timer_cmp, group_own, timer_own, list_ties, other_list}
 use Rattle.bq_jobs.proofs.Shelved.{AreShelved}
 
+-- a job passes the test of a group exactly if its place is in the group
 grouped : (g : Holder) (j : Job) → is_of g j ≡ in_group group_cmp g (group_place j)
-grouped (holders.Held seat) j = held_grouped seat j.state j
-grouped (holders.Listed l) j = listed_grouped l.list l.tube j.state j
+grouped g j = search (rules, cases_Bool, list_ties, other_list)
 
+-- the number that orders the jobs of a group is that of the place
 numbered : (g : Holder) (j : Job) (p : ShelfPlace Holder) → group_place j ≡ Some p → is_of g j ≡ true → p.at ≡ rank_of g j
-numbered (holders.Held seat) j p e h = held_numbered seat j.state j p e h
-numbered (holders.Listed l) j p e h = listed_numbered l.list l.tube j.state j p e h
+numbered g j p e h = grind arith
 
 timed : (t : Timer) (j : Job) → is_timed t j ≡ in_group timer_cmp t (timer_place j)
-timed timers.Delay j = due_grouped j.state j
-timed timers.Lease j = lease_grouped j.state j
+timed t j = grind arith
 
 timed_numbered : (t : Timer) (j : Job) (p : ShelfPlace Timer) → timer_place j ≡ Some p → is_timed t j ≡ true → p.at ≡ moment_of t j
-timed_numbered timers.Delay j p e h = due_numbered j.state j p e h
-timed_numbered timers.Lease j p e h = lease_numbered j.state j p e h
+timed_numbered t j p e h = grind arith
 
 module _ (s : Parts) (h : AreShelved s) where
   pub group_first : (g : Holder) → first_rank group_cmp g s.groups.entries ≡ first_held g (jobs_of s.by_id.entries)
@@ -49,16 +44,11 @@ module _ (s : Parts) (h : AreShelved s) where
       rank_is timer_laws.total-law t timer_place timer_own (is_timed t) (moment_of t) (timed t) (timed_numbered t)
       0 (2 ^ 64) (jobs_of s.by_id.entries) s.by_id.spare s.timers h.in_timers h.ids h.in_timers.sorted
 
--- the id in the pair is the id of the first job
-second_of : (number : Job → ℕ) (o : Option Job) → option_map (λ (p : ℕ × ℕ). p.1) (option_map (ranked number) o) ≡ option_map (λ j. j.id) o
-second_of number None = refl
-second_of number (Some j) = refl
-
 pub held_id : (g : Holder) (jobs : List Job) → id_in (first_held g jobs) ≡ option_map (λ j. j.id) (first_by (is_of g) (rank_of g) jobs)
 unfolding first_held id_in
-held_id g jobs = second_of (rank_of g) (first_by (is_of g) (rank_of g) jobs)
+held_id g jobs = grind arith
 
 pub timed_id : (t : Timer) (jobs : List Job)
     → id_in (first_timed t jobs) ≡ option_map (λ j. j.id) (first_by (is_timed t) (moment_of t) jobs)
 unfolding first_timed id_in
-timed_id t jobs = second_of (moment_of t) (first_by (is_timed t) (moment_of t) jobs)
+timed_id t jobs = grind arith

@@ -1,13 +1,13 @@
 -- The first place of a group is the place of its first job.
-use Rattle.std.proofs.Common.{◌≡◌, ℕ, Bool, true, false, List, Option, Some, None, arith, refl, sym, ap, ◌∙◌, subst, inl, inr}
+use Rattle.std.proofs.Common.{◌≡◌, ℕ, Bool, true, false, List, Option, Some, None, arith, refl, sym, ap, ◌∙◌, subst, rules}
 use Rattle.std.specs.Prelude.{is_some, ◌==◌}
 use Rattle.std.specs.declared.cmp.Ordering.{Ordering}
-use Rattle.std.specs.declared.cmp.Ordering.TheVariants.{Less, Equal, Greater}
+use Rattle.std.specs.declared.cmp.Ordering.TheVariants.{Equal}
 use Rattle.std.specs.Cmp.{IsTotalOrder}
-use Rattle.std.specs.Ordering.{is_eq, is_gt, nat_cmp, ordering_reverse, ordering_then}
-use Rattle.std.specs.Option.{IfSome, option_map, option_and_then}
+use Rattle.std.specs.Ordering.{is_eq, is_gt, nat_cmp, ordering_then}
+use Rattle.std.specs.Option.{IfSome, option_map}
 use Rattle.std.specs.List.{Contains}
-use Rattle.std.proofs.lemmas.Bool.{cases_Bool, false_from_ne_true}
+use Rattle.std.proofs.lemmas.Bool.{false_from_ne_true}
 use Rattle.std.proofs.lemmas.Bool.Decides.{nat_tests}
 use Rattle.bq_index.specs.Order.{InOrder, entry_from}
 use Rattle.bq_job.specs.declared.job.Job.{Job}
@@ -16,12 +16,12 @@ use Rattle.bq_job.specs.beside.Lawful.{AreIdsWithin}
 use Rattle.bq_job.proofs.ChoiceLemmas.{first_of_is, first_of_none_passes, pair_order}
 use Rattle.bq_job.proofs.ListLemmas.{all_from_members, found_passes, list_any_not}
 use Rattle.bq_jobs.specs.declared.places.ShelfPlace.{ShelfPlace}
-use Rattle.bq_jobs.specs.Inside.{IsOrderOf, Order, has_place, is_place}
+use Rattle.bq_jobs.specs.Inside.{IsOrderOf, Order, is_place}
 use Rattle.bq_jobs.specs.JobsSeen.{ranked}
-use Rattle.bq_jobs.specs.PlaceOrder.{place_total, front, first_rank, holds_place, place_cmp, rank_in_group}
+use Rattle.bq_jobs.specs.PlaceOrder.{place_total, front, first_rank, holds_place, place_cmp}
 use Rattle.bq_jobs.proofs.Changes.{found_by_id, found_id}
-use Rattle.bq_jobs.proofs.Choice.{equal_from, found_below, from_found, from_least, from_not_below, none_below}
-use Rattle.bq_jobs.proofs.Choice.{numbers_tie, pair_not_after, then_equal_first, then_equal_second, then_not_greater}
+use Rattle.bq_jobs.proofs.Choice.{equal_from, found_below, from_found, from_least, from_not_below}
+use Rattle.bq_jobs.proofs.Choice.{numbers_tie, pair_not_after, then_equal_first, then_equal_second}
 use Rattle.bq_jobs.proofs.Orders.{held_place}
 
 -- whether a place is in the group
@@ -33,17 +33,8 @@ in_group C g (Some p) = is_eq (C g p.group)
 abbrev rank_at : {G : Type 0} → ShelfPlace G × Unit {0} → ℕ × ℕ
 rank_at e = (e.0.at, e.0.id)
 
--- if the front of one group is not above a place of another group, the first group is below the
--- other
-then_less : (a b : Ordering) → is_gt (ordering_then a b) ≡ false → is_eq a ≡ false → a ≡ Less
-then_less Less b h n = refl
-then_less Equal b h n = absurd cc
-then_less Greater b h n = absurd cc
-
 then_tied : (a b : Ordering) → a ≡ Equal → is_gt (ordering_then a b) ≡ false → is_gt b ≡ false
-then_tied Less b e h = absurd cc
-then_tied Equal b e h = h
-then_tied Greater b e h = absurd cc
+then_tied a b e h = grind arith
 
 same_pairs : (a i b j c k d l : ℕ) → a ≡ c → i ≡ k → b ≡ d → j ≡ l → is_pair_before a i b j ≡ false → is_pair_before c k d l ≡ false
 same_pairs a i b j c k d l e f g h is = grind (arith, nat_tests)
@@ -51,23 +42,12 @@ same_pairs a i b j c k d l e f g h is = grind (arith, nat_tests)
 module _ {G : Type 0} {C : G → G → Ordering} (o : IsTotalOrder C) (g : G) where
   -- no place of the group is below its front
   front_first : (p : ShelfPlace G) → is_eq (C g p.group) ≡ true → is_gt (place_cmp C (front C g) p) ≡ false
-  front_first p h =
-      then_not_greater (C g p.group) (ordering_then (nat_cmp 0 p.at) (nat_cmp 0 p.id)) (ap is_gt (equal_from (C g p.group) h))
-      (then_not_greater (nat_cmp 0 p.at) (nat_cmp 0 p.id) (none_below p.at) (none_below p.id))
+  front_first p h = grind arith
 
   -- every place between the front and a place of the group is in the group
   between : (k q : ShelfPlace G) → is_gt (place_cmp C (front C g) k) ≡ false → is_gt (place_cmp C k q) ≡ false → is_eq (C g q.group) ≡ true
       → is_eq (C g k.group) ≡ true
-  between k q l u h =
-      elim (cases_Bool (is_eq (C g k.group))) [
-        | inl e ↦ e
-        | inr e ↦
-            let low = then_less (C g k.group) (ordering_then (nat_cmp 0 k.at) (nat_cmp 0 k.id)) l e in
-            let tie = equal_from (C g q.group) h in
-            let less : C q.group k.group ≡ Less = sym (o.congr g q.group k.group tie) ∙ low in
-            let more : C k.group q.group ≡ Greater = o.antisymm k.group q.group ∙ ap ordering_reverse less in
-            absurd (let m = rw more at u in cc)
-      ]
+  between k q l u h = search (rules, equal_from)
 
   module _ (place_of : Job → Option (ShelfPlace G)) (own : (j : Job) → IfSome (place_of j) (λ p. p.id ≡ j.id))
       (passes : Job → Bool) (number : Job → ℕ)
@@ -137,21 +117,14 @@ module _ {G : Type 0} {C : G → G → Ordering} (o : IsTotalOrder C) (g : G) wh
       pri_and_state_at q j None found e t = absurd cc
       pri_and_state_at q j (Some p) found e t = record { job = j; found = found; place = p; is = e; ties = equal_from (place_cmp C q p) t }
 
-      pri_and_state_in : (q : ShelfPlace G) (u : Option Job) → job_with q.id jobs ≡ u → has_place C place_of q u ≡ true → PriAndState q
-      pri_and_state_in q None found t = absurd cc
-      pri_and_state_in q (Some j) found t = pri_and_state_at q j (place_of j) found refl t
-
       pri_and_state : (q : ShelfPlace G) → is_some (holds_place C q order.entries) ≡ true → PriAndState q
-      pri_and_state q t = pri_and_state_in q (job_with q.id jobs) refl (sym (h.places q) ∙ t)
+      pri_and_state q t = search (rules, pri_and_state_at)
 
       tied_group : (k q : ShelfPlace G) → is_eq (C g k.group) ≡ true → is_eq (C g q.group) ≡ true → C k.group q.group ≡ Equal
       tied_group k q a b = sym (o.congr g k.group q.group (equal_from (C g k.group) a)) ∙ equal_from (C g q.group) b
 
       same_job : (x y : Job) → job_with x.id jobs ≡ Some x → Contains jobs y → before x y ≡ false → before y x ≡ false → y ≡ x
-      same_job x y found i a b =
-          let same : y.id ≡ x.id = grind (arith, nat_tests) in
-          let found_then : job_with x.id jobs ≡ Some y = subst (λ n. job_with n jobs ≡ Some y) same (found_by_id low next jobs y ids i) in
-          cc
+      same_job x y found i a b = grind (arith, nat_tests, found_by_id)
 
       one_of_group : (e : ShelfPlace G × Unit {0}) → entry_from (place_cmp C (front C g)) order.entries ≡ Some e
           → is_eq (C g e.0.group) ≡ true → option_map (ranked number) (first_of passes before jobs) ≡ Some (rank_at e)
@@ -182,17 +155,8 @@ module _ {G : Type 0} {C : G → G → Ordering} (o : IsTotalOrder C) (g : G) wh
           ((found_passes (λ j. j.id == e.0.id) jobs x st.found).1) pass least (λ y i a b. same_job x y found i a b))
           ∙ ap Some pair
 
-      rank_by : (u : Option (ShelfPlace G × Unit {0})) → entry_from (place_cmp C (front C g)) order.entries ≡ u
-          → option_and_then (rank_in_group C g) u ≡ option_map (ranked number) (first_of passes before jobs)
-      rank_by None n = sym (ap (option_map (ranked number)) (none_first n))
-      rank_by (Some e) n =
-          elim (cases_Bool (is_eq (C g e.0.group))) [
-            | inl t ↦ rw t (sym (one_of_group e n t))
-            | inr t ↦ rw t (sym (ap (option_map (ranked number)) (none_of_group e n t)))
-          ]
-
       -- the number and the id at the first place of the group are those of the first job that
       -- passes
       pub rank_is : first_rank C g order.entries ≡ option_map (ranked number)
           (first_of passes (λ a b. is_pair_before (number a) a.id (number b) b.id) jobs)
-      rank_is = rank_by (entry_from (place_cmp C (front C g)) order.entries) refl
+      rank_is = grind (arith, none_first, one_of_group, none_of_group)

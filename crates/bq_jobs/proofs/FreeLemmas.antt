@@ -1,19 +1,16 @@
 -- How the chain of the free numbers changes.
 use Rattle.std.proofs.lemmas.Grind.{common_steps}
-use Rattle.std.proofs.Common.{◌≡◌, ◌≤◌, ◌<◌, ℕ, suc, zero, true, false, List, [], ◌∷◌, length, get_or, set}
+use Rattle.std.proofs.Common.{◌≡◌, ◌≤◌, ◌<◌, ℕ, suc, zero, true, false, List, [], ◌∷◌, length, get_or, set, rules}
 use Rattle.std.proofs.Common.{Option, Some, None, is_some, arith, map, refl, sym, ap, ◌∙◌, subst, inl, inr}
 use Rattle.std.specs.Prelude.{◌==◌, ◌++◌, IfOk, OnErr, OnOk, Result, option_map, slice_get}
 use Rattle.bq_jobs.specs.Table.{changed_at, put_value}
 use Rattle.std.proofs.lemmas.Bool.{cases_Bool, eq-eqb, eqb-true}
 use Rattle.std.proofs.lemmas.Bool.Decides.{nat_tests}
-use Rattle.std.proofs.lemmas.List.{get_or-set_other, get_or-set_same, length-map, map-set}
+use Rattle.std.proofs.lemmas.List.{get_or_past, get_or-set_other, get_or-set_same, length-map, map-set}
 use Rattle.bq_job.specs.declared.NoMemory.{NoMemory}
 use Rattle.bq_jobs.specs.FreeNumbers.{AreAllUsed, AreChained, AreFreeFrom, IsChain, SlotState, is_in, names_in, nexts_in, values_in}
 use Rattle.bq_jobs.specs.Numbering.{IsGiven, Numbering, name_of, put_at}
-use Rattle.bq_jobs.proofs.NumberingLemmas.{length_put, put_is_set, put_other, put_same}
-
-flip : (a b : ℕ) → (a == b) ≡ false → (b == a) ≡ false
-flip a b e = grind (arith, nat_tests)
+use Rattle.bq_jobs.proofs.NumberingLemmas.{flip, length_put, put_at_end, put_is_set, put_other, put_same}
 
 apart : (a b : ℕ) → (a == b) ≡ false → a ≡ b → ⊥
 apart a b e is = let t = eq-eqb a b is in cc
@@ -127,8 +124,7 @@ module _ {V : Type 0} where
   nexts_many slots = length-map slots (λ (s : SlotState V). s.next)
 
   pub names_pushed : (slots : List (SlotState V)) (s : SlotState V) → names_in (slots ++ s ∷ []) ≡ names_in slots ++ s.name ∷ []
-  names_pushed [] s = refl
-  names_pushed (t ∷ slots) s = ap (λ (ns : List (Option (List ℕ))). t.name ∷ ns) (names_pushed slots s)
+  names_pushed slots s = grind (arith, common_steps)
 
   -- A slot was replaced.
   module _ (slots : List (SlotState V)) (n : ℕ) (s : SlotState V) (within : n < length slots) where
@@ -151,8 +147,7 @@ module _ {V : Type 0} where
   -- The same of slots, as their calls promise it.
   module _ (slots : List (SlotState V)) (head : ℕ) (c : AreFreeFrom head slots) where
     pub slots_used : (head < length slots → get_or (names_in slots) head None ≡ None → ⊥) → AreAllUsed (names_in slots)
-    slots_used used =
-        all_used (names_in slots) (nexts_in slots) head c (λ less free. used (omega (arith, less, names_many slots)) free)
+    slots_used used = search (rules, all_used, names_many)
 
     pub slot_added : (last : List (SlotState V)) (name : List ℕ) (r : Result ℕ NoMemory) → AreAllUsed (names_in slots)
         → IfOk r (λ n. IsGiven n name (names_in slots) (names_in last)) → IfOk r (λ n. n ≡ length slots)
@@ -188,3 +183,6 @@ module _ {V : Type 0} where
   values_edited f [] n s t own is = refl
   values_edited f (u ∷ slots) zero s t own is = ap (λ v. v ∷ values_in slots) (is ∙ ap (λ (r : SlotState V). f r.value) own)
   values_edited f (u ∷ slots) (suc n) s t own is = ap (λ vs. u.value ∷ vs) (values_edited f slots n s t own is)
+
+-- what the search takes for a slot that is added
+pub ruleset pushed = (length-map, names_pushed, get_or_past, put_at_end, values_pushed)

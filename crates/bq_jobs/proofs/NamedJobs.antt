@@ -1,10 +1,10 @@
 -- Operations on jobs by the names of their tubes agree with those on records by numbers.
-use Rattle.std.proofs.Common.{◌≡◌, ◌^◌, ℕ, Bor, Bool, true, false, ◌&&◌, List, arith}
+use Rattle.std.proofs.Common.{◌≡◌, ℕ, Bor, Bool, true, false, ◌&&◌, List, arith, rules}
 use Rattle.std.proofs.lemmas.Grind.{common_steps}
-use Rattle.std.proofs.Common.{[], ◌∷◌, Option, Some, None, is_some, map, refl, sym, ap, ◌∙◌, subst, inl, inr}
-use Rattle.std.specs.Prelude.{◌==◌, unwrap_or, Result, Ok, Err, IfOk, IfSome}
+use Rattle.std.proofs.Common.{[], ◌∷◌, Option, Some, None, is_some, map, refl, sym, ap, ◌∙◌}
+use Rattle.std.specs.Prelude.{unwrap_or, Result, Ok, Err, IfOk, IfSome}
 use Rattle.std.specs.BTreeMap.{is_at}
-use Rattle.std.specs.Cmp.Lexicographic.{bytes_decides, slice_cmp}
+use Rattle.std.specs.Cmp.Lexicographic.{slice_cmp}
 use Rattle.std.specs.List.{AllByRecursion as All, list_any}
 use Rattle.std.specs.Map.{remove_entry}
 use Rattle.std.specs.Option.{option_map}
@@ -28,47 +28,15 @@ use Rattle.bq_jobs.specs.Sharing.{ChangesShared, SharesAndChanges}
 use Rattle.bq_jobs.specs.declared.numbered_jobs.JobMove.{JobMove}
 use Rattle.bq_jobs.specs.declared.numbered_jobs.NumberedMove.{NumberedMove}
 use Rattle.bq_jobs.proofs.Changes.{stays_in}
-use Rattle.bq_jobs.proofs.NumberingLemmas.{name_kept, number_other}
-
-same_itself : (a : List ℕ) → is_same_name a a ≡ true
-same_itself a = (bytes_decides a a).1 refl
+use Rattle.bq_jobs.proofs.NumberingLemmas.{name_kept, number_left}
 
 module _ (k : Numbering) (h : IsPaired k) (name : List ℕ) where
-  -- a tube has this name exactly if it has its number,
-  told_by : (n m : ℕ) → number_of name k ≡ Some n → (o : Option (List ℕ)) → name_of m k ≡ o → is_some o ≡ true
-      → is_same_name name (unwrap_or o []) ≡ is_same_name (n ∷ []) (m ∷ [])
-  told_by n m own None its some = absurd cc
-  told_by n m own (Some other) its some = elim (cases_Bool (n == m)) [
-    | inl e ↦ grind (arith, same_itself)
-    | inr e ↦ rw e (elim (cases_Bool (is_same_name name other)) [
-      | inl same ↦ absurd (
-          let is : name ≡ other = (bytes_decides name other).0 same in
-          let two : Some n ≡ Some m = sym own ∙ ap (λ s. number_of s k) is ∙ h.back m other its in
-          let tie : n ≡ m = (cc) in
-          let itself = eq-eqb n m tie in
-          cc)
-      | inr other_name ↦ other_name
-    ])
-  ]
-
   tube_told : (n : ℕ) → number_of name k ≡ Some n → (j : Job) → IsNumbered k j
       → is_same_name name (named k j).tube ≡ is_same_name (n ∷ []) j.tube
-  tube_told n own j is = told_by n (number_in j.tube) own (name_of (number_in j.tube) k) refl is.1 ∙ ap (is_same_name (n ∷ [])) (sym is.0)
-
-  -- and if no tube has the name, no number has it
-  not_told_by : number_of name k ≡ None → (m : ℕ) (o : Option (List ℕ)) → name_of m k ≡ o → is_some o ≡ true
-      → is_same_name name (unwrap_or o []) ≡ false
-  not_told_by none m None its some = absurd cc
-  not_told_by none m (Some other) its some = elim (cases_Bool (is_same_name name other)) [
-    | inl same ↦ absurd (
-        let is : name ≡ other = (bytes_decides name other).0 same in
-        let two : None ≡ Some m = sym none ∙ ap (λ s. number_of s k) is ∙ h.back m other its in
-        cc)
-    | inr apart ↦ apart
-  ]
+  tube_told n own j is = search (rules, cases_Bool, eq-eqb)
 
   tube_not_told : number_of name k ≡ None → (j : Job) → IsNumbered k j → is_same_name name (named k j).tube ≡ false
-  tube_not_told none j is = not_told_by none (number_in j.tube) (name_of (number_in j.tube) k) refl is.1
+  tube_not_told none j is = search (rules, cases_Bool)
 
   -- the jobs that pass a test of their state and are in the tube
   pub all_told : (n : ℕ) → number_of name k ≡ Some n → (test : Job → Bool) (rows : List Job) → AreNumbered k rows
@@ -104,7 +72,7 @@ numbered_added : (k : Numbering) (j : Job) (rows : List Job) → IsNumbered k j 
 numbered_added k j [] is all = (is, tt)
 numbered_added k j (r ∷ rows) is all = grind (arith, numbered_added k j rows is all.1)
 
-numbered_without : (k : Numbering) (id : ℕ) (rows : List Job) → AreNumbered k rows → AreNumbered k (without id rows)
+pub numbered_without : (k : Numbering) (id : ℕ) (rows : List Job) → AreNumbered k rows → AreNumbered k (without id rows)
 numbered_without k id [] all = tt
 numbered_without k id (r ∷ rows) all = grind (arith, numbered_without k id rows all.1)
 
@@ -113,9 +81,6 @@ numbered_changed : (k : Numbering) (id : ℕ) (f : Job → Job) → IgnoresTube 
 numbered_changed k id f ignores [] all = tt
 numbered_changed k id f ignores (r ∷ rows) all = grind (arith, stays_in f ignores r, numbered_changed k id f ignores rows all.1)
 
-pub registered_without : (k : Numbering) (id : ℕ) (rows : List Job) → AreRegistered k rows → AreRegistered k (without id rows)
-registered_without k id rows h = record { paired = h.paired; numbered = numbered_without k id rows h.numbered }
-
 pub registered_changed : (k : Numbering) (id : ℕ) (f : Job → Job) → IgnoresTube f → (rows : List Job) → AreRegistered k rows
     → AreRegistered k (with_changed id f rows)
 registered_changed k id f ignores rows h = record { paired = h.paired; numbered = numbered_changed k id f ignores rows h.numbered }
@@ -123,10 +88,7 @@ registered_changed k id f ignores rows h = record { paired = h.paired; numbered 
 -- the record that an id finds is numbered
 numbered_there : (k : Numbering) (id : ℕ) (rows : List Job) (j : Job) → AreNumbered k rows → job_with id rows ≡ Some j → IsNumbered k j
 numbered_there k id [] j all e = absurd cc
-numbered_there k id (r ∷ rows) j all e = elim (cases_Bool (r.id == id)) [
-  | inl t ↦ let two : Some r ≡ Some j = rw t at e in let is : r ≡ j = (cc) in subst (IsNumbered k) is all.0
-  | inr t ↦ numbered_there k id rows j all.1 (rw t at e)
-]
+numbered_there k id (r ∷ rows) j all e = grind (arith, common_steps, cases_Bool, numbered_there k id rows j all.1)
 
 pub numbered_found : (k : Numbering) (id : ℕ) (rows : List Job) → AreNumbered k rows → IfSome (job_with id rows) (IsNumbered k)
 numbered_found k id rows all = grind (arith, numbered_there)
@@ -199,14 +161,12 @@ module _ (k l : Numbering) where
     -- Neither does removing a tube that has no jobs.
     module _ (gone : List ℕ) (left : l.numbers ≡ remove_entry (is_at (slice_cmp nat_cmp gone)) k.numbers) where
       name_left : (h : IsPaired k) (j : Job) → IsNumbered k j → is_same_name gone (named k j).tube ≡ false → HasName j
-      name_left h j is apart = grind (arith, name_kept, number_other)
+      name_left h j is apart = grind (arith, name_kept, number_left)
 
       names_left : (h : IsPaired k) (rows : List Job) → AreNumbered k rows
           → list_any (λ j. is_same_name gone j.tube) (map (named k) rows) ≡ false → All HasName rows
       names_left h [] all none = tt
-      names_left h (j ∷ rows) all none =
-          let both = or_parts (is_same_name gone (named k j).tube) (list_any (λ i. is_same_name gone i.tube) (map (named k) rows)) none in
-          (name_left h j all.0 both.0, names_left h rows all.1 both.1)
+      names_left h (j ∷ rows) all none = grind (arith, or_parts, name_left, names_left h rows all.1)
 
       pub registered_left : (rows : List Job) → AreRegistered k rows
           → list_any (λ j. is_same_name gone j.tube) (map (named k) rows) ≡ false → AreRegistered l rows
@@ -235,16 +195,6 @@ pub counted_as : (n : ℕ) (k : Numbering) (rows old new : JobsSeen) → seen_na
     → ComparesAtMost n old new
 counted_as n k rows old new is few = grind (arith, common_steps)
 
--- The record of a job.
-record IsNamedFrom (k : Numbering) (o : Option Job) (j : Job) : Type 0 where
-  row : Job
-  there : o ≡ Some row
-  is : j ≡ named k row
-
-named_from : (k : Numbering) (id : ℕ) (rows : List Job) (j : Job) → job_with id (map (named k) rows) ≡ Some j
-    → IsNamedFrom k (job_with id rows) j
-named_from k id rows j e = grind (arith, job_named)
-
 pub some_named : (k : Numbering) (id : ℕ) (rows : List Job) → is_some (job_with id (map (named k) rows)) ≡ is_some (job_with id rows)
 some_named k id rows = grind (arith, job_named)
 
@@ -266,15 +216,11 @@ no_name k id rows h n some is none = of (job_with id rows) refl some is
 
 pub tube_is : (k : Numbering) (id : ℕ) (rows : List Job) (n tube : List ℕ) → IsTubeOf (job_with id rows) n
     → name_of (number_in n) k ≡ Some tube → IsTubeOf (job_with id (map (named k) rows)) tube
-tube_is k id rows n tube is its j e = grind (arith, named_from k id rows j e)
-
-body_is : (k : Numbering) (id : ℕ) (rows : List Job) (body : List ℕ) → IsBodyOf (job_with id rows) body
-    → IsBodyOf (job_with id (map (named k) rows)) body
-body_is k id rows body is j e = grind (arith, named_from k id rows j e)
+tube_is k id rows n tube is its j e = grind (arith, job_named)
 
 pub body_told : {E : Type 0} (k : Numbering) (id : ℕ) (rows : List Job) (r : Result (List ℕ) E) → IfOk r (IsBodyOf (job_with id rows))
     → IfOk r (IsBodyOf (job_with id (map (named k) rows)))
-body_told k id rows (Ok body) is = body_is k id rows body is
+body_told k id rows (Ok body) is = grind (arith, job_named)
 body_told k id rows (Err e) is = tt
 
 -- A change of a record that also returns its body is the same change of its job.
@@ -284,14 +230,7 @@ module _ (k : Numbering) (id : ℕ) (f : Job → Job) (ignores : IgnoresTube f) 
   IsReported m = Some m ≡ option_map (numbered_move f) (job_with id rows.jobs)
 
   named_shared : (body : List ℕ) → ChangesShared id f body rows new → ChangesShared id f body old (seen_named new k)
-  named_shared body c = subst (λ i. ChangesShared id f body i (seen_named new k)) is (record {
-    body_is = body_is k id rows.jobs body c.body_is;
-    jobs = ap (map (named k)) c.jobs ∙ sym (changed_named k id f ignores rows.jobs);
-    ordered = ids_named k 0 (2 ^ 64) rows.jobs c.ordered;
-    tubes = refl;
-    room = c.room;
-    comparisons = counted_as 7 k rows (seen_named rows k) new refl c.comparisons;
-  })
+  named_shared body c = grind (arith, common_steps, changed_named, ids_named, counted_as, job_named)
 
   abbrev IsReportedOf : List ℕ × JobMove → Type 0
   IsReportedOf r = (Some r.1 ≡ option_map (moved_by f) (job_with id old.jobs)) × HasNumber r.1.tube r.0 k.numbers

@@ -1,7 +1,7 @@
 -- Consequences of the numbering of tubes.
 use Rattle.std.proofs.lemmas.Grind.{common_steps}
 use Rattle.std.proofs.Common.{◌≡◌, ◌≤◌, ◌<◌, ◌^◌, ℕ, zero, suc, true, false, cond, List, [], ◌∷◌, length, get_or, set}
-use Rattle.std.proofs.Common.{Option, Some, None, is_some, arith, refl, sym, ap, ◌∙◌, subst, inl, inr, ◌++◌}
+use Rattle.std.proofs.Common.{Option, Some, None, is_some, arith, refl, sym, ap, ◌∙◌, inl, inr, ◌++◌}
 use Rattle.std.specs.Prelude.{IfSome, ◌==◌}
 use Rattle.std.specs.BTreeMap.{is_at, insert_entry}
 use Rattle.std.specs.Cmp.{unsigned_tied}
@@ -12,8 +12,7 @@ use Rattle.std.proofs.lemmas.Bool.{cases_Bool, eq-eqb, eqb-true}
 use Rattle.std.proofs.lemmas.Bool.Decides.{nat_tests}
 use Rattle.bq_index.proofs.Order.{order_insert, order_remove}
 use Rattle.bq_job.specs.reading.TubeName.{is_same_name}
-use Rattle.bq_jobs.specs.Numbering.{IsGiven, IsPaired, Numbering}
-use Rattle.bq_jobs.specs.Numbering.{name_of, names_without, number_of, paired_with, put_at, without_known}
+use Rattle.bq_jobs.specs.Numbering.{name_of, names_without, number_of, paired_with, put_at, without_known, IsGiven, IsPaired, Numbering}
 use Rattle.bq_jobs.proofs.ById.{is_eq_nat}
 use Rattle.bq_jobs.proofs.Choice.{lookup_inserted, lookup_removed}
 
@@ -30,6 +29,12 @@ tie_names a b e = sym (texts_ties a b) ∙ (bytes_decides a b).1 e
 tie_numbers : (a b : ℕ) → a ≡ b → is_eq (nat_cmp a b) ≡ true
 tie_numbers a b e = unsigned_tied a b ∙ eq-eqb a b e
 
+pub lower : (m n : ℕ) → (suc m == suc n) ≡ false → (m == n) ≡ false
+lower m n e = grind (arith, nat_tests)
+
+pub flip : (m n : ℕ) → (m == n) ≡ false → (n == m) ≡ false
+flip m n e = grind (arith, nat_tests)
+
 pub some_is : {A : Type 0} (a b : A) → Some a ≡ Some b → a ≡ b
 some_is a b e = cc
 
@@ -40,18 +45,13 @@ module _ (x : Option (List ℕ)) where
   put_same (y ∷ names) zero = refl
   put_same (y ∷ names) (suc m) = put_same names m
 
-  before : (m n : ℕ) → (suc m == suc n) ≡ false → (m == n) ≡ false
-  before m n e = grind (arith, nat_tests)
-
   pub put_other : (names : List (Option (List ℕ))) (m n : ℕ) → (m == n) ≡ false → get_or (put_at names m x) n None ≡ get_or names n None
-  put_other [] zero zero e = absurd (let t : (0 == 0) ≡ true = grind (arith, nat_tests) in cc)
-  put_other [] zero (suc n) e = refl
+  put_other [] zero x e = grind arith
   put_other [] (suc m) zero e = refl
-  put_other [] (suc m) (suc n) e = put_other [] m n (before m n e)
-  put_other (y ∷ names) zero zero e = absurd (let t : (0 == 0) ≡ true = grind (arith, nat_tests) in cc)
-  put_other (y ∷ names) zero (suc n) e = refl
+  put_other [] (suc m) (suc n) e = put_other [] m n (lower m n e)
+  put_other (y ∷ names) zero x e = grind arith
   put_other (y ∷ names) (suc m) zero e = refl
-  put_other (y ∷ names) (suc m) (suc n) e = put_other names m n (before m n e)
+  put_other (y ∷ names) (suc m) (suc n) e = put_other names m n (lower m n e)
 
   -- a slot that is there is set,
   pub put_is_set : (names : List (Option (List ℕ))) (m : ℕ) → m < length names → set names m x ≡ put_at names m x
@@ -68,9 +68,6 @@ module _ (x : Option (List ℕ)) where
   length_put [] m l = absurd (omega (arith, l))
   length_put (y ∷ names) zero l = refl
   length_put (y ∷ names) (suc m) l = ap suc (length_put names m (omega (arith, l)))
-
-flipped : (m n : ℕ) → is_eq (nat_cmp n m) ≡ is_eq (nat_cmp m n)
-flipped m n = is_eq_nat n m ∙ sym (unsigned_tied m n)
 
 -- a number that has a name has a slot
 pub has_slot : (k : Numbering) (n : ℕ) (name : List ℕ) → name_of n k ≡ Some name → n < length k.names
@@ -119,7 +116,7 @@ module _ (k : Numbering) (h : IsPaired k) (name : List ℕ) where
   removed_then q = lookup_removed nat_list_cmp_total q name k.numbers h.by_name
 
   taken_then : (m n : ℕ) → get_or (put_at k.names m None) n None ≡ cond (is_eq (nat_cmp m n)) None (name_of n k)
-  taken_then m n = grind (arith, flipped, cases_Bool, put_same, put_other, is_eq_nat)
+  taken_then m n = grind (arith, cases_Bool, put_same, put_other, is_eq_nat)
 
   removed_by : (o : Option ℕ) → number_of name k ≡ o
       → IsPaired (record k { numbers = remove_entry (is_at (slice_cmp nat_cmp name)) k.numbers; names = names_without o k.names })
@@ -159,9 +156,7 @@ module _ (k : Numbering) (h : IsPaired k) (name : List ℕ) where
 -- the same for any value with these lists
 pub paired_to : (k new : Numbering) (name : List ℕ) (n : ℕ) → IsPaired k → number_of name k ≡ None → IsGiven n name k.names new.names
     → new.numbers ≡ insert_entry (slice_cmp nat_cmp) k.numbers name n → IsPaired new
-paired_to k new name n h absent given numbers =
-    subst IsPaired (λ i. record { numbers = sym numbers i; names = sym given.2 i })
-    (added_is_paired k h name n absent given.1 (let same = ap length given.2 in omega (arith, same, given.3)))
+paired_to k new name n h absent given numbers = grind (arith, added_is_paired k h name n absent given.1)
 
 pub removed_to : (k new : Numbering) (name : List ℕ) (o : Option ℕ) → IsPaired k → number_of name k ≡ o
     → new.numbers ≡ remove_entry (is_at (slice_cmp nat_cmp name)) k.numbers → new.names ≡ names_without o k.names → IsPaired new
@@ -188,10 +183,6 @@ module _ (k : Numbering) (h : IsPaired k) (name : List ℕ) where
   pub number_left : (other : List ℕ) → is_same_name name other ≡ false → number_of other (without_known name k) ≡ number_of other k
   number_left other apart = removed_then k h name other
       ∙ (let t : is_eq (slice_cmp nat_cmp name other) ≡ false = sym (texts_ties name other) ∙ apart in rw t refl)
-
-  pub number_other : (l : Numbering) → l.numbers ≡ remove_entry (is_at (slice_cmp nat_cmp name)) k.numbers → (other : List ℕ)
-      → is_same_name name other ≡ false → number_of other l ≡ number_of other k
-  number_other l left other apart = ap (λ es. lookup (is_at (slice_cmp nat_cmp other)) es) left ∙ number_left other apart
 
 -- A removal keeps the number of slots.
 module _ (k : Numbering) (h : IsPaired k) (name : List ℕ) where

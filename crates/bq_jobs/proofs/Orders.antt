@@ -5,11 +5,9 @@ use Rattle.std.proofs.Common.{Option, Some, None, length, arith, refl, sym, ap, 
 use Rattle.std.specs.Prelude.{is_some, ◌==◌}
 use Rattle.std.specs.declared.cmp.Ordering.{Ordering}
 use Rattle.std.specs.Cmp.{IsTotalOrder}
-use Rattle.std.specs.Ordering.{is_eq}
 use Rattle.std.specs.Option.{IfSome}
 use Rattle.std.specs.BTreeMap.{is_at}
 use Rattle.std.proofs.lemmas.Bool.{cases_Bool}
-use Rattle.std.proofs.lemmas.List.Sums.{count_by-le-length}
 use Rattle.bq_index.specs.Order.{InOrder}
 use Rattle.bq_index.proofs.Order.{length_inserted, length_lost, length_removed, order_insert, order_remove}
 use Rattle.bq_job.specs.declared.job.Job.{Job}
@@ -33,15 +31,7 @@ pub fewer_places : {G : Type 0} (C : G → G → Ordering) (place : Option (Shel
 fewer_places C place es = grind (arith, length_lost)
 
 module _ {G : Type 0} {C : G → G → Ordering} (o : IsTotalOrder C) where
-  -- places that compare equal belong to one job
-  pub same_id : (p q : ShelfPlace G) → is_eq (place_cmp C p q) ≡ true → p.id ≡ q.id
-  same_id p q h = grind arith
-
   module _ (place_of : Job → Option (ShelfPlace G)) (own : (j : Job) → IfSome (place_of j) (λ p. p.id ≡ j.id)) where
-    -- if there is room for a job, there is a box for its place
-    pub has_spare : (jobs : List Job) (room : ℕ) (order : Order G) → IsOrderOf C place_of jobs room order → 0 < room → 0 < order.spare
-    has_spare jobs room order h r = omega (arith, h.roomy, h.counted, count_by-le-length (λ j. is_some (place_of j)) jobs, r)
-
     -- if a job is absent, its places are free
     pub absent_place : (j : Job) (jobs : List Job) (room : ℕ) (order : Order G) → IsOrderOf C place_of jobs room order
         → job_with j.id jobs ≡ None → (p : ShelfPlace G) → p.id ≡ j.id → holds_place C p order.entries ≡ None
@@ -151,7 +141,7 @@ module _ {G : Type 0} {C : G → G → Ordering} (o : IsTotalOrder C) where
       free_then = ap (λ n. job_with n (without id jobs)) same ∙ not_there id jobs
 
       has_spare_then : 0 < order.spare + cond (is_some (place_of j)) 1 0
-      has_spare_then = has_spare (without id jobs) (room + 1) left once_left (omega arith)
+      has_spare_then = grind (arith, common_steps, once_left)
 
       absent_then : (p : ShelfPlace G) → place_of k ≡ Some p → holds_place C p (without_place C (place_of j) order.entries) ≡ None
       absent_then p e = grind (arith, absent_place, once_left, free_then)

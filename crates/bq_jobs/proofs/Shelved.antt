@@ -1,7 +1,7 @@
 -- What is kept after additions, removals and allocations.
+use Rattle.std.proofs.lemmas.Grind.{common_steps}
 use Rattle.std.proofs.lemmas.List.Sums.{count_by-le-length}
-use Rattle.std.proofs.Common.{◌≡◌, ℕ, suc, ◌+◌, ◌<◌, ◌≤◌, ◌^◌, ◌*◌, List, [], ◌∷◌, Some}
-use Rattle.std.proofs.Common.{None, map, length, cond, arith, refl, sym, ap, ◌∙◌, subst, inl, inr}
+use Rattle.std.proofs.Common.{None, map, length, cond, arith, refl, sym, ap, ◌∙◌, inl, inr, ◌≡◌, ℕ, ◌+◌, ◌<◌, ◌≤◌, ◌^◌, ◌*◌, List, [], Some}
 use Rattle.std.specs.Prelude.{is_some, ◌==◌, Option}
 use Rattle.std.specs.Ordering.{nat_cmp}
 use Rattle.std.specs.Map.{lookup, remove_entry, set_value}
@@ -40,18 +40,10 @@ record HoldJobs (s : Parts) (jobs : List Job) : Type 0 where
   timed : IsOrderOf timer_cmp timer_place jobs s.by_id.spare s.timers
 
 shelved_from : (s : Parts) (jobs : List Job) → HoldJobs s jobs → AreShelved s
-shelved_from s jobs h =
-    let same : jobs ≡ jobs_of s.by_id.entries = sym (ap jobs_of h.own ∙ same_jobs jobs) in
-    record {
-      by_own_id = h.own ∙ ap (map with_id) same;
-      ids = subst (λ js. AreIdsWithin 0 js (2 ^ 64)) same h.ids;
-      in_groups = subst (λ js. IsOrderOf group_cmp group_place js s.by_id.spare s.groups) same h.tubes;
-      in_timers = subst (λ js. IsOrderOf timer_cmp timer_place js s.by_id.spare s.timers) same h.timed;
-    }
+shelved_from s jobs h = grind (arith, same_jobs, group_cmp, timer_cmp)
 
 length_jobs : (es : List (ℕ × Job)) → length (jobs_of es) ≡ length es
-length_jobs [] = refl
-length_jobs (e ∷ es) = ap suc (length_jobs es)
+length_jobs es = grind (arith, common_steps)
 
 -- the comparisons of a search for an id
 pub id_search : (by_id : ById) → 2 * binary_digits (length by_id.entries + 1) ≤ search_bound (jobs_of by_id.entries)
@@ -77,10 +69,6 @@ pub entries_removed : (id : ℕ) (s : Parts) → AreShelved s
     → remove_entry (is_at (nat_cmp id)) s.by_id.entries ≡ map with_id (without id (jobs_of s.by_id.entries))
 entries_removed id s h = ap (remove_entry (is_at (nat_cmp id))) h.by_own_id ∙ remove_by_id 0 (2 ^ 64) id (jobs_of s.by_id.entries) h.ids
 
-pub jobs_removed : (id : ℕ) (s : Parts) → AreShelved s
-    → jobs_of (remove_entry (is_at (nat_cmp id)) s.by_id.entries) ≡ without id (jobs_of s.by_id.entries)
-jobs_removed id s h = ap jobs_of (entries_removed id s h) ∙ same_jobs (without id (jobs_of s.by_id.entries))
-
 -- after an addition
 pub record Added (j : Job) (s n : Parts) : Type 0 where
   pub by_id : n.by_id.entries ≡ insert_entry nat_cmp s.by_id.entries j.id j
@@ -97,10 +85,8 @@ shelved_added j s n h l free a =
     shelved_from n (with_added j jobs) (record {
       own = a.by_id ∙ entries_added j s h free;
       ids = added_within 0 (2 ^ 64) j jobs (omega arith) l free h.ids;
-      tubes = order_added group_laws.total-law group_place group_own j jobs s.by_id.spare n.by_id.spare s.groups n.groups h.in_groups free
-          a.room a.groups a.group_spare;
-      timed = order_added timer_laws.total-law timer_place timer_own j jobs s.by_id.spare n.by_id.spare s.timers n.timers h.in_timers free
-          a.room a.timers a.timer_spare;
+      tubes = order_added group_laws.total-law group_place group_own j _ _ _ _ _ h.in_groups free a.room a.groups a.group_spare;
+      timed = order_added timer_laws.total-law timer_place timer_own j _ _ _ _ _ h.in_timers free a.room a.timers a.timer_spare;
     })
 
 -- after a removal
@@ -119,10 +105,10 @@ shelved_removed id j s n h found a =
     shelved_from n (without id jobs) (record {
       own = a.by_id ∙ entries_removed id s h;
       ids = without_within 0 (2 ^ 64) id jobs h.ids;
-      tubes = order_removed group_laws.total-law group_place group_own 0
-          (2 ^ 64) id j jobs s.by_id.spare n.by_id.spare s.groups n.groups h.in_groups h.ids found a.room a.groups a.group_spare;
-      timed = order_removed timer_laws.total-law timer_place timer_own 0
-          (2 ^ 64) id j jobs s.by_id.spare n.by_id.spare s.timers n.timers h.in_timers h.ids found a.room a.timers a.timer_spare;
+      tubes = order_removed group_laws.total-law group_place group_own _ _ id j _ _ _ _ _ h.in_groups h.ids found
+          a.room a.groups a.group_spare;
+      timed = order_removed timer_laws.total-law timer_place timer_own _ _ id j _ _ _ _ _ h.in_timers h.ids found
+          a.room a.timers a.timer_spare;
     })
 
 -- how often keys were compared
@@ -137,51 +123,25 @@ module _ (s : Parts) (h : AreShelved s) where
   pub timer_search : 2 * binary_digits (length s.timers.entries + 1) ≤ search_bound (jobs_of s.by_id.entries)
   timer_search = grind (arith, timer_cmp, search_is_bounded, count_by-le-length)
 
--- after a call that changed no entry
-pub shelved_kept : (s : Parts) (by_id : ById) → AreShelved s → by_id.entries ≡ s.by_id.entries → by_id.spare ≡ s.by_id.spare
-    → AreShelved (record s { by_id = by_id })
-shelved_kept s by_id h entries spare =
-    let jobs = jobs_of s.by_id.entries in
-    shelved_from (record s { by_id = by_id }) jobs (record {
-      own = entries ∙ h.by_own_id;
-      ids = h.ids;
-      tubes = subst (λ room. IsOrderOf group_cmp group_place jobs room s.groups) (sym spare) h.in_groups;
-      timed = subst (λ room. IsOrderOf timer_cmp timer_place jobs room s.timers) (sym spare) h.in_timers;
-    })
-
 -- if an id finds nothing, nothing is removed
 pub shelved_same : (id : ℕ) (s : Parts) (by_id : ById) → AreShelved s → lookup (is_at (nat_cmp id)) s.by_id.entries ≡ None
     → by_id.entries ≡ remove_entry (is_at (nat_cmp id)) s.by_id.entries → by_id.spare ≡ s.by_id.spare
     → AreShelved (record s { by_id = by_id })
-shelved_same id s by_id h none entries =
-    let same = without_none id (jobs_of s.by_id.entries) (sym (found_in id s h) ∙ none) in
-    shelved_kept s by_id h (entries ∙ entries_removed id s h ∙ ap (map with_id) same ∙ sym h.by_own_id)
+shelved_same id s by_id h none entries = grind (arith, without_none, found_in, entries_removed)
 
 -- what a removal does
 pub removes : {A : Type 0} (id : ℕ) (s n : Parts) (old : JobsSeen) (removed : Option A) → AreShelved s
     → seen_in s.by_id s.groups s.timers ≡ old → n.by_id.entries ≡ remove_entry (is_at (nat_cmp id)) s.by_id.entries
     → n.by_id.spare ≡ s.by_id.spare + cond (is_some removed) 1 0 → compared s ≤ compared n
     → compared n ≤ compared s + 4 * search_bound (jobs_of s.by_id.entries) → Removes id removed old (seen_in n.by_id n.groups n.timers)
-removes id s n old removed h is entries spare l u =
-    let jobs : jobs_of n.by_id.entries ≡ without id (jobs_of s.by_id.entries) = ap jobs_of entries ∙ jobs_removed id s h in
-    let seen = seen_in s.by_id s.groups s.timers in
-    subst (λ m. Removes id removed m (seen_in n.by_id n.groups n.timers)) is
-    (jobs, spare, ap (job_with id) jobs ∙ not_there id (jobs_of s.by_id.entries), few_more 4 seen seen _ _ refl refl l u)
+removes id s n old removed h is entries spare l u = grind (arith, not_there, few_more, entries_removed, same_jobs)
 
 -- what a removal does that asks a test first
 pub removes_if : (id : ℕ) (s n : Parts) (old : JobsSeen) (removed : Option Job) → AreShelved s
     → seen_in s.by_id s.groups s.timers ≡ old → n.by_id.entries ≡ removed_if (is_at (nat_cmp id)) removed s.by_id.entries
     → n.by_id.spare ≡ s.by_id.spare + cond (is_some removed) 1 0 → compared s ≤ compared n
     → compared n ≤ compared s + 4 * search_bound (jobs_of s.by_id.entries) → RemovesIf id removed old (seen_in n.by_id n.groups n.timers)
-removes_if id s n old removed h is entries spare l u =
-    let seen = seen_in s.by_id s.groups s.timers in
-    subst (λ m. RemovesIf id removed m (seen_in n.by_id n.groups n.timers)) is
-    (ap jobs_of entries ∙ of removed, spare, few_more 4 seen seen _ _ refl refl l u)
-  where
-    of : (o : Option Job) → jobs_of (removed_if (is_at (nat_cmp id)) o s.by_id.entries)
-        ≡ cond (is_some o) (without id (jobs_of s.by_id.entries)) (jobs_of s.by_id.entries)
-    of None = refl
-    of (Some x) = jobs_removed id s h
+removes_if id s n old removed h is entries spare l u = grind (arith, few_more, entries_removed, same_jobs)
 
 -- after a change
 pub record Changed (j k : Job) (s n : Parts) : Type 0 where
@@ -197,11 +157,7 @@ module _ (id : ℕ) (f : Job → Job) (keeps : KeepsId f) (s : Parts) (h : AreSh
   id_then = keeps j ∙ found_id id (jobs_of s.by_id.entries) j found
 
   pub entries_changed : set_value (is_at (nat_cmp id)) s.by_id.entries (f j) ≡ map with_id (with_changed id f (jobs_of s.by_id.entries))
-  entries_changed = ap (λ es. set_value (is_at (nat_cmp id)) es (f j)) h.by_own_id
-      ∙ set_by_id 0 (2 ^ 64) id f j (jobs_of s.by_id.entries) h.ids found id_then
-
-  pub jobs_changed : jobs_of (set_value (is_at (nat_cmp id)) s.by_id.entries (f j)) ≡ with_changed id f (jobs_of s.by_id.entries)
-  jobs_changed = ap jobs_of entries_changed ∙ same_jobs (with_changed id f (jobs_of s.by_id.entries))
+  entries_changed = grind (arith, set_by_id, id_then)
 
   changed_keeps : (k : Job) → (cond (k.id == id) (f k) k).id ≡ k.id
   changed_keeps k = elim (cases_Bool (k.id == id)) [ inl e ↦ rw e (keeps k) | inr e ↦ rw e refl ]
@@ -210,28 +166,18 @@ module _ (id : ℕ) (f : Job → Job) (keeps : KeepsId f) (s : Parts) (h : AreSh
       → Changed j (f j) s n → AreShelved n
   shelved_changed n entries a =
       let jobs = jobs_of s.by_id.entries in
-      let room = s.by_id.spare in
-      let made : with_added (f j) (without id jobs) ≡ with_changed id f jobs = changed 0 (2 ^ 64) id f j jobs h.ids found id_then in
+      let made = changed 0 (2 ^ 64) id f j jobs h.ids found id_then in
       shelved_from n (with_changed id f jobs) (record {
         own = entries ∙ entries_changed;
         ids = ids_of_map (λ k. cond (k.id == id) (f k) k) 0 (2 ^ 64) jobs changed_keeps h.ids;
-        tubes = subst (λ r. IsOrderOf group_cmp group_place (with_changed id f jobs) r n.groups) (sym a.room)
-            (subst (λ js. IsOrderOf group_cmp group_place js room n.groups) made
-            (order_moved group_laws.total-law group_place group_own 0 (2 ^ 64) id j
-            (f j) jobs room s.groups h.in_groups h.ids found id_then n.groups a.groups a.group_spare));
-        timed = subst (λ r. IsOrderOf timer_cmp timer_place (with_changed id f jobs) r n.timers) (sym a.room)
-            (subst (λ js. IsOrderOf timer_cmp timer_place js room n.timers) made
-            (order_moved timer_laws.total-law timer_place timer_own 0 (2 ^ 64) id j
-            (f j) jobs room s.timers h.in_timers h.ids found id_then n.timers a.timers a.timer_spare));
+        tubes = rw (a.room, ← made) (order_moved group_laws.total-law group_place group_own 0 (2 ^ 64) id j (f j) jobs _ _
+            h.in_groups h.ids found id_then n.groups a.groups a.group_spare);
+        timed = rw (a.room, ← made) (order_moved timer_laws.total-law timer_place timer_own 0 (2 ^ 64) id j (f j) jobs _ _
+            h.in_timers h.ids found id_then n.timers a.timers a.timer_spare);
       })
 
 -- without jobs, no order has a place
 pub shelved_none : IsShelved group_cmp timer_cmp (record { entries = []; spare = 0; comparisons = 0 })
     (record { entries = []; spare = 0; comparisons = 0 })
     (record { entries = []; spare = 0; comparisons = 0 })
-shelved_none = record {
-  by_own_id = refl;
-  ids = omega arith;
-  in_groups = record { places = λ p. refl; counted = refl; roomy = omega arith; sorted = order_none (Unit {0}) _ };
-  in_timers = record { places = λ p. refl; counted = refl; roomy = omega arith; sorted = order_none (Unit {0}) _ };
-}
+shelved_none = grind (arith, order_none)

@@ -15,10 +15,9 @@ use Rattle.std.proofs.lemmas.Bool.{cases_Bool}
 use Rattle.std.proofs.lemmas.Bool.Decides.{nat_tests}
 use Rattle.bq_index.specs.Edited.{edited_at}
 use Rattle.bq_index.specs.Order.{InOrder}
-use Rattle.bq_jobs.specs.Numbering.{IsPaired, Numbering}
-use Rattle.bq_jobs.specs.Numbering.{name_of}
+use Rattle.bq_jobs.specs.Numbering.{IsPaired, Numbering, name_of}
 use Rattle.bq_jobs.specs.Table.{changed_at, entries_at, put_value, with_value}
-use Rattle.bq_jobs.proofs.NumberingLemmas.{some_is, tie_names, tied_names}
+use Rattle.bq_jobs.proofs.NumberingLemmas.{flip, lower, some_is, tie_names, tied_names}
 
 -- each number has a value
 abbrev pub AreValued : ℕ → List (List ℕ × ℕ) → Type 0
@@ -36,12 +35,6 @@ AreApart (p ∷ ps) = Lack p.1 ps × AreApart ps
 -- each tube is the one that its number names
 abbrev pub AreThere : List (Option (List ℕ)) → List (List ℕ × ℕ) → Type 0
 AreThere names ps = AllByRecursion (λ (p : List ℕ × ℕ). get_or names p.1 None ≡ Some p.0) ps
-
-lower : (m n : ℕ) → (suc m == suc n) ≡ false → (m == n) ≡ false
-lower m n e = grind (arith, nat_tests)
-
-flip : (m n : ℕ) → (m == n) ≡ false → (n == m) ≡ false
-flip m n e = grind (arith, nat_tests)
 
 -- a key of which all of ps are above is none of theirs
 above_none : (x q : List ℕ) (ps : List (List ℕ × ℕ)) → AllByRecursion (λ y. slice_cmp nat_cmp x y ≡ Less) (keys_of ps)
@@ -145,17 +138,13 @@ module _ {V : Type 0} where
 
   -- a value that is put, and the others
   put_here : (vs : List V) (n : ℕ) (w : V) → n ≤ length vs → slice_get (put_value vs n w) n ≡ Some w
-  put_here [] zero w near = refl
-  put_here [] (suc n) w near = absurd (omega (arith, near))
+  put_here [] x w near = grind arith
   put_here (v ∷ vs) zero w near = refl
   put_here (v ∷ vs) (suc n) w near = put_here vs n w (omega (arith, near))
 
   put_others : (vs : List V) (n : ℕ) (w : V) → n ≤ length vs → (m : ℕ) → (n == m) ≡ false → slice_get (put_value vs n w) m ≡ slice_get vs m
-  put_others [] zero w near zero e = absurd (let t : (0 == 0) ≡ true = grind (arith, nat_tests) in cc)
-  put_others [] zero w near (suc m) e = refl
-  put_others [] (suc n) w near m e = absurd (omega (arith, near))
-  put_others (v ∷ vs) zero w near zero e = absurd (let t : (0 == 0) ≡ true = grind (arith, nat_tests) in cc)
-  put_others (v ∷ vs) zero w near (suc m) e = refl
+  put_others [] x w near m e = grind arith
+  put_others (v ∷ vs) zero w near x e = grind arith
   put_others (v ∷ vs) (suc n) w near zero e = refl
   put_others (v ∷ vs) (suc n) w near (suc m) e = put_others vs n w (omega (arith, near)) m (lower n m e)
 
@@ -163,17 +152,10 @@ module _ {V : Type 0} where
     edit_set : (ps : List (List ℕ × ℕ)) (n : ℕ) (v : V) → AreValued (length vs) ps → AreApart ps → lookup test ps ≡ Some n
         → slice_get vs n ≡ Some v → entries_at ps (changed_at f n vs) ≡ set_value test (entries_at ps vs) (f v)
     edit_set [] n v all apart own its = absurd cc
-    edit_set (p ∷ ps) n v all apart own its = elim (cases_Bool (test p.0)) [
-      | inl t ↦ grind (arith, changed_here, agreeing, agree_by, changed_other)
-      | inr t ↦
-          let tail : lookup test ps ≡ Some n = rw t at own in
-          let other : (n == p.1) ≡ false = flip p.1 n (found_lacks test p.1 n ps apart.0 tail) in
-          let own_value = has_value vs p.1 all.0 in
-          ap (λ o. with_value p.0 o (entries_at ps (changed_at f n vs))) (changed_other f vs n p.1 other ∙ own_value.1)
-          ∙ ap (λ es. (p.0, own_value.0) ∷ es) (edit_set ps n v all.1 apart.1 tail its)
-          ∙ sym (ap (λ o. set_value test (with_value p.0 o (entries_at ps vs)) (f v)) own_value.1
-          ∙ ap (λ b. cond b ((p.0, f v) ∷ entries_at ps vs) ((p.0, own_value.0) ∷ set_value test (entries_at ps vs) (f v))) t)
-    ]
+    edit_set (p ∷ ps) n v all apart own its =
+        let own_value = has_value vs p.1 all.0 in
+        let rest = edit_set ps n v all.1 apart.1 in
+        grind (arith, common_steps, cases_Bool, changed_here, agreeing, agree_by, changed_other, found_lacks, flip, own_value, rest)
 
     pub edit_some : (ps : List (List ℕ × ℕ)) (n : ℕ) → AreValued (length vs) ps → AreApart ps → lookup test ps ≡ Some n
         → n < length vs → entries_at ps (changed_at f n vs) ≡ edited_at test f (entries_at ps vs)
@@ -191,17 +173,15 @@ module _ {V : Type 0} where
       ≡ insert_entry (slice_cmp nat_cmp) (entries_at ps vs) name w
   inserted_at name n w vs ps near all lack =
       inserted_entries name n w (put_value vs n w) (put_here vs n w near) ps (more_valued ps all)
-      ∙ ap (λ es. insert_entry (slice_cmp nat_cmp) es name w)
-      (agreeing vs (put_value vs n w) ps (agree_by vs (put_value vs n w) n (put_others vs n w near) ps lack))
+      ∙ ap (λ es. insert_entry (slice_cmp nat_cmp) es name w) (agreeing _ _ ps (agree_by vs _ n (put_others vs n w near) ps lack))
     where
       longer : (us : List V) (m : ℕ) → length us ≤ length (put_value us m w)
       longer [] m = omega arith
-      longer (u ∷ us) zero = omega arith
-      longer (u ∷ us) (suc m) = let l = longer us m in omega (arith, l)
+      longer (u ∷ us) m = grind (arith, longer us)
 
       more_valued : (qs : List (List ℕ × ℕ)) → AreValued (length vs) qs → AreValued (length (put_value vs n w)) qs
       more_valued [] a = tt
-      more_valued (q ∷ qs) a = (let l = longer vs n in omega (arith, l, a.0), more_valued qs a.1)
+      more_valued (q ∷ qs) a = grind (arith, longer vs n, more_valued qs a.1)
 
   -- a tube that is removed
   pub removed_entries : (test : List ℕ → Bool) (vs : List V) (ps : List (List ℕ × ℕ)) → AreValued (length vs) ps

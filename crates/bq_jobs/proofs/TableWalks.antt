@@ -22,8 +22,7 @@ module _ {V : Type 0} (vs : List V) where
         → option_and_then (valued_in vs)
         (find (passes_from (slice_cmp nat_cmp from) (λ name n. passes_if (passed name) (slice_get vs n))) ps)
         ≡ find (passes_from (slice_cmp nat_cmp from) passed) (entries_at ps vs)
-    from_valued from ps = find_valued (passes_from (slice_cmp nat_cmp from) (λ name n. passes_if (passed name) (slice_get vs n)))
-        (passes_from (slice_cmp nat_cmp from) passed) (λ p. grind (arith, common_steps)) ps
+    from_valued from ps = grind (arith, find_valued)
 
     pub first_valued : (ps : List (List ℕ × ℕ))
         → option_and_then (valued_in vs) (find (passes_by (λ name n. passes_if (passed name) (slice_get vs n))) ps)

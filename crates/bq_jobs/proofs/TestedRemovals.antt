@@ -1,6 +1,6 @@
 -- A removal that asks a test first, of the records and of their jobs with the names of their tubes.
-use Rattle.std.proofs.Common.{arith}
-use Rattle.std.proofs.Common.{◌≡◌, ◌+◌, ℕ, Bool, true, false, cond, List, Option, Some, None, is_some, map, refl, sym, ap, ◌∙◌, subst}
+use Rattle.std.proofs.lemmas.Grind.{common_steps}
+use Rattle.std.proofs.Common.{◌≡◌, ℕ, Bool, true, List, Option, Some, is_some, map, sym, ap, ◌∙◌, arith}
 use Rattle.std.specs.Prelude.{if◌then◌else◌}
 use Rattle.std.specs.Option.{IfSome, option_map}
 use Rattle.bq_index.proofs.Removed.{value_there}
@@ -15,7 +15,7 @@ use Rattle.bq_jobs.specs.Room.{RemovesIf}
 use Rattle.bq_jobs.specs.Told.{removed_told}
 use Rattle.bq_jobs.specs.declared.numbered_jobs.NumberedJobs.TheInside.{Inside as Parts}
 use Rattle.bq_jobs.specs.Inside.{jobs_of}
-use Rattle.bq_jobs.proofs.NamedJobs.{counted_as, job_named, number_removed, numbered_found, registered_without, without_named}
+use Rattle.bq_jobs.proofs.NamedJobs.{counted_as, job_named, number_removed, numbered_found, numbered_without, without_named}
 use Rattle.bq_jobs.proofs.Shelved.{AreShelved, found_in, found_own}
 
 -- the job that an id finds, if it passes
@@ -31,40 +31,19 @@ module _ (p : Job → Bool) (id : ℕ) (s : Parts) (h : AreShelved s) where
   pub passing_own : (j : Job) → passing p (entry_at id s.by_id.entries) ≡ Some j → j.id ≡ id
   passing_own j e = found_own id s h j (sym (value_there p (entry_at id s.by_id.entries) j (sym e)))
 
--- a test that does not depend on the tube
-module _ (k : Numbering) (p : Job → Bool) (no_tube : AsksNoTube p) where
-  passing_of : (o : Option Job) → passing p (option_map (named k) o) ≡ option_map (named k) (passing p o)
-  passing_of None = refl
-  passing_of (Some j) = ap (λ b. cond b (Some (named k j)) None) (no_tube j _) ∙ of (p j)
-    where
-      of : (b : Bool) → cond b (Some (named k j)) None ≡ option_map (named k) (cond b (Some j) None)
-      of true = refl
-      of false = refl
-
-  pub passing_named : (id : ℕ) (rows : List Job) → passing p (job_with id (map (named k) rows))
-      ≡ option_map (named k) (passing p (job_with id rows))
-  passing_named id rows = ap (passing p) (job_named k id rows) ∙ passing_of (job_with id rows)
-
 passing_numbered : (k : Numbering) (p : Job → Bool) (o : Option Job) → IfSome o (IsNumbered k) → IfSome (passing p o) (IsNumbered k)
-passing_numbered k p None is = tt
-passing_numbered k p (Some j) is = of (p j)
-  where
-    of : (b : Bool) → IfSome (cond b (Some j) None) (IsNumbered k)
-    of true = is
-    of false = tt
+passing_numbered k p o is = grind arith
 
 module _ (k : Numbering) (id : ℕ) (rows : List Job) (p : Job → Bool) where
   pub told_removed_if : AsksNoTube p
       → option_map (λ r. r.1) (option_map (removed_told k) (option_map numbered_removal (passing p (job_with id rows))))
       ≡ option_map removed_from (passing p (job_with id (map (named k) rows)))
-  told_removed_if no_tube = grind (arith, passing_named)
+  told_removed_if no_tube = grind (arith, job_named)
 
   pub number_removed_if : AreRegistered k rows
       → IfSome (option_map (removed_told k) (option_map numbered_removal (passing p (job_with id rows))))
       (λ r. HasNumber r.1.tube r.0 k.numbers)
-  number_removed_if h =
-      number_removed k h.paired (passing p (job_with id rows)) (passing_numbered k p (job_with id rows)
-      (numbered_found k id rows h.numbered))
+  number_removed_if h = search (number_removed, passing_numbered, numbered_found)
 
 -- the number in a report has a name
 pub removed_has_name : (k : Numbering) (p : Job → Bool) (id : ℕ) (rows : List Job) → AreRegistered k rows
@@ -73,24 +52,12 @@ removed_has_name k p id rows h = grind (arith, passing_numbered k p (job_with id
 
 pub registered_if : (k : Numbering) (id : ℕ) (rows : List Job) (b : Bool) → AreRegistered k rows
     → AreRegistered k (if b then without id rows else rows)
-registered_if k id rows true h = registered_without k id rows h
-registered_if k id rows false h = h
-
-named_if : (k : Numbering) (id : ℕ) (rows : List Job) (b : Bool)
-    → map (named k) (if b then without id rows else rows) ≡ (if b then without id (map (named k) rows) else map (named k) rows)
-named_if k id rows true = sym (without_named k id rows)
-named_if k id rows false = refl
+registered_if k id rows b h = grind (arith, numbered_without)
 
 module _ {A B : Type 0} (k : Numbering) (id : ℕ) (rows new old : JobsSeen) (row : Option A) (told : Option B) (is : seen_named rows k ≡ old)
     (same : is_some told ≡ is_some row) where
   pub removes_named_if : RemovesIf id row rows new → RemovesIf id told old (seen_named new k)
-  removes_named_if r =
-      subst (λ m. RemovesIf id told m (seen_named new k)) is (
-        ap (map (named k)) r.0 ∙ named_if k id rows.jobs (is_some row)
-            ∙ ap (λ b. if b then without id (map (named k) rows.jobs) else map (named k) rows.jobs) (sym same),
-        r.1 ∙ ap (λ b. rows.room + (if b then 1 else 0)) (sym same),
-        counted_as 4 k rows (seen_named rows k) new refl r.2,
-      )
+  removes_named_if r = grind (arith, common_steps, counted_as, without_named)
 
 -- what the search takes for a removal that asks a test
 pub ruleset discards_if = (registered_if, told_removed_if)

@@ -1,6 +1,7 @@
 -- What a look-up, an addition and a removal are to the three shelves of jobs, with the names of
 -- tubes or with their numbers.
-use Rattle.std.proofs.Common.{◌≡◌, ℕ, ◌+◌, ◌*◌, ◌<◌, ◌≤◌, ◌^◌, Option, Some, None, arith, cond, refl, sym, ap, ◌∙◌, subst}
+use Rattle.bq_jobs.proofs.Told.{can_move_group, can_move_timer, nothing_told, unchanged}
+use Rattle.std.proofs.Common.{◌≡◌, ℕ, ◌+◌, ◌*◌, ◌<◌, ◌≤◌, ◌^◌, Option, Some, None, arith, cond, refl, sym, ap, ◌∙◌}
 use Rattle.std.specs.Prelude.{is_some, IsSome}
 use Rattle.std.specs.Option.{ForSome}
 use Rattle.std.specs.Ordering.{nat_cmp}
@@ -54,14 +55,12 @@ module _ (by_id : ById) (groups : Order Holder) (timers : Order Timer) (h : IsSh
   pub held_in_groups : (id : ℕ) (j : Job) (place : Option (ShelfPlace Holder)) → job_with id (jobs_of by_id.entries) ≡ Some j
       → place ≡ group_place j → ForSome place (λ p. IsSome (holds_place group_cmp p groups.entries))
   held_in_groups id j place found is =
-      λ p e. held_place group_laws.total-law group_place group_own id j (jobs_of by_id.entries) by_id.spare groups h.in_groups found p
-      (sym is ∙ e)
+      λ p e. held_place group_laws.total-law group_place group_own id j _ _ groups h.in_groups found p (sym is ∙ e)
 
   pub held_in_timers : (id : ℕ) (j : Job) (place : Option (ShelfPlace Timer)) → job_with id (jobs_of by_id.entries) ≡ Some j
       → place ≡ timer_place j → ForSome place (λ p. IsSome (holds_place timer_cmp p timers.entries))
   held_in_timers id j place found is =
-      λ p e. held_place timer_laws.total-law timer_place timer_own id j (jobs_of by_id.entries) by_id.spare timers h.in_timers found p
-      (sym is ∙ e)
+      λ p e. held_place timer_laws.total-law timer_place timer_own id j _ _ timers h.in_timers found p (sym is ∙ e)
 
   module _ (old : JobsSeen) (is : seen_in by_id groups timers ≡ old) where
     -- the first place of a group is that of the first job,
@@ -73,24 +72,15 @@ module _ (by_id : ById) (groups : Order Holder) (timers : Order Timer) (h : IsSh
 
     -- and a search for it changes nothing.
     pub groups_searched : (new : Order Holder) → ComparesFew groups new → Searches 1 old (seen_in by_id new timers)
-    groups_searched new few =
-        searched 1 (seen_in by_id groups timers) old _ _ is refl (omega (arith, few)) (omega (arith, few, group_search s h))
+    groups_searched new few = grind (arith, searched, group_search s h)
 
     pub timers_searched : (new : Order Timer) → ComparesFew timers new → Searches 1 old (seen_in by_id groups new)
-    timers_searched new few =
-        searched 1 (seen_in by_id groups timers) old _ _ is refl (omega (arith, few)) (omega (arith, few, timer_search s h))
+    timers_searched new few = grind (arith, searched, timer_search s h)
 
     -- Neither does a search for an id.
     pub id_searched : (new : ById) → new.entries ≡ by_id.entries → new.spare ≡ by_id.spare → ComparesFew by_id new
         → IsCounted old (seen_in new groups timers)
-    id_searched new entries spare few =
-        let count = few_more 1 (seen_in by_id groups timers) old _ _ is refl (omega (arith, few)) (omega (arith, few, id_search by_id)) in (
-          ap jobs_of entries ∙ ap (λ (m : JobsSeen). m.jobs) is,
-          spare
-              ∙ ap (λ (m : JobsSeen). m.room) is,
-          ap (λ (m : JobsSeen). m.tubes) is,
-          count,
-        )
+    id_searched new entries spare few = grind (arith, few_more, id_search)
 
     -- After an addition
     pub shelved_with : (id : ℕ) (j : Job) (ids : ById) (gs : Order Holder) (ts : Order Timer) (p : Option (ShelfPlace Holder))
@@ -100,14 +90,7 @@ module _ (by_id : ById) (groups : Order Holder) (timers : Order Timer) (h : IsSh
         → q ≡ timer_place j → ts.entries ≡ with_place timer_cmp q timers.entries → ts.spare + cond (is_some q) 1 0 ≡ timers.spare
         → IsShelved group_cmp timer_cmp ids gs ts
     shelved_with id j ids gs ts p q own few free entries room p_is g g_spare q_is t t_spare =
-        shelved_added j s (parts_of ids gs ts) h (omega (arith, own, few)) (ap (λ (m : JobsSeen). job_with j.id m.jobs) is ∙ free) (record {
-          by_id = entries ∙ ap (λ i. insert_entry nat_cmp by_id.entries i j) own;
-          room = room;
-          groups = g ∙ ap (λ p. with_place group_cmp p groups.entries) p_is;
-          group_spare = ap (λ p. gs.spare + cond (is_some p) 1 0) (sym p_is) ∙ g_spare;
-          timers = t ∙ ap (λ p. with_place timer_cmp p timers.entries) q_is;
-          timer_spare = ap (λ p. ts.spare + cond (is_some p) 1 0) (sym q_is) ∙ t_spare;
-        })
+        grind (arith, shelved_added j s (parts_of ids gs ts) h)
 
     -- One search in each shelf is at most four in all.
     module _ (ids : ById) (gs : Order Holder) (ts : Order Timer) (few : ComparesFew by_id ids) (few_gs : ComparesFew groups gs)
@@ -125,23 +108,19 @@ module _ (by_id : ById) (groups : Order Holder) (timers : Order Timer) (h : IsSh
           → ids.entries ≡ remove_entry (is_at (nat_cmp id)) by_id.entries → ids.spare ≡ by_id.spare + cond (is_some removed) 1 0
           → Removes id result old (seen_in ids gs ts)
       removal id removed result same entries spare =
-          subst (λ o. Removes id o old (seen_in ids gs ts)) same
-          (removes id s (parts_of ids gs ts) old removed h is entries spare not_fewer (omega (arith, at_most)))
+          grind (arith, removes id s (parts_of ids gs ts) old removed h is entries spare not_fewer, at_most)
 
       -- if a test let the job go
       pub removal_if : (id : ℕ) (removed result : Option Job) → removed ≡ result
           → ids.entries ≡ removed_if (is_at (nat_cmp id)) removed by_id.entries → ids.spare ≡ by_id.spare + cond (is_some removed) 1 0
           → RemovesIf id result old (seen_in ids gs ts)
       removal_if id removed result same entries spare =
-          subst (λ o. RemovesIf id o old (seen_in ids gs ts)) same
-          (removes_if id s (parts_of ids gs ts) old removed h is entries spare not_fewer (omega (arith, at_most)))
+          grind (arith, removes_if id s (parts_of ids gs ts) old removed h is entries spare not_fewer, at_most)
 
     -- One search for an id and two in each order are at most seven in all.
     pub each_moved : (ids : ById) (gs : Order Holder) (ts : Order Timer) → ComparesFew by_id ids → ComparesTwice groups gs
         → ComparesTwice timers ts → ComparesAtMost 7 old (seen_in ids gs ts)
-    each_moved ids gs ts few few_gs few_ts =
-        few_more 7 (seen_in by_id groups timers) old _ _ is refl (omega (arith, few, few_gs, few_ts))
-        (omega (arith, few, few_gs, few_ts, id_search by_id, group_search s h, timer_search s h))
+    each_moved ids gs ts few few_gs few_ts = grind (arith, few_more, id_search by_id, group_search s h, timer_search s h)
 
   -- after a removal that found a job, and after one that found none
   pub shelved_without : (id : ℕ) (j : Job) (removed : Option Job) (ids : ById) (gs : Order Holder) (ts : Order Timer)
@@ -151,20 +130,15 @@ module _ (by_id : ById) (groups : Order Holder) (timers : Order Timer) (h : IsSh
       → q ≡ timer_place j → ts.entries ≡ without_place timer_cmp q timers.entries → ts.spare ≡ timers.spare + cond (is_some q) 1 0
       → IsShelved group_cmp timer_cmp ids gs ts
   shelved_without id j removed ids gs ts p q found there entries room p_is g g_spare q_is t t_spare =
-      shelved_removed id j s (parts_of ids gs ts) h there (record {
-        by_id = entries ∙ ap (λ o. removed_if (is_at (nat_cmp id)) o by_id.entries) found;
-        room = room ∙ ap (λ o. by_id.spare + cond (is_some o) 1 0) found;
-        groups = g ∙ ap (λ p. without_place group_cmp p groups.entries) p_is;
-        group_spare = g_spare ∙ ap (λ p. groups.spare + cond (is_some p) 1 0) p_is;
-        timers = t ∙ ap (λ p. without_place timer_cmp p timers.entries) q_is;
-        timer_spare = t_spare ∙ ap (λ p. timers.spare + cond (is_some p) 1 0) q_is;
-      })
+      grind (arith, shelved_removed id j s (parts_of ids gs ts) h there)
 
   pub shelved_same : (id : ℕ) (removed : Option Job) (ids : ById) → removed ≡ None → removed ≡ lookup (is_at (nat_cmp id)) by_id.entries
       → ids.entries ≡ remove_entry (is_at (nat_cmp id)) by_id.entries → ids.spare ≡ by_id.spare + cond (is_some removed) 1 0
       → IsShelved group_cmp timer_cmp ids groups timers
-  shelved_same id removed ids none found entries room =
-      parts.shelved_same id s ids h (sym found ∙ none) entries (room ∙ ap (λ o. by_id.spare + cond (is_some o) 1 0) none ∙ omega arith)
+  shelved_same id removed ids none found entries room = grind (arith, parts.shelved_same id s ids h)
 
 -- what the search takes for an addition
 pub ruleset additions = (found_in, jobs_added, each_searched)
+
+-- and for a change
+pub ruleset moves = (found_in, each_moved, can_move_group, can_move_timer, nothing_told, unchanged)

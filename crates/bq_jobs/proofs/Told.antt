@@ -1,15 +1,13 @@
 -- The report about a changed job concerns the job that was there.
-use Rattle.std.proofs.Common.{◌≡◌, ℕ, ◌+◌, ◌^◌, List, [], ◌∷◌, Option, Some, None, arith, cond, min, refl, sym, ap, ◌∙◌}
-use Rattle.std.proofs.Common.{subst, inl, inr}
-use Rattle.std.specs.Prelude.{Bool, Result, Ok, Err, is_some, option_map}
+use Rattle.std.proofs.lemmas.Grind.{common_steps}
+use Rattle.bq_jobs.proofs.ById.{same_jobs}
+use Rattle.std.proofs.Common.{◌≡◌, ℕ, ◌^◌, List, [], ◌∷◌, Option, Some, None, arith, refl, sym, ap, ◌∙◌, subst}
+use Rattle.std.specs.Prelude.{Bool, Result, Ok, Err, option_map}
 use Rattle.std.specs.Map.{lookup, set_value}
-use Rattle.std.specs.Ordering.{nat_cmp}
-use Rattle.std.specs.BTreeMap.{is_at}
 use Rattle.std.proofs.lemmas.Bool.{cases_Bool}
 use Rattle.bq_index.specs.Edited.{MayReturn, edited_by}
 use Rattle.bq_index.specs.Shelf.{ComparesFew}
 use Rattle.bq_job.specs.beside.Lawful.{AreIdsWithin}
-use Rattle.bq_job.specs.machine.Limits.{greatest}
 use Rattle.bq_job.specs.declared.job.Job.{Job}
 use Rattle.bq_job.specs.machine.Changes.{job_with}
 use Rattle.bq_jobs.specs.contracts.places.GroupOrd.TheImpl.Laws as group_laws
@@ -17,20 +15,17 @@ use Rattle.bq_jobs.specs.contracts.places.TimerOrd.TheImpl.Laws as timer_laws
 use Rattle.bq_jobs.specs.declared.numbered_jobs.NumberedMove.{NumberedMove}
 use Rattle.bq_jobs.specs.declared.numbered_jobs.NumberedJobs.TheInside.{Inside as Parts}
 use Rattle.bq_jobs.specs.Changed.{IgnoresTube, KeepsId, entry_at, numbered_move, with_changed, with_edited}
-use Rattle.bq_jobs.specs.Inside.{ById, jobs_of, seen_in}
+use Rattle.bq_jobs.specs.Inside.{jobs_of, seen_in}
 use Rattle.bq_jobs.specs.JobsSeen.{JobsSeen}
 use Rattle.bq_jobs.specs.Moves.{CanMove, CanMoveIf, Moves, MovesIf, group_at, timer_at}
-use Rattle.bq_jobs.specs.PlaceOrder.{with_place, without_place}
-use Rattle.bq_jobs.specs.Places.{in_timers_at, in_groups_at, timer_place, group_place}
-use Rattle.bq_jobs.specs.Searching.{Searches}
+use Rattle.bq_jobs.specs.Places.{in_timers_at, timer_place, group_place}
 use Rattle.bq_jobs.specs.Seen.{IsBodyOf}
 use Rattle.bq_jobs.specs.Sharing.{MayShare, SharesAndChanges, if_shared}
 use Rattle.bq_jobs.proofs.Changes.{found_id, none_changed, none_has, stays_in}
 use Rattle.bq_jobs.proofs.Firsts.{group_cmp, timer_cmp, timer_own, group_own}
 use Rattle.bq_jobs.proofs.Orders.{can_move}
 use Rattle.bq_jobs.proofs.Counting.{few_more, searched}
-use Rattle.bq_jobs.proofs.Shelved.{AreShelved, compared, found_in, group_search, id_search, jobs_changed}
-use Rattle.bq_jobs.proofs.Shelved.{shelved_changed, shelved_kept, timer_search}
+use Rattle.bq_jobs.proofs.Shelved.{AreShelved, compared, found_in, group_search, id_search, entries_changed, shelved_changed, timer_search}
 
 -- the job that the report m is about
 pub record IsOf {M : Type 0} (tells : Job → M) (o : Option Job) (m : M) : Type 0 where
@@ -39,8 +34,7 @@ pub record IsOf {M : Type 0} (tells : Job → M) (o : Option Job) (m : M) : Type
   pub is : m ≡ tells job
 
 pub told_of : {M : Type 0} (tells : Job → M) (o : Option Job) (m : M) → option_map tells o ≡ Some m → IsOf tells o m
-told_of tells None m e = absurd cc
-told_of tells (Some j) m e = record { job = j; there = refl; is = cc }
+told_of tells o m e = grind arith
 
 module _ (id : ℕ) (f : Job → Job) (keeps : KeepsId f) (ignores : IgnoresTube f) (s : Parts) (h : AreShelved s) (m : NumberedMove)
     (told : option_map (numbered_move f) (entry_at id s.by_id.entries) ≡ Some m) where
@@ -61,23 +55,17 @@ module _ (id : ℕ) (f : Job → Job) (keeps : KeepsId f) (ignores : IgnoresTube
   pub found_then : job_with id (jobs_of s.by_id.entries) ≡ Some job_then
   found_then = sym (found_in id s h) ∙ entry_then
 
-  its_id : id ≡ job_then.id
-  its_id = sym (found_id id (jobs_of s.by_id.entries) job_then found_then)
-
   id_after : (f job_then).id ≡ id
-  id_after = keeps job_then ∙ sym its_id
+  id_after = grind (arith, found_id, found_then)
 
   pub left_group : group_at id m.tube m.from ≡ group_place job_then
-  left_group = ap (λ (n : NumberedMove). group_at id n.tube n.from) told_is
-      ∙ ap (in_groups_at job_then.state job_then.pri job_then.tube) its_id
+  left_group = grind (arith, told_is, found_id, found_then)
 
   pub entered_group : group_at id m.tube m.to ≡ group_place (f job_then)
-  entered_group = ap (λ (n : NumberedMove). group_at id n.tube n.to) told_is
-      ∙ ap (λ t. in_groups_at (f job_then).state (f job_then).pri t id) (sym (stays_in f ignores job_then))
-      ∙ ap (in_groups_at (f job_then).state (f job_then).pri (f job_then).tube) (sym id_after)
+  entered_group = grind (arith, told_is, stays_in, id_after)
 
   pub left_timer : timer_at id m.from ≡ timer_place job_then
-  left_timer = ap (λ (n : NumberedMove). timer_at id n.from) told_is ∙ ap (in_timers_at job_then.state) its_id
+  left_timer = grind (arith, told_is, found_id, found_then)
 
   pub entered_timer : timer_at id m.to ≡ timer_place (f job_then)
   entered_timer = ap (λ (n : NumberedMove). timer_at id n.to) told_is ∙ ap (in_timers_at (f job_then).state) (sym id_after)
@@ -98,30 +86,19 @@ module _ (id : ℕ) (f : Job → Job) (keeps : KeepsId f) (ignores : IgnoresTube
 
     -- are the jobs with this one changed,
     pub jobs_then : jobs_of n.by_id.entries ≡ with_changed id f (jobs_of s.by_id.entries)
-    jobs_then = ap jobs_of made_then ∙ jobs_changed id f keeps s h job_then found_then
+    jobs_then = grind (arith, made_then, found_then, entries_changed, same_jobs)
 
     -- in their places.
     pub shelved_then : n.by_id.spare ≡ s.by_id.spare
         → Moves group_cmp (group_at id m.tube m.from) (group_at id m.tube m.to) s.groups n.groups
         → Moves timer_cmp (timer_at id m.from) (timer_at id m.to) s.timers n.timers → AreShelved n
-    shelved_then room groups timers = shelved_changed id f keeps s h job_then found_then n made_then (record {
-      room = room;
-      groups = groups.entries
-          ∙ ap (λ p. with_place group_cmp p (without_place group_cmp (group_at id m.tube m.from) s.groups.entries)) entered_group
-          ∙ ap (λ p. with_place group_cmp (group_place (f job_then)) (without_place group_cmp p s.groups.entries)) left_group;
-      group_spare = sym (ap (λ p. n.groups.spare + cond (is_some p) 1 0) entered_group) ∙ groups.spare
-          ∙ ap (λ p. s.groups.spare + cond (is_some p) 1 0) left_group;
-      timers = timers.entries
-          ∙ ap (λ p. with_place timer_cmp p (without_place timer_cmp (timer_at id m.from) s.timers.entries)) entered_timer
-          ∙ ap (λ p. with_place timer_cmp (timer_place (f job_then)) (without_place timer_cmp p s.timers.entries)) left_timer;
-      timer_spare = sym (ap (λ p. n.timers.spare + cond (is_some p) 1 0) entered_timer) ∙ timers.spare
-          ∙ ap (λ p. s.timers.spare + cond (is_some p) 1 0) left_timer;
-    })
+    shelved_then room groups timers =
+        let changed = shelved_changed id f keeps s h job_then found_then n made_then in
+        grind (arith, common_steps, left_group, entered_group, left_timer, entered_timer, changed)
 
 -- if there is no report, there is no job
 pub nothing_told_of : {M : Type 0} (tells : Job → M) (o : Option Job) → option_map tells o ≡ None → o ≡ None
-nothing_told_of tells None e = refl
-nothing_told_of tells (Some j) e = absurd cc
+nothing_told_of tells o e = grind arith
 
 pub nothing_told : (id : ℕ) (f : Job → Job) (es : List (ℕ × Job)) → option_map (numbered_move f) (entry_at id es) ≡ None
     → entry_at id es ≡ None
@@ -129,8 +106,7 @@ nothing_told id f es e = nothing_told_of (numbered_move f) (entry_at id es) e
 
 pub unchanged : (id : ℕ) (f : Job → Job) (s : Parts) → AreShelved s → entry_at id s.by_id.entries ≡ None
     → jobs_of s.by_id.entries ≡ with_changed id f (jobs_of s.by_id.entries)
-unchanged id f s h none =
-    sym (none_changed id f (jobs_of s.by_id.entries) (none_has id (jobs_of s.by_id.entries) (sym (found_in id s h) ∙ none)))
+unchanged id f s h none = grind (arith, none_changed, none_has, found_in)
 
 -- what a change that may be refused returns
 abbrev Told : {E : Type 0} → (Job → Job) → Option Job → Option (Result (NumberedMove × List ℕ) E) → Type 0
@@ -139,57 +115,22 @@ Told f o r = MayReturn (MayShare f) o r
 -- If it was made, the report and the body are those of the job that was there.
 shared_report : (E : Type 0) (f : Job → Job) (o : Option Job) (s : NumberedMove × List ℕ) → Told {E = E} f o (Some (Ok s))
     → option_map (numbered_move f) o ≡ Some s.0
-shared_report E f None s h = absurd h
-shared_report E f (Some j) s h = ap Some (sym h.0)
+shared_report E f o s h = grind arith
 
 shared_body : (E : Type 0) (f : Job → Job) (o : Option Job) (s : NumberedMove × List ℕ) → Told {E = E} f o (Some (Ok s)) → IsBodyOf o s.1
-shared_body E f None s h j e = absurd h
-shared_body E f (Some k) s h j e = let is : k ≡ j = (cc) in h.1 ∙ ap (λ (i : Job). i.body) is
-
--- whether there is a job
-some_told : {E : Type 0} (f : Job → Job) (o : Option Job) (r : Option (Result (NumberedMove × List ℕ) E)) → Told f o r
-    → is_some r ≡ is_some o
-some_told f None None h = refl
-some_told f None (Some r) h = absurd h
-some_told f (Some j) None h = absurd h
-some_told f (Some j) (Some r) h = refl
+shared_body E f o s h j e = grind arith
 
 -- If it was not made, all entries are as before.
 value_kept : (test : ℕ → Bool) (es : List (ℕ × Job)) (j : Job) → lookup test es ≡ Some j → set_value test es j ≡ es
 value_kept test [] j h = refl
-value_kept test (e ∷ es) j h = elim (cases_Bool (test e.0)) [
-  | inl here ↦ let two : Some e.1 ≡ Some j = rw here at h in let is : e.1 ≡ j = (cc) in rw here (ap (λ k. (e.0, k) ∷ es) (sym is))
-  | inr apart ↦ rw apart (ap (λ rest. e ∷ rest) (value_kept test es j (rw apart at h)))
-]
-
-kept_if : (id : ℕ) (es : List (ℕ × Job)) (o : Option Job) → entry_at id es ≡ o → with_edited id (λ j. j) o es ≡ es
-kept_if id es None there = refl
-kept_if id es (Some j) there = value_kept (is_at (nat_cmp id)) es j there
+value_kept test (e ∷ es) j h = grind (arith, common_steps, cases_Bool, value_kept test es j)
 
 entries_kept : (id : ℕ) (es : List (ℕ × Job)) → with_edited id (λ j. j) (entry_at id es) es ≡ es
-entries_kept id es = kept_if id es (entry_at id es) refl
+entries_kept id es = grind (arith, value_kept)
 
 module _ (id : ℕ) (s : Parts) (h : AreShelved s) (old : JobsSeen) (is : seen_in s.by_id s.groups s.timers ≡ old) where
   found_old : entry_at id s.by_id.entries ≡ job_with id old.jobs
   found_old = found_in id s h ∙ ap (λ (m : JobsSeen). job_with id m.jobs) is
-
-  -- The jobs were searched, and are kept as they were.
-  abbrev IsSearched : Parts → Type 0
-  IsSearched n = AreShelved n × Searches 1 old (seen_in n.by_id n.groups n.timers)
-
-  searched_only : (by_id : ById) → by_id.entries ≡ with_edited id (λ j. j) (entry_at id s.by_id.entries) s.by_id.entries
-      → by_id.spare ≡ s.by_id.spare → ComparesFew s.by_id by_id → IsSearched (record s { by_id = by_id })
-  searched_only by_id made spare few =
-      let same = made ∙ entries_kept id s.by_id.entries in
-      let seen = seen_in s.by_id s.groups s.timers in
-      let count = by_id.comparisons + s.groups.comparisons + s.timers.comparisons in
-      let asked = searched 1 seen old (compared s) count is refl (omega (arith, few)) (omega (arith, few, id_search s.by_id)) in
-      let kept : List Job → ℕ → JobsSeen = λ jobs room. record
-      { jobs = jobs; room = room; comparisons = min count greatest; tubes = [] } in (
-        shelved_kept s by_id h same spare,
-        subst (λ js. Searches 1 old (kept js by_id.spare)) (sym (ap jobs_of same))
-            (subst (λ room. Searches 1 old (kept (jobs_of s.by_id.entries) room)) (sym spare) asked),
-      )
 
   module _ (f : Job → Job) (keeps : KeepsId f) (ignores : IgnoresTube f) where
     -- A job that was changed can move.
@@ -197,8 +138,7 @@ module _ (id : ℕ) (s : Parts) (h : AreShelved s) (old : JobsSeen) (is : seen_i
         → CanMoveIf group_cmp timer_cmp id r s.groups s.timers
     can_move_if None told = tt
     can_move_if (Some (Err e)) told = tt
-    can_move_if {E = E} (Some (Ok t)) told = let report = shared_report E f (entry_at id s.by_id.entries) t told in
-        (can_move_group id f keeps ignores s h t.0 report, can_move_timer id f keeps ignores s h t.0 report)
+    can_move_if {E = E} (Some (Ok t)) told = grind (arith, shared_report, can_move_group, can_move_timer)
 
     -- After its moves, if it was changed, this is kept.
     abbrev IsKept : {E : Type 0} → Option (Result (NumberedMove × List ℕ) E) → Parts → Type 0
@@ -209,16 +149,8 @@ module _ (id : ℕ) (s : Parts) (h : AreShelved s) (old : JobsSeen) (is : seen_i
         → n.by_id.entries ≡ with_edited id (edited_by (if_shared f) r) (entry_at id s.by_id.entries) s.by_id.entries
         → n.by_id.spare ≡ s.by_id.spare → ComparesFew s.by_id n.by_id
         → MovesIf group_cmp timer_cmp id r s.groups n.groups s.timers n.timers → IsKept r n
-    shared_then {E = E} None n told made spare few moves =
-        let kept = subst (λ groups. IsSearched (record s { by_id = n.by_id; groups = groups })) (sym moves.0)
-        (searched_only n.by_id made spare few) in
-        let kept = subst (λ timers. IsSearched (record n { timers = timers })) (sym moves.1) kept in
-        (kept.0, (some_told {E = E} f (entry_at id s.by_id.entries) None told ∙ ap is_some found_old, kept.1))
-    shared_then {E = E} (Some (Err e)) n told made spare few moves =
-        let kept = subst (λ groups. IsSearched (record s { by_id = n.by_id; groups = groups })) (sym moves.0)
-        (searched_only n.by_id made spare few) in
-        let kept = subst (λ timers. IsSearched (record n { timers = timers })) (sym moves.1) kept in
-        (kept.0, (some_told {E = E} f (entry_at id s.by_id.entries) (Some (Err e)) told ∙ ap is_some found_old, kept.1))
+    shared_then {E = E} None n told made spare few moves = grind (arith, found_old, entries_kept, searched, compared, id_search)
+    shared_then {E = E} (Some (Err e)) n told made spare few moves = grind (arith, found_old, entries_kept, searched, compared, id_search)
     shared_then {E = E} (Some (Ok t)) n told made spare few moves =
         let report = shared_report E f (entry_at id s.by_id.entries) t told in
         let groups = moves.0.comparisons in

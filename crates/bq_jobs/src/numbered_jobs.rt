@@ -265,6 +265,7 @@ impl NumberedJobs {
 
     /// Returns a value with no jobs, and no room for one, or `NoMemory` if the allocation of the
     /// table of groups fails.
+    #[tactic(auto, using(crate::proofs::Shelved::shelved_none))]
     pub fn new(alloc: Global) -> Result<NumberedJobs, NoMemory>
         ensures { IfOk result
             (λ rows. rows ≡ record { jobs = []; room = 0; comparisons = 0; tubes = [] }) }
@@ -383,7 +384,7 @@ impl NumberedJobs {
 
     /// Changes the job with this id, if there is one, and moves it to its new place in each order.
     /// The record itself does not move, and nothing is allocated.
-    #[tactic(auto, using(crate::proofs::ThreeShelves::found_in))]
+    #[tactic(auto, using(crate::proofs::ThreeShelves::moves))]
     pub fn change<E: JobEdit>(&mut self, id: JobId, edit: &E) -> Option<NumberedMove>
         requires id { KeepsId (E.edited edit.now) }
         requires tube { IgnoresTube (E.edited edit.now) }
@@ -402,6 +403,7 @@ impl NumberedJobs {
 
     /// Does the same, and also returns another reference to the job's body, or `NoMemory` if `Arc`
     /// refuses one. In that case nothing is changed. The record is searched once.
+    #[tactic(auto, using(crate::proofs::Told::can_move_if))]
     pub fn share_and_change<E: JobEdit>(
         &mut self,
         id: JobId,

@@ -73,7 +73,7 @@ fn change<V: Drop>(slots: &mut Vec<Slot<V>, Global>, number: u32, slot: Slot<V>)
 }
 
 // Adds a slot for the next number that has none, which the tube gets.
-#[tactic(auto, using(crate::proofs::FreeLemmas::values_pushed))]
+#[tactic(auto, using(crate::proofs::FreeLemmas::pushed))]
 fn append<V: Drop>(
     slots: &mut Vec<Slot<V>, Global>,
     name: &TubeName,
@@ -131,7 +131,7 @@ pub(crate) fn give<V: Drop>(
 }
 
 /// Frees a number: its slot has no name, and names another free number.
-#[tactic(auto, using(crate::proofs::FreeLemmas::names_changed, crate::proofs::FreeLemmas::nexts_changed))]
+#[tactic(auto, using(crate::proofs::FreeLemmas::names_changed, crate::proofs::FreeLemmas::nexts_changed, crate::proofs::FreeLemmas::slots_alike))]
 pub(crate) fn release<V: Drop>(slots: &mut Vec<Slot<V>, Global>, number: u32, next: u32)
     requires { number < length slots.old.items }
     ensures names { names_in slots.new.items ≡ put_at (names_in slots.old.items) number None }
@@ -156,6 +156,7 @@ pub(crate) fn value_at<V: Drop>(slots: &[Slot<V>], number: u32) -> Option<&V>
 }
 
 /// Changes the value at a number in place. Returns what the change returns.
+#[tactic(auto, using(crate::proofs::FreeLemmas::slots_alike, crate::proofs::FreeLemmas::values_edited))]
 pub(crate) fn edit_at<V: Drop, T: Drop, E: Edit<V, T>>(
     slots: &mut Vec<Slot<V>, Global>,
     number: u32,

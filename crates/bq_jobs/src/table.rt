@@ -196,6 +196,7 @@ impl<V: Drop> TubeTable<V> {
     }
 
     /// Returns the value of a tube that is registered under this number. No names are compared.
+    #[tactic(auto, using(crate::proofs::TableViews::slot_there))]
     pub fn get_numbered(&self, name: &TubeName, number: TubeNumber) -> &V
         requires number { HasNumber name.now number self.now.tubes.numbers }
         ensures { Some result.now ≡ lookup (is_at (slice_cmp nat_cmp name.now)) self.now.entries }
@@ -227,6 +228,7 @@ impl<V: Drop> TubeTable<V> {
 
     /// Changes the value of a tube that is registered under this number. Returns what the change
     /// returns. No names are compared.
+    #[tactic(auto, using(crate::proofs::TableViews::edits))]
     pub fn edit_numbered<T: Drop, E: Edit<V, T>>(
         &mut self,
         name: &GhostName,
@@ -251,6 +253,7 @@ impl<V: Drop> TubeTable<V> {
     /// # Errors
     ///
     /// `NoMemory` if that allocation fails, or if 2^30 tubes are registered.
+    #[tactic(auto, using(crate::proofs::TableViews::absent_by, crate::proofs::TableViews::look, crate::proofs::TableViews::table_extends))]
     pub fn insert(
         &mut self,
         alloc: Global,
@@ -282,6 +285,7 @@ impl<V: Drop> TubeTable<V> {
 
     /// Removes a tube, if it is registered. Its value stays where it is, until another tube gets
     /// the number.
+    #[tactic(auto, using(crate::proofs::TableLemmas::removed_entries, crate::proofs::TableViews::table_order, crate::proofs::TableViews::valued))]
     pub fn remove(&mut self, name: &TubeName)
         ensures entries { self.new.entries
             ≡ remove_entry (is_at (slice_cmp nat_cmp name.now)) self.old.entries }
@@ -300,6 +304,7 @@ impl<V: Drop> TubeTable<V> {
     /// Shows each tube and its value to a visitor, in the order of the names, and returns the
     /// visitor. The contract also states that there are fewer than 2^64 tubes, so a visitor can
     /// count them in 64 bits.
+    #[tactic(auto, using(crate::proofs::TableViews::table_length))]
     pub fn walk<T: Visitor<TubeName, V>>(&self, visitor: T) -> T
         ensures visitor { result ≡ fold (seen_by T.after) visitor self.now.entries }
         ensures few { length self.now.entries < 2 ^ 64 }
@@ -314,6 +319,7 @@ impl<V: Drop> TubeTable<V> {
     }
 
     /// Returns the first tube that passes a test, with its value.
+    #[tactic(auto, using(crate::proofs::TableViews::table_order))]
     pub fn first<T: Test<TubeName, V>>(&self, test: &T) -> Option<(&TubeName, &V)>
         ensures entry { option_map entry_of result
             ≡ find (passes_by (T.passed test.now)) self.now.entries }

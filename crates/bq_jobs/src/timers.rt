@@ -115,6 +115,7 @@ impl Timers {
 
     // Adds a place.
     #[inline(never)]
+    #[tactic(auto, using(crate::proofs::LeaseLemmas::lease_entered))]
     fn add(&mut self, place: ShelfPlace<Timer>)
         requires spare { 0 < self.old.spare }
         requires absent { holds_place ⟦<Timer as Ord>⟧.cmp place self.old.entries ≡ None }
@@ -129,6 +130,7 @@ impl Timers {
 
     // Removes a place.
     #[inline(never)]
+    #[tactic(auto, using(crate::proofs::LeaseLemmas::lease_left))]
     fn take(&mut self, place: ShelfPlace<Timer>)
         requires held { IsSome (holds_place ⟦<Timer as Ord>⟧.cmp place self.old.entries) }
         ensures entries { self.new.entries

@@ -1,6 +1,5 @@
-use Rattle.bq_jobs.proofs.FreeLemmas.{names_many, first_given}
 use Rattle.std.proofs.Common.{arith}
-use Rattle.bq_jobs.proofs.FreeLemmas.{slot_added, slots_used}
+use Rattle.bq_jobs.proofs.FreeLemmas.{slot_added, slots_used, names_many, first_given}
 use Rattle.bq_jobs.proofs.slots.give.Goals as goal
 
 pub returns-then-not-is_free-clause-reused : goal.returns-then-not-is_free-clause-reused

@@ -2,11 +2,7 @@ use Rattle.bq_jobs.proofs.ThreeShelves.{shelved_with}
 use Rattle.bq_jobs.proofs.named_jobs.Jobs.add.Goals as goal
 
 pub invariant_of-self : goal.invariant_of-self
-invariant_of-self c =
-    shelved_with _ _ _ c.self.invariant _ c.self.view_is _ c.args.job _ _ _ _ _ c.id_of.ensures.id
-    c.id_of.ensures.fits c.requires.absent c.insert.ensures.entries c.insert.ensures.spare
-    c.place_of.ensures c.enter.ensures.entries c.enter.ensures.spare
-    c.timer_place_of.ensures c.enter-2.ensures.entries c.enter-2.ensures.spare
+invariant_of-self c = search shelved_with
 
 pub returns-clause-ordered : goal.returns-clause-ordered
 returns-clause-ordered c = (invariant_of-self c).ids

@@ -1,4 +1,4 @@
-use Rattle.std.proofs.Common.{arith, sym, ◌∙◌}
+use Rattle.std.proofs.Common.{arith, sym, ◌∙◌, rules}
 use Rattle.bq_jobs.proofs.ThreeShelves.{found_in, found_own, held_in_groups, held_in_timers, removal, shelved_same, shelved_without}
 use Rattle.bq_jobs.proofs.named_jobs.Jobs.remove.Goals as goal
 
@@ -14,14 +14,10 @@ returns-in_err-job-clause-left c =
     c.args.id _ _ (c.in_err-job.was ∙ sym c.from_residual.ensures) c.remove.ensures.entries c.remove.ensures.spare
 
 pub leave-requires : goal.leave-requires
-leave-requires c =
-    let there = sym (found_in _ _ _ c.self.invariant c.args.id) ∙ sym c.remove.ensures.value ∙ c.in_ok-job.was in
-    record { held = held_in_groups _ _ _ c.self.invariant c.args.id _ _ there c.place_of.ensures }
+leave-requires c = search (rules, found_in, held_in_groups)
 
 pub leave-requires-2 : goal.leave-requires-2
-leave-requires-2 c =
-    let there = sym (found_in _ _ _ c.self.invariant c.args.id) ∙ sym c.remove.ensures.value ∙ c.in_ok-job.was in
-    record { held = held_in_timers _ _ _ c.self.invariant c.args.id _ _ there c.timer_place_of.ensures }
+leave-requires-2 c = search (rules, found_in, held_in_timers)
 
 pub invariant_of-self-2 : goal.invariant_of-self-2
 invariant_of-self-2 c =

@@ -1,4 +1,4 @@
-use Rattle.std.proofs.Common.{arith, sym, ◌∙◌}
+use Rattle.std.proofs.Common.{arith, sym, ◌∙◌, rules}
 use Rattle.bq_jobs.proofs.TestedRemovals.{passing_there}
 use Rattle.bq_jobs.proofs.ThreeShelves.{held_in_groups, held_in_timers, removal_if, shelved_without}
 use Rattle.bq_jobs.proofs.numbered_jobs.NumberedJobs.remove_if.Goals as goal
@@ -10,9 +10,7 @@ returns-in_err-job-clause-left g c =
     c.args.id _ _ (c.in_err-job.was ∙ sym c.from_residual.ensures) c.remove_at.ensures.entries c.remove_at.ensures.spare
 
 pub leave-requires : goal.leave-requires
-leave-requires g c =
-    let there = passing_there _ c.args.id c.self.inside c.self.invariant _ (sym c.remove_at.ensures.job ∙ c.in_ok-job.was) in
-    record { held = held_in_groups _ _ _ c.self.invariant c.args.id _ _ there c.group_place.ensures }
+leave-requires g c = search (rules, passing_there, held_in_groups)
 
 pub leave-requires-2 : goal.leave-requires-2
 leave-requires-2 g c =

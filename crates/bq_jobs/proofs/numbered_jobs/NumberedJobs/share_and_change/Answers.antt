@@ -1,9 +1,5 @@
-use Rattle.bq_jobs.proofs.Told.{can_move_if, shared_then}
+use Rattle.bq_jobs.proofs.Told.{shared_then}
 use Rattle.bq_jobs.proofs.numbered_jobs.NumberedJobs.share_and_change.Goals as goal
-
-pub shift_if_shared-requires : goal.shift_if_shared-requires
-shift_if_shared-requires g c = can_move_if c.args.id c.self.inside c.self.invariant c.args.self.now c.self.view_is
-    (g.E.JobEdit.edited c.args.edit.now) c.requires.id c.requires.tube c.share_at-shared.result c.share_at-shared.ensures.shared
 
 pub invariant_of-self : goal.invariant_of-self
 invariant_of-self g c = (shared_then c.args.id c.self.inside c.self.invariant c.args.self.now c.self.view_is

@@ -4,7 +4,6 @@ use Rattle.bq_index.specs.Walk.{passes_by}
 use Rattle.bq_jobs.specs.FreeNumbers.{SlotState, values_in}
 use Rattle.bq_jobs.specs.Table.{Tabled, entries_at, valued_in}
 use Rattle.bq_jobs.proofs.TableWalks.{first_valued}
-use Rattle.bq_jobs.proofs.TableViews.{table_order}
 use Rattle.bq_jobs.proofs.table.TubeTable.first.Goals as goal
 
 pub returns-clause-entry : goal.returns-clause-entry
@@ -15,7 +14,3 @@ returns-clause-entry g c =
     ∙ ap (λ (us : List (SlotState g.row.V.Denot)). find (passes_by passed) (entries_at c.self.inside.numbers.entries (values_in us)))
     c.as_slice-slots.ensures.value
     ∙ ap (λ (s : Tabled g.row.V.Denot). find (passes_by passed) s.entries) c.self.view_is
-
-pub returns-clause-ordered : goal.returns-clause-ordered
-returns-clause-ordered g c = table_order c.self.inside.numbers.entries c.self.inside.slots.items c.self.invariant.0 c.args.self.now
-    c.self.view_is

@@ -4,8 +4,5 @@ use Rattle.bq_jobs.proofs.FreeLemmas.{value_of_slot}
 use Rattle.bq_jobs.proofs.TableViews.{slot_there, value_there}
 use Rattle.bq_jobs.proofs.table.TubeTable.get_numbered.Goals as goal
 
-pub index-requires : goal.index-requires
-index-requires g c = grind (arith, slot_there)
-
 pub returns : goal.returns
 returns g c = grind (arith, slot_there, value_there, slice_get_read, value_of_slot c.self.inside.slots.items)

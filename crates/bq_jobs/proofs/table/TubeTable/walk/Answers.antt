@@ -1,10 +1,9 @@
-use Rattle.std.proofs.Common.{◌∙◌, List, ap, arith, fold, refl, ℕ}
+use Rattle.std.proofs.Common.{◌∙◌, List, ap, fold, refl, ℕ}
 use Rattle.std.specs.Prelude.{slice_get}
 use Rattle.bq_index.specs.Walk.{seen_by}
 use Rattle.bq_jobs.specs.FreeNumbers.{SlotState, values_in}
 use Rattle.bq_jobs.specs.Table.{Tabled, entries_at, visited}
 use Rattle.bq_jobs.specs.declared.table.Shown.{Shown}
-use Rattle.bq_jobs.proofs.TableViews.{table_length}
 use Rattle.bq_jobs.proofs.TableWalks.{walk_valued}
 use Rattle.bq_jobs.proofs.table.TubeTable.walk.Goals as goal
 
@@ -21,6 +20,3 @@ returns-clause-visitor g c =
     (values_in us)))
     c.as_slice.ensures.value
     ∙ ap (λ (s : Tabled g.row.V.Denot). fold (seen_by after) c.args.visitor s.entries) c.self.view_is
-
-pub returns-clause-few : goal.returns-clause-few
-returns-clause-few g c = grind (arith, table_length)
