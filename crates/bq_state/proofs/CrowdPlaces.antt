@@ -1,6 +1,6 @@
 -- The client counts of tubes are parallel to their entries.
-use Rattle.std.proofs.Common.{Bool, List, [], ap, arith, false, length, map, refl, sym, true, ℕ, ◌&&◌, ◌∙◌, ◌∷◌, ◌≡◌}
-use Rattle.std.{proofs.lemmas.{Bool.cases_Bool, Grind.common_steps}, specs.{List.{AllByRecursion as All, list_any}, Prelude.nat_lt}}
+use Rattle.std.proofs.Common.{List, [], ap, arith, false, length, map, refl, sym, true, ℕ, ◌&&◌, ◌∙◌, ◌∷◌, ◌≡◌}
+use Rattle.std.{proofs.lemmas.Grind.common_steps, specs.{List.{AllByRecursion as All, list_any}, Prelude.nat_lt}}
 use Rattle.bq_job.{proofs.ListLemmas.{all_always, all_of_map, all_weaker, count_cons, list_any_not, none_pass}, specs.declared.job.Job.Job}
 use Rattle.bq_job.specs.machine.{SeatRecord, TubeRecord, default_tube, empty_seat, fresh_tube, is_seated_at}
 use Rattle.bq_job.specs.reading.TubeName.{is_same_name}
@@ -13,13 +13,9 @@ use Rattle.bq_state.specs.declared.{known.tally.Tally.Tally, tubes.entry.Crowd.C
 
 -- no client is at a tube without an entry
 module _ (name : List ℕ) (es : List TubeRecord) (missing : has_entry name es ≡ false) where
-  at_none : (names : List (List ℕ)) → All (λ n. has_entry n es ≡ true) names → list_any (is_same_name name) names ≡ false
-  at_none names all = list_any_not _ names (all_weaker _ _ names (λ n. other_name name n es missing) all)
-
   pub nobody_there : (seats : List SeatRecord) → All (HasTubes es) seats → All IsSeated seats → crowd_of seats name ≡ no_crowd
   nobody_there [] has is = refl
-  nobody_there (s ∷ seats) has is =
-      grind (arith, common_steps, cases_Bool, count_cons, other_name, at_none, nobody_there seats has.1 is.1)
+  nobody_there (s ∷ seats) has is = grind (arith, count_cons, other_name, list_any_not, all_weaker, nobody_there seats has.1 is.1)
 
 -- an entry changes, but not its name
 pub crowds_kept : (f : TubeRecord → TubeRecord) → ((t : TubeRecord) → (f t).name ≡ t.name) → (crowds : List Crowd) (seats : List SeatRecord)
@@ -64,17 +60,10 @@ pub jobs_there : (name : List ℕ) (tallies : List Tally) (jobs : List Job) (es 
     → tallies ≡ tallies_of jobs es → has_jobs (tally_at name es tallies) ≡ list_any (λ j. is_same_name name j.tube) jobs
 jobs_there name tallies jobs es of_jobs counted = grind (arith, common_steps, tally_there, has_jobs_in)
 
--- The counts of a tube decide whether it exists.
-pub exists_by_counts : (jobs : List Job) (seats : List SeatRecord) (name : List ℕ) (some seated : Bool)
-    → some ≡ list_any (λ j. is_same_name name j.tube) jobs → seated ≡ list_any (is_seated_at name) seats
-    → is_tube_by some seated name ≡ is_tube_of jobs seats name
-exists_by_counts jobs seats name some seated e f = λ i. is_tube_by (e i) (f i) name
-
 pub tube_there : (name : List ℕ) (tallies : List Tally) (crowds : List Crowd) (jobs : List Job) (seats : List SeatRecord)
     (es : List TubeRecord) → AreEntries jobs seats es → tallies ≡ tallies_of jobs es → AreCrowds crowds seats es
     → is_tube_by (has_jobs (tally_at name es tallies)) (has_seats (crowd_at name es crowds)) name ≡ is_tube_of jobs seats name
-tube_there name tallies crowds jobs seats es entries counted was =
-    grind (arith, jobs_there, crowd_there, has_seats_of)
+tube_there name tallies crowds jobs seats es entries counted was = grind (arith, common_steps, jobs_there, crowd_there, has_seats_of)
 
 -- at first there are no clients
 pub first_crowds : (ns : List ℕ) → AreCrowds (no_crowd ∷ []) (map empty_seat ns) (fresh_tube default_tube ∷ [])

@@ -5,7 +5,7 @@ use Rattle.std.specs.{Option.option_map, Ordering.is_gt, Prelude.{fold, nat_le, 
 use Rattle.bq_index.specs.{Catalog.CatalogSeen, Order.InOrder}
 use Rattle.bq_job.{proofs.ListLemmas.{all_from_members, list_any_with}, specs.{beside.{dues_of_pause, earliest}, machine.TubeRecord}}
 use Rattle.bq_job.specs.reading.TubeName.{is_same_name}
-use Rattle.bq_jobs.proofs.{Choice.{from_least, lookup_inserted, lookup_removed, none_below, then_not_greater}, Firsts.name_ties}
+use Rattle.bq_jobs.proofs.{Choice.{from_least, lookup_inserted, lookup_removed}, Firsts.name_ties}
 use Rattle.bq_jobs.specs.{JobsSeen.JobsSeen, Table.Tabled}
 use Rattle.bq_state.{proofs.TubeLemmas.same_itself, specs.Dues.{first_pause_end, is_end_over, with_tube_due}}
 use Rattle.bq_state.specs.PauseEnds.{AreEnds, Ends, end_cmp, end_total, first_end}
@@ -20,14 +20,7 @@ has_left q e ends s = grind (arith, common_steps, name_ties, lookup_removed end_
 
 pub has_entered : (q e : PauseEnd) (ends : Ends) → found_end e ends ≡ None
     → has_end q (with_end (Some e) ends) ≡ ((is_same_name e.number q.number && e.until == q.until) || has_end q ends)
-has_entered q e ends absent =
-    grind (
-      arith,
-      common_steps,
-      name_ties q.number e.number,
-      nat_list_eq_equiv.symm q.number e.number,
-      lookup_inserted end_total q e tt ends absent,
-    )
+has_entered q e ends absent = grind (arith, common_steps, name_ties, nat_list_eq_equiv.symm, lookup_inserted end_total q e tt ends absent)
 
 -- This moment, if there is one, is not before the first end.
 abbrev IsFrom : Option ℕ → Option PauseEnd → Type 0
@@ -36,7 +29,7 @@ IsFrom (Some m) None = ⊥
 IsFrom (Some m) (Some e) = e.until ≤ m
 
 not_lower : (e : PauseEnd) → is_gt (end_cmp (record { until = 0; number = [] }) e) ≡ false
-not_lower e = grind (arith, none_below, then_not_greater)
+not_lower e = grind arith
 
 not_after : (a b : PauseEnd) → is_gt (end_cmp a b) ≡ false → a.until ≤ b.until
 not_after a b h = grind (arith, common_steps)

@@ -1,22 +1,23 @@
 -- How the ends of pauses change when a pause changes, or a tube is added or removed.
 use Rattle.std.proofs.Common.{List, None, Option, Some, [], ap, arith, cond, false, if◌then◌else◌, is_some, length, map, refl, sym, true, ℕ}
-use Rattle.std.proofs.Common.{◌+◌, ◌<◌, ◌∙◌, ◌∷◌, ◌≡◌, ◌≤◌, ◌⊎◌}
-use Rattle.std.proofs.lemmas.{Bool.{or_parts}, Cmp.nat_list_eq_equiv, Grind.common_steps, List.length-map}
-use Rattle.std.specs.{BTreeMap.insert_entry, Cmp.Lexicographic.{nat_list_cmp_total, slice_cmp}, List.{AllByRecursion as All, list_any}}
+use Rattle.std.proofs.Common.{◌+◌, ◌<◌, ◌∙◌, ◌∷◌, ◌≡◌, ◌≤◌, ◌⊎◌, subst, rules}
+use Rattle.std.proofs.lemmas.{Bool.or_parts, Cmp.nat_list_eq_equiv, Grind.common_steps, List.length-map}
+use Rattle.std.specs.{BTreeMap.insert_entry, Cmp.Lexicographic.{nat_list_cmp_total, slice_cmp}}
+use Rattle.std.specs.List.{AllByRecursion as All, Sorted.IsStrictlySortedBy, list_any}
 use Rattle.std.specs.{Map.{keys_of, lookup, remove_entry}, Option.{ForSome, option_map}, Ordering.nat_cmp, Prelude.{count_by, nat_le, ◌&&◌}}
 use Rattle.bq_index.{proofs.Order.{length_inserted, length_lost, order_remove}, specs.{Catalog.CatalogSeen, Order.InOrder}}
-use Rattle.bq_job.proofs.ListLemmas.{all_weaker, list_any_not, map_all_same}
-use Rattle.bq_job.specs.machine.{Pause, TubeRecord, fresh_tube, pause_after_timers, tube_after_timers, with_record}
+use Rattle.bq_job.proofs.ListLemmas.{all_weaker, list_any_not}
+use Rattle.bq_job.specs.machine.{Pause, TubeRecord, fresh_tube, pause_after_timers, with_record}
 use Rattle.bq_job.specs.reading.TubeName.{is_same_name}
 use Rattle.bq_jobs.{proofs.Choice.lookup_removed, specs.{Names.number_in, Numbering.{Numbering, number_of}, Table.Tabled}}
+use Rattle.bq_jobs.specs.JobsSeen.{JobsSeen}
 use Rattle.bq_state.proofs.EndLemmas.{has_entered, has_left, one_over}
-use Rattle.bq_state.proofs.NamedLemmas.{change_kept, edit_change, found_any, found_entry, have_numbers, in_order, ties}
-use Rattle.bq_state.proofs.{NumberLemmas.{number_inserted, number_left, number_read}, PartsLemmas.tube_name_kept}
-use Rattle.bq_state.proofs.TubeLemmas.{before_differs, changed_one, order_kept, same_itself, same_name}
-use Rattle.bq_state.specs.{TubesSeen.{EntrySeen, Named, edited, ended, entry_changed, is_named_at, record_at, record_of, records_ended}}
+use Rattle.bq_state.proofs.NamedLemmas.{edit_same, found_any, found_entry, have_numbers, in_order, ties}
+use Rattle.bq_state.proofs.{NumberLemmas.{number_inserted, number_left, number_read}, TubeLemmas.{before_differs, same_itself, same_name}}
+use Rattle.bq_state.specs.TubesSeen.{EntrySeen, Named, edited_at, ended, entry_changed, is_named_at, record_at, record_of, records_ended}
 use Rattle.bq_state.specs.PauseEnds.{AreEnds, AreTold, Ends, IsTold, end_cmp, end_of, ends_at, first_end, found_end, has_end, if_over}
 use Rattle.bq_state.specs.PauseEnds.{is_end_in, is_paused, number_at, pause_at, pause_in, paused_count, with_end, without_end}
-use Rattle.bq_state.specs.TubeEntries.{AreInOrder, has_entry, tube_changed}
+use Rattle.bq_state.specs.{Store.AreStored, TubeEntries.{AreInOrder, has_entry}}
 use Rattle.bq_state.specs.declared.tubes.{entry.TubeChange.{TheVariants.{CountDelete, CountPut}, TubeChange}, pauses.PauseEnd.PauseEnd}
 
 abbrev records : Tabled EntrySeen → List TubeRecord
@@ -72,13 +73,7 @@ pub end_held : (name : List ℕ) (kept : Tabled EntrySeen) (ends : CatalogSeen P
     → AreEnds kept ends → InOrder (slice_cmp nat_cmp) kept.entries → AreTold kept
     → from ≡ end_of (number_at name kept.tubes.numbers) (pause_at name (map record_at kept.entries))
     → ForSome from (λ e. has_end e ends.entries ≡ true)
-end_held name kept ends from h order told was e is =
-    grind (
-      arith,
-      common_steps,
-      h.known e,
-      named_ends name kept.tubes.numbers e.until (records kept) (in_order kept.entries order) (told name),
-    )
+end_held name kept ends from h order told was e is = grind (arith, common_steps, h.known e, named_ends, in_order, told name)
 
 -- The end of the pause is removed, and that of the new pause is added.
 module _ (number : List ℕ) (old next : Option Pause) (kept new : Tabled EntrySeen) (ends mid : CatalogSeen PauseEnd (Unit {0}))
@@ -103,48 +98,62 @@ module _ (number : List ℕ) (old next : Option Pause) (kept new : Tabled EntryS
   -- and the ends are again those of the pauses.
   pub ends_moved : (last : CatalogSeen PauseEnd (Unit {0})) → last.entries ≡ with_end to mid.entries
       → last.spare + cond (is_some to) 1 0 ≡ mid.spare → AreEnds new last
-  ends_moved last entries rest =
-      grind (arith, common_steps, known_last, length_inserted, end_absent, length_lost, from_held, m.count, m.fewer)
+  ends_moved last entries rest = search (rules, known_last, length_inserted, end_absent, length_lost, from_held)
 
--- the tube's pause changes
-module _ (name : List ℕ) (f : TubeRecord → TubeRecord) (keeps : (t : TubeRecord) → (f t).name ≡ t.name) where
-  name_kept : (t : TubeRecord) → (changed_one name f t).name ≡ t.name
-  name_kept t = grind (arith, common_steps, keeps t)
-
+-- What is kept about a tube changes.
+module _ (name : List ℕ) (f : EntrySeen → EntrySeen) where
   module _ (numbers : List (List ℕ × ℕ)) where
-    others_changed : (q : PauseEnd) → is_same_name (number_at name numbers) q.number ≡ false
-        → (ts : List TubeRecord) → is_end_in numbers q (map (changed_one name f) ts) ≡ is_end_in numbers q ts
-    others_changed q other [] = refl
-    others_changed q other (t ∷ ts) = grind (
-      arith,
-      common_steps,
-      same_name name t.name,
-      nat_list_eq_equiv.symm (number_at name numbers) q.number,
-      keeps t,
-      others_changed q other ts,
-    )
+    others_edited : (q : PauseEnd) → is_same_name (number_at name numbers) q.number ≡ false
+        → (es : List Named) → is_end_in numbers q (map record_at (edited_at name f es)) ≡ is_end_in numbers q (map record_at es)
+    others_edited q other [] = refl
+    others_edited q other (x ∷ es) = grind (arith, common_steps, ties, same_name name x.0, nat_list_eq_equiv.symm, others_edited q other es)
 
-    told_changed : (ts : List TubeRecord) → All (IsTold numbers name) ts → All (IsTold numbers name) (map (changed_one name f) ts)
-    told_changed [] told = tt
-    told_changed (t ∷ ts) told = (rw (name_kept t) told.0, told_changed ts told.1)
+    told_edited : (es : List Named) → All (IsTold numbers name) (map record_at es)
+        → All (IsTold numbers name) (map record_at (edited_at name f es))
+    told_edited [] told = tt
+    told_edited (x ∷ es) told = grind (arith, told_edited es told.1)
 
-    -- If the change keeps the pauses, it keeps their ends.
-    same_ends : ((t : TubeRecord) → (f t).pause ≡ t.pause) → (q : PauseEnd) (ts : List TubeRecord)
-        → is_end_in numbers q (map (changed_one name f) ts) ≡ is_end_in numbers q ts
-    same_ends paused q [] = refl
-    same_ends paused q (t ∷ ts) = grind (arith, common_steps, keeps t, paused t, same_ends paused q ts)
+  count_edited : (es : List Named)
+      → paused_count (edited_at name f es) + cond (is_some (pause_at name (map record_at es))) 1 0
+      ≡ paused_count es + cond (is_some (pause_at name (map record_at (edited_at name f es)))) 1 0
+  count_edited [] = refl
+  count_edited (x ∷ es) = grind (arith, common_steps, ties name x.0, same_name name x.0, count_edited es)
 
-  same_count : ((t : TubeRecord) → (f t).pause ≡ t.pause) → (ts : List TubeRecord)
-      → count_by is_paused (map (changed_one name f) ts) ≡ count_by is_paused ts
-  same_count paused [] = refl
-  same_count paused (t ∷ ts) = grind (arith, common_steps, paused t, same_count paused ts)
+  module _ (kept last : Tabled EntrySeen) (n : last.tubes ≡ kept.tubes) (e : last.entries ≡ edited_at name f kept.entries) where
+    same_names : keys_of last.entries ≡ keys_of kept.entries
+    same_names = ap keys_of e ∙ edit_same name f (λ x. x.0) (λ x. refl) kept.entries
 
-  count_changed : (ts : List TubeRecord) → AreInOrder ts
-      → count_by is_paused (map (changed_one name f) ts) + cond (is_some (pause_at name ts)) 1 0
-      ≡ count_by is_paused ts + cond (is_some (pause_at name (map (changed_one name f) ts))) 1 0
-  count_changed [] order = refl
-  count_changed (t ∷ ts) order =
-      grind (arith, common_steps, same_name name t.name, before_differs, map_all_same, all_weaker, count_changed ts order.1)
+    as_many : length last.entries ≡ length kept.entries
+    as_many = grind (arith, length-map, same_names)
+
+    pub edit_moves : InOrder (slice_cmp nat_cmp) kept.entries → AreTold kept → Moves (number_at name kept.tubes.numbers)
+        (pause_at name (map record_at kept.entries)) (pause_at name (map record_at last.entries)) kept last
+    edit_moves order told = record {
+      was = λ until. named_ends name kept.tubes.numbers until (map record_at kept.entries) (in_order kept.entries order) (told name);
+      is = λ until. rw n (named_ends name kept.tubes.numbers until (map record_at last.entries)
+          (in_order last.entries (subst (IsStrictlySortedBy (slice_cmp nat_cmp)) (sym same_names) order))
+          (rw e (told_edited kept.tubes.numbers kept.entries (told name))));
+      others = λ q other. rw (n, e) (others_edited kept.tubes.numbers q other kept.entries);
+      count = rw e (count_edited kept.entries);
+      fewer = omega (arith, as_many);
+    }
+
+    -- If the change keeps the pause, it keeps the ends.
+    module _ (paused : (t : EntrySeen) → (f t).pause ≡ t.pause) where
+      same_ends : (q : PauseEnd) (es : List Named)
+          → is_end_in kept.tubes.numbers q (map record_at (edited_at name f es)) ≡ is_end_in kept.tubes.numbers q (map record_at es)
+      same_ends q [] = refl
+      same_ends q (x ∷ es) = grind (arith, common_steps, paused x.1, same_ends q es)
+
+      same_count : (es : List Named) → paused_count (edited_at name f es) ≡ paused_count es
+      same_count [] = refl
+      same_count (x ∷ es) = grind (arith, common_steps, paused x.1, same_count es)
+
+      pub edit_stays : (ends : CatalogSeen PauseEnd (Unit {0})) → AreEnds kept ends → AreEnds last ends
+      edit_stays ends h = grind (arith, same_ends, same_count, as_many)
+
+      pub edit_stored : (rows : JobsSeen) (ends : CatalogSeen PauseEnd (Unit {0})) → AreStored rows kept ends → AreStored rows last ends
+      edit_stored rows ends h = record { registered = rw n h.registered; ends = edit_stays ends h.ends }
 
 -- the tube is removed or added
 module _ (name : List ℕ) where
@@ -152,9 +161,7 @@ module _ (name : List ℕ) where
   renumbered : (numbers new : List (List ℕ × ℕ)) → ((k : List ℕ) → is_same_name name k ≡ false → number_at k new ≡ number_at k numbers)
       → (q : PauseEnd) (ts : List TubeRecord) → has_entry name ts ≡ false → is_end_in new q ts ≡ is_end_in numbers q ts
   renumbered numbers new same q [] none = refl
-  renumbered numbers new same q (t ∷ ts) none =
-      let parts = or_parts (is_same_name name t.name) (has_entry name ts) none in
-      grind (arith, same t.name parts.0, renumbered numbers new same q ts parts.1)
+  renumbered numbers new same q (t ∷ ts) none = grind (arith, or_parts, same t.name, renumbered numbers new same q ts)
 
   abbrev left : List Named → List Named
   left es = remove_entry (is_named_at name) es
@@ -163,8 +170,7 @@ module _ (name : List ℕ) where
   numbers_left numbers = remove_entry (is_named_at name) numbers
 
   none_left : (es : List Named) → InOrder (slice_cmp nat_cmp) es → lookup (is_named_at name) (left es) ≡ None
-  none_left es order = lookup_removed {V = EntrySeen} nat_list_cmp_total name name es order
-      ∙ ap (λ b. cond b None (lookup (is_named_at name) es)) (ties name name ∙ same_itself name)
+  none_left es order = grind (arith, lookup_removed nat_list_cmp_total name name es order, ties, same_itself)
 
   no_entry_left : (es : List Named) → InOrder (slice_cmp nat_cmp) es → has_entry name (map record_at (left es)) ≡ false
   no_entry_left es order = sym (found_any name (left es)) ∙ ap is_some (none_left es order)
@@ -172,14 +178,8 @@ module _ (name : List ℕ) where
   others_left : (numbers : List (List ℕ × ℕ)) (q : PauseEnd) → is_same_name (number_at name numbers) q.number ≡ false
       → (es : List Named) → is_end_in numbers q (map record_at (left es)) ≡ is_end_in numbers q (map record_at es)
   others_left numbers q other [] = refl
-  others_left numbers q other (x ∷ es) = grind (
-    arith,
-    common_steps,
-    ties name x.0,
-    same_name name x.0,
-    nat_list_eq_equiv.symm (number_at name numbers) q.number,
-    others_left numbers q other es,
-  )
+  others_left numbers q other (x ∷ es) =
+      grind (arith, common_steps, ties, same_name name x.0, nat_list_eq_equiv.symm, others_left numbers q other es)
 
   renumbered_left : (numbers : List (List ℕ × ℕ)) (es : List Named) → InOrder (slice_cmp nat_cmp) es → (q : PauseEnd)
       → is_end_in (numbers_left numbers) q (map record_at (left es)) ≡ is_end_in numbers q (map record_at (left es))
@@ -231,61 +231,23 @@ module _ (name : List ℕ) where
       let parts = fresh (insert_entry (slice_cmp nat_cmp) kept.tubes.numbers name n) (map record_at kept.entries) none in
       grind (arith, length-map, renumbered, number_inserted)
 
--- A change of what is kept about one tube, as an entry and as a record.
-module _ (name : List ℕ) (f : EntrySeen → EntrySeen) (g : TubeRecord → TubeRecord)
-    (made : (n : List ℕ) (t : EntrySeen) → record_of n (f t) ≡ g (record_of n t)) (keeps : (t : TubeRecord) → (g t).name ≡ t.name)
-    (kept last : Tabled EntrySeen) (order : InOrder (slice_cmp nat_cmp) kept.entries) (n : last.tubes ≡ kept.tubes)
-    (e : last.entries ≡ edited name f (lookup (is_named_at name) kept.entries) kept.entries) where
-  edit_is : map record_at last.entries ≡ map (changed_one name g) (map record_at kept.entries)
-  edit_is = ap (map record_at) e ∙ edit_change name f g made kept.entries (in_order kept.entries order)
-
-  as_many : length last.entries ≡ length kept.entries
-  as_many = grind (arith, length-map, edit_is)
-
-  pub edit_moves : AreTold kept → Moves (number_at name kept.tubes.numbers) (pause_at name (map record_at kept.entries))
-      (pause_at name (map record_at last.entries)) kept last
-  edit_moves told =
-      let ts = map record_at kept.entries in
-      let sorted = in_order kept.entries order in
-      record {
-        was = λ until. named_ends name kept.tubes.numbers until ts sorted (told name);
-        is = λ until. rw (n, edit_is) (named_ends name kept.tubes.numbers until (map (changed_one name g) ts)
-            (order_kept (changed_one name g) (name_kept name g keeps) ts sorted) (told_changed name g keeps kept.tubes.numbers ts
-            (told name)));
-        others = λ q other. rw (n, edit_is) (others_changed name g keeps kept.tubes.numbers q other ts);
-        count = rw edit_is (count_changed name g keeps ts sorted);
-        fewer = omega (arith, as_many);
-      }
-
-  pub edit_stays : ((t : TubeRecord) → (g t).pause ≡ t.pause) → (ends : CatalogSeen PauseEnd (Unit {0})) → AreEnds kept ends
-      → AreEnds last ends
-  edit_stays paused ends h = grind (arith, edit_is, same_ends, same_count, as_many)
-
--- How a pause changes, and a count.
-pub change_moves : (name : List ℕ) (what : TubeChange) (kept last : Tabled EntrySeen) → InOrder (slice_cmp nat_cmp) kept.entries
-    → last.tubes ≡ kept.tubes → last.entries ≡ edited name (entry_changed what) (lookup (is_named_at name) kept.entries) kept.entries
-    → AreTold kept → Moves (number_at name kept.tubes.numbers) (pause_at name (map record_at kept.entries))
-    (pause_at name (map record_at last.entries)) kept last
-change_moves name what = edit_moves name (entry_changed what) (tube_changed what) (change_kept what) (tube_name_kept what)
-
+-- A count keeps the pause.
 pub count_stays : (name : List ℕ) (what : TubeChange) (kept last : Tabled EntrySeen) (ends : CatalogSeen PauseEnd (Unit {0}))
-    → (what ≡ CountPut) ⊎ (what ≡ CountDelete) → InOrder (slice_cmp nat_cmp) kept.entries → last.tubes ≡ kept.tubes
-    → last.entries ≡ edited name (entry_changed what) (lookup (is_named_at name) kept.entries) kept.entries
-    → AreEnds kept ends → AreEnds last ends
-count_stays name what kept last ends counts order n e h = edit_stays name (entry_changed what) (tube_changed what) (change_kept what)
-    (tube_name_kept what) kept last order n e (λ t. grind (arith, common_steps)) ends h
+    → (what ≡ CountPut) ⊎ (what ≡ CountDelete) → last.tubes ≡ kept.tubes
+    → last.entries ≡ edited_at name (entry_changed what) kept.entries → AreEnds kept ends → AreEnds last ends
+count_stays name what kept last ends counts n e h =
+    edit_stays name (entry_changed what) kept last n e (λ t. grind (arith, common_steps)) ends h
 
 -- A pause that is due ends.
 module _ (moment : ℕ) (name : List ℕ) where
-  one_after : (ts : List TubeRecord)
-      → map (tube_after_timers moment) (map (changed_one name (tube_after_timers moment)) ts) ≡ map (tube_after_timers moment) ts
+  one_after : (es : List Named) → records_ended moment (edited_at name (ended moment) es) ≡ records_ended moment es
   one_after [] = refl
-  one_after (t ∷ ts) = grind (arith, common_steps, one_after ts)
+  one_after (x ∷ es) = grind (arith, common_steps, one_after es)
 
-  pause_then : (ts : List TubeRecord)
-      → pause_at name (map (changed_one name (tube_after_timers moment)) ts) ≡ pause_after_timers moment (pause_at name ts)
+  pause_then : (es : List Named) → pause_at name (map record_at (edited_at name (ended moment) es))
+      ≡ pause_after_timers moment (pause_at name (map record_at es))
   pause_then [] = refl
-  pause_then (t ∷ ts) = grind (arith, pause_then ts)
+  pause_then (x ∷ es) = grind (arith, common_steps, ties name x.0, pause_then es)
 
 -- the end of a pause that is due, and of one that has ended
 from_at : (until : ℕ) (number : List ℕ) (p : Option Pause) → ends_at until p ≡ true
@@ -301,28 +263,19 @@ module _ (moment : ℕ) (e : PauseEnd) (name : List ℕ) (kept last : Tabled Ent
     (h : AreEnds kept ends) (order : InOrder (slice_cmp nat_cmp) kept.entries) (told : AreTold kept)
     (come : Some e ≡ if_over moment (first_end ends.entries)) (own : e.number ≡ number_at name kept.tubes.numbers)
     (n : last.tubes ≡ kept.tubes)
-    (edit : last.entries ≡ edited name (ended moment) (lookup (is_named_at name) kept.entries) kept.entries) where
-  last_is : map record_at last.entries ≡ map (changed_one name (tube_after_timers moment)) (map record_at kept.entries)
-  last_is = edit_is name (ended moment) (tube_after_timers moment) (λ n t. refl) (λ t. refl) kept last order n edit
-
+    (edit : last.entries ≡ edited_at name (ended moment) kept.entries) where
   over_from : Some e ≡ end_of (number_at name kept.tubes.numbers) (pause_at name (map record_at kept.entries))
   over_from =
-      let same : e ≡ record { until = e.until; number = number_at name kept.tubes.numbers } = λ i. record {
-        until = e.until;
-        number = own i;
-      } in
-      ap Some same ∙ from_at e.until (number_at name kept.tubes.numbers) (pause_at name (map record_at kept.entries))
-      (sym (named_ends name kept.tubes.numbers e.until (map record_at kept.entries) (in_order kept.entries order) (told name))
-      ∙ ap (λ (q : PauseEnd). is_end_in kept.tubes.numbers q (map record_at kept.entries)) (sym same)
-      ∙ sym (h.known e) ∙ (one_over moment e ends.entries come).0)
+      let ended = rw (← own) at (named_ends name kept.tubes.numbers e.until (records kept) (in_order kept.entries order) (told name)) in
+      rw (← own) (from_at e.until e.number _ (sym ended ∙ sym (h.known e) ∙ (one_over moment e ends.entries come).0))
 
   over_to : None ≡ end_of (number_at name kept.tubes.numbers) (pause_at name (map record_at last.entries))
-  over_to = grind (arith, last_is, pause_then, to_at, over_from)
+  over_to = rw (edit, pause_then moment name kept.entries) (to_at moment _ e _ over_from (one_over moment e ends.entries come).1)
 
   over_moves : Moves (number_at name kept.tubes.numbers) (pause_at name (map record_at kept.entries))
       (pause_at name (map record_at last.entries))
       kept last
-  over_moves = edit_moves name (ended moment) (tube_after_timers moment) (λ n t. refl) (λ t. refl) kept last order n edit told
+  over_moves = edit_moves name (ended moment) kept last n edit order told
 
   pub over_fewer : paused_count last.entries < paused_count kept.entries
   over_fewer = grind (arith, common_steps, over_moves.count, over_from, over_to)
@@ -334,4 +287,4 @@ module _ (moment : ℕ) (e : PauseEnd) (name : List ℕ) (kept last : Tabled Ent
       left (λ _ _. s) spare mid refl (omega arith)
 
   pub over_records : records_ended moment last.entries ≡ records_ended moment kept.entries
-  over_records = grind (arith, last_is, one_after)
+  over_records = ap (records_ended moment) edit ∙ one_after moment name kept.entries

@@ -8,8 +8,8 @@ use Rattle.std.specs.{Map.remove_entry, Option.option_map, Ordering.nat_cmp, Pre
 use Rattle.std.specs.declared.cmp.Ordering.TheVariants.{Less}
 use Rattle.bq_index.specs.{Order.InOrder, Walk.seen_by}
 use Rattle.bq_job.{proofs.ListLemmas.{all_at, all_before_map, found_passes}, specs.{declared.job.Job.Job, machine.{SeatRecord, TubeRecord}}}
-use Rattle.bq_job.specs.{machine.{greatest, raised}, reading.TubeName.is_same_name}
-use Rattle.bq_state.proofs.{CrowdLemmas.has_seats_of, CrowdPlaces.exists_by_counts, MaybeGoneLemmas.all_kept_alive}
+use Rattle.bq_job.specs.{machine.greatest, reading.TubeName.is_same_name}
+use Rattle.bq_state.proofs.{CrowdLemmas.has_seats_of, MaybeGoneLemmas.all_kept_alive}
 use Rattle.bq_state.proofs.{MaybeGoneLemmas.others_alive, NamedLemmas.ties, TallyPlaces.has_jobs_in, TubeLemmas.same_name}
 use Rattle.bq_state.specs.{Counting.AreCounts, TubesSeen.{EntrySeen, Named, is_alive_at, is_from, is_gone_by}}
 use Rattle.bq_state.specs.TubesSeen.{entry_tally, is_gone_from, is_named_at, record_at, tubes_seen, with_alive, without_gone}
@@ -61,7 +61,7 @@ module _ (jobs : List Job) (seats : List SeatRecord) where
 
   -- By its counts a tube exists if and only if it exists by the jobs and seats.
   alive_is : (x : Named) (es : List Named) → AreTallied jobs seats (x ∷ es) → is_alive_at x ≡ is_tube_of jobs seats x.0
-  alive_is x es h = grind (arith, exists_by_counts jobs seats x.0, h.0, h.1, has_jobs_in x.0 jobs, has_seats_of seats x.0)
+  alive_is x es h = grind (arith, h.0, h.1, has_jobs_in x.0 jobs, has_seats_of seats x.0)
 
   pub filter_records : (es : List Named) → AreTallied jobs seats es
       → map record_at (filter (is_alive_at) es) ≡ filter (λ t. is_tube_of jobs seats t.name) (map record_at es)
@@ -79,8 +79,7 @@ module _ (jobs : List Job) (seats : List SeatRecord) where
       → (fold (seen_by (λ (s : HowMany) (name : List ℕ) (t : EntrySeen). record { count = with_alive s.count name t }))
       (record { count = n }) es).count ≡ n + length (names_alive jobs seats (map record_at es))
   counted_names [] n h few = omega arith
-  counted_names (x ∷ es) n h few = let rest = λ (k : ℕ). counted_names es k (rest_tallied x es h) in
-      grind (arith, common_steps, cases_Bool (is_alive_at x), alive_is x es h, rest (raised n), rest n)
+  counted_names (x ∷ es) n h few = grind (arith, rest_tallied, alive_is, counted_names es)
 
   -- The entry with one name is dropped if its tube no longer exists.
   pub one_left : (name : List ℕ) (es : List Named) → AreInOrder (map record_at es) → AreAlive (Tube name) jobs seats (map record_at es)

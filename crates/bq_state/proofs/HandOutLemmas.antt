@@ -1,13 +1,13 @@
 -- What is kept after a job was handed out, or was not.
 use Rattle.std.proofs.Common.{arith}
 use Rattle.std.proofs.lemmas.Grind.{common_steps}
-use Rattle.std.proofs.{Common.{List, Option, Some, ℕ, ◌≡◌}}
-use Rattle.std.specs.{Option.option_map, Prelude.{Result}}
+use Rattle.std.proofs.Common.{List, Option, Some, ℕ, ◌≡◌}
+use Rattle.std.specs.{Option.option_map, Prelude.Result}
 use Rattle.bq_job.specs.machine.{job_with}
 use Rattle.bq_jobs.specs.{Changed.moved_by, JobsSeen.JobsSeen, Numbering.HasNumber, Sharing.SharesAndChanges}
 use Rattle.bq_jobs.specs.declared.numbered_jobs.JobMove.{JobMove}
 use Rattle.bq_state.proofs.KnowledgeLemmas.{sound_with_moved}
-use Rattle.bq_state.specs.{CoreParts.{fields}, HandOuts.{CountsIf, HandsOutTo, body_in}}
+use Rattle.bq_state.specs.{CoreParts.fields, HandOuts.{CountsIf, HandsOutTo, body_in}}
 use Rattle.bq_state.specs.{JobChanges.changed, Soundness.Soundness, TubesSeen.TubesSeen}
 use Rattle.bq_state.specs.declared.{core_parts.CoreParts.CoreParts, job_store.JobChange.{JobChange, TheVariants.HandOut}, known.Known.Known}
 

@@ -129,8 +129,7 @@ module _ (st : CoreParts) where
       → AreCounts new st.store.jobs.jobs st.seats.items → IsSo (with_forgotten st.known) st.store.jobs.jobs st.seats.items new
   so_forgotten new left counts =
       let p = λ (t : TubeRecord). is_tube_of st.store.jobs.jobs st.seats.items t.name in
-      let now = rw left at counts in
-      rw left (search (known_forgotten (machine_of st), alive_forgotten, filters_swap is_counted p))
+      rw left (search (known_forgotten (machine_of st), alive_forgotten, filters_swap is_counted p, rw left at counts))
 
   -- If no tube may have gone, none is dropped.
   pub none_forgotten : is_nothing st.known.maybe_gone ≡ true → machine_of st ≡ forgetting (machine_of st)

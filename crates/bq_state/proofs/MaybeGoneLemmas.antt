@@ -1,19 +1,19 @@
 -- The entries of tubes that may no longer exist, as jobs and seats change.
-use Rattle.std.proofs.Common.{Bool, List, Some, [], arith, false, if◌then◌else◌, map, not, refl, set, slice_get, suc, true}
+use Rattle.std.proofs.Common.{Bool, List, Some, [], arith, false, if◌then◌else◌, map, not, refl, set, slice_get, suc, true, rules}
 use Rattle.std.proofs.{Common.{zero, ℕ, ◌++◌, ◌||◌, ◌∷◌, ◌≡◌}, Math.Bool.or-false, lemmas.{Bool.cases_Bool, Grind.common_steps}}
 use Rattle.std.specs.{List.{AllByRecursion as All, list_any}, Prelude.filter}
 use Rattle.bq_job.proofs.ListLemmas.{all_always, all_both, all_of_map, all_weaker, filter_all, map_all_same}
 use Rattle.bq_job.specs.{beside.AreIdsWithin, declared.job.Job.Job, machine.{SeatRecord, TubeRecord, is_name_before}}
 use Rattle.bq_job.specs.{machine.{is_seated_at, job_with, watching}, reading.TubeName.is_same_name}
 use Rattle.bq_jobs.{proofs.Changes.{changed, found_id}, specs.JobsSeen.{with_added, without}}
-use Rattle.bq_state.proofs.TubeLemmas.{all_inserted, before_differs, both_same, same_itself, same_name}
+use Rattle.bq_state.proofs.TubeLemmas.{all_inserted, before_differs, same_itself, same_name}
 use Rattle.bq_state.specs.{MaybeGoneTubes.{AreAlive, may_be_gone, with_existing, with_gone}, TubeEntries.{has_entry, is_tube_of, provided}}
 use Rattle.bq_state.specs.declared.known.maybe_gone.MaybeGone.{MaybeGone, TheVariants.{Nothing, Tube}}
 
 -- a tube that is marked as possibly gone stays marked, and so is this one
 pub still_gone : (more : List ℕ) (maybe : MaybeGone) (name : List ℕ) → (may_be_gone maybe name || is_same_name name more) ≡ true
     → may_be_gone (with_gone more maybe) name ≡ true
-still_gone more maybe name h = grind (arith, common_steps, both_same, same_name name more, same_itself)
+still_gone more maybe name h = search (rules, same_name, same_itself)
 
 -- a job is added
 pub any_added : (p : Job → Bool) (j : Job) (jobs : List Job) → list_any p (with_added j jobs) ≡ (p j || list_any p jobs)
@@ -22,7 +22,7 @@ any_added p j (k ∷ jobs) = grind (arith, common_steps, cases_Bool, any_added p
 
 pub alive_added : (j : Job) (maybe : MaybeGone) (jobs : List Job) (seats : List SeatRecord) (entries : List TubeRecord)
     → AreAlive maybe jobs seats entries → AreAlive (with_existing j.tube maybe) (with_added j jobs) seats entries
-alive_added j maybe jobs seats entries all = grind (arith, common_steps, all_weaker, any_added, both_same)
+alive_added j maybe jobs seats entries all = search (rules, all_weaker, any_added, same_name, same_itself)
 
 -- a job is removed: only its tube may have lost its last job
 any_without : (low next id : ℕ) (j : Job) (jobs : List Job) → AreIdsWithin low jobs next → job_with id jobs ≡ Some j → (p : Job → Bool)
@@ -70,9 +70,7 @@ alive_ignoring gone i s maybe jobs seats entries found all = all_weaker _ _ entr
 pub alive_provided : (name : List ℕ) (maybe : MaybeGone) (jobs : List Job) (seats : List SeatRecord) (entries : List TubeRecord)
     → has_entry name entries ≡ false → AreAlive maybe jobs seats entries
     → AreAlive (with_gone name maybe) jobs seats (provided name entries)
-alive_provided name maybe jobs seats entries none all =
-    rw none (all_inserted _ _ entries (grind (arith, common_steps, still_gone, same_itself))
-    (grind (arith, common_steps, all_weaker, still_gone)))
+alive_provided name maybe jobs seats entries none all = search (rules, all_inserted, still_gone, same_itself, all_weaker)
 
 -- names stay
 pub alive_renamed : (f : TubeRecord → TubeRecord) → ((t : TubeRecord) → (f t).name ≡ t.name) → (maybe : MaybeGone) (jobs : List Job)

@@ -34,10 +34,8 @@ same_order [] (y ∷ ys) h k same = grind (arith, same_itself y)
 same_order (x ∷ xs) [] h k same = grind (arith, same_itself x)
 same_order (x ∷ xs) (y ∷ ys) h k same =
     let is = first_is x y xs ys h k same in
-    let later_x = none_listed x xs (first_of_order x xs h) in
-    let later_y = none_listed y ys (first_of_order y ys k) in
-    λ i. is i ∷ same_order xs ys (rest_in_order x xs h) (rest_in_order y ys k)
-    (λ name. grind (arith, common_steps, cases_Bool, same_name name x, same name)) i
+    λ i. is i ∷ same_order xs ys (rest_in_order x xs h) (rest_in_order y ys k) (λ name.
+    grind (arith, common_steps, cases_Bool, same_name name x, same name, none_listed, first_of_order)) i
 
 names_in_order : (entries : List TubeRecord) → AreInOrder entries → is_in_order (map (λ t. t.name) entries) ≡ true
 names_in_order [] order = refl

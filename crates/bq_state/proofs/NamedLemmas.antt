@@ -109,8 +109,7 @@ module _ (name : List ℕ) where
   pub new_part : {B : Type 0} (q : Named → B) (es : List Named) → has_entry name (map record_at es) ≡ false
       → map q (with_new es) ≡ insert (map q es) (place es) (q (name, fresh_entry))
   new_part q [] h = refl
-  new_part q (x ∷ es) h = let parts = or_parts (is_same_name name x.0) (has_entry name (map record_at es)) h in
-      new_at q x es parts.0 (new_part q es parts.1)
+  new_part q (x ∷ es) h = grind (arith, or_parts, new_at, new_part q es)
 
 -- An event at a tube changes its record.
 pub change_kept : (what : TubeChange) (name : List ℕ) (t : EntrySeen)

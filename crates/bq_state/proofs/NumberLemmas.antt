@@ -1,12 +1,12 @@
 -- The numbers of tubes, as the ends of their pauses have them.
-use Rattle.std.proofs.Common.{List, None, Option, Some, [], ap, arith, false, inl, inr, is_some, map, refl, true, ℕ, ◌∙◌, ◌∷◌, ◌≡◌}
+use Rattle.std.proofs.Common.{List, None, Option, Some, [], ap, arith, false, is_some, map, refl, true, ℕ, ◌∙◌, ◌∷◌, ◌≡◌, rules}
 use Rattle.std.proofs.lemmas.{Bool.cases_Bool, Cmp.nat_list_eq_equiv, Grind.common_steps}
 use Rattle.std.specs.{BTreeMap.insert_entry, Cmp.Lexicographic.slice_cmp, List.AllByRecursion as All}
 use Rattle.std.specs.{Map.{keys_of, lookup, remove_entry}, Ordering.{match_ordering, nat_cmp}}
-use Rattle.std.specs.declared.cmp.Ordering.{Ordering, TheVariants.{Equal, Greater, Less}}
+use Rattle.std.specs.declared.cmp.Ordering.{Ordering}
 use Rattle.bq_job.proofs.ListLemmas.{all_from_members, all_weaker, list_any_with}
 use Rattle.bq_job.specs.{machine.TubeRecord, reading.TubeName.is_same_name}
-use Rattle.bq_jobs.specs.{Names.number_in, Numbering.{IsPaired, Numbering, name_of}, Table.Tabled}
+use Rattle.bq_jobs.specs.{Names.number_in, Numbering.{IsPaired, name_of}, Table.Tabled}
 use Rattle.bq_state.proofs.{NamedLemmas.{have_numbers, ties}, TubeLemmas.{same_itself, same_name}}
 use Rattle.bq_state.specs.{PauseEnds.{AreTold, as_number, is_end_in, number_at}, TubesSeen.{EntrySeen, is_named_at, record_at}}
 use Rattle.bq_state.specs.declared.tubes.pauses.PauseEnd.{PauseEnd}
@@ -15,8 +15,7 @@ use Rattle.bq_state.specs.declared.tubes.pauses.PauseEnd.{PauseEnd}
 module _ (name k : List ℕ) (other : is_same_name name k ≡ false) where
   found_left : (ns : List (List ℕ × ℕ)) → lookup (is_named_at k) (remove_entry (is_named_at name) ns) ≡ lookup (is_named_at k) ns
   found_left [] = refl
-  found_left (p ∷ ns) =
-      grind (arith, common_steps, ties k p.0, ties name p.0, same_name name p.0, nat_list_eq_equiv.symm name k, found_left ns)
+  found_left (p ∷ ns) = grind (arith, ties, same_name, found_left ns)
 
   pub number_left : (ns : List (List ℕ × ℕ)) → number_at k (remove_entry (is_named_at name) ns) ≡ number_at k ns
   unfolding number_at
@@ -25,10 +24,7 @@ module _ (name k : List ℕ) (other : is_same_name name k ≡ false) where
   inserted_at : (n : ℕ) (p : List ℕ × ℕ) (ns rest : List (List ℕ × ℕ)) (a : Ordering) → slice_cmp nat_cmp name p.0 ≡ a
       → lookup (is_named_at k) rest ≡ lookup (is_named_at k) ns
       → lookup (is_named_at k) (match_ordering a ((name, n) ∷ p ∷ ns) ((p.0, n) ∷ ns) (p ∷ rest)) ≡ lookup (is_named_at k) (p ∷ ns)
-  inserted_at n p ns rest Less is h = grind (arith, ties k name, nat_list_eq_equiv.symm name k)
-  inserted_at n p ns rest Equal is h =
-      grind (arith, ties k p.0, ties name p.0, same_name name p.0, nat_list_eq_equiv.symm name k)
-  inserted_at n p ns rest Greater is h = grind (arith)
+  inserted_at n p ns rest a is h = search (rules, cases_Bool, ties, same_name)
 
   found_inserted : (n : ℕ) (ns : List (List ℕ × ℕ))
       → lookup (is_named_at k) (insert_entry (slice_cmp nat_cmp) ns name n) ≡ lookup (is_named_at k) ns
@@ -41,14 +37,9 @@ module _ (name k : List ℕ) (other : is_same_name name k ≡ false) where
 
 -- a tube that was added has its number
 module _ (name : List ℕ) (n : ℕ) where
-  given_at : (p : List ℕ × ℕ) (ns rest : List (List ℕ × ℕ)) (a : Ordering) → slice_cmp nat_cmp name p.0 ≡ a
-      → lookup (is_named_at name) rest ≡ Some n
-      → lookup (is_named_at name) (match_ordering a ((name, n) ∷ p ∷ ns) ((p.0, n) ∷ ns) (p ∷ rest)) ≡ Some n
-  given_at p ns rest a is h = grind (arith, ties, same_itself)
-
   pub number_given : (ns : List (List ℕ × ℕ)) → lookup (is_named_at name) (insert_entry (slice_cmp nat_cmp) ns name n) ≡ Some n
   number_given [] = grind (arith, ties name name, same_itself name)
-  number_given (p ∷ ns) = given_at p ns _ (slice_cmp nat_cmp name p.0) refl (number_given ns)
+  number_given (p ∷ ns) = grind (arith, ties, same_itself, number_given ns)
 
 -- the numbers of the tubes of a table
 module _ (kept : Tabled EntrySeen) (paired : IsPaired kept.tubes) (keys : keys_of kept.entries ≡ keys_of kept.tubes.numbers) where
@@ -64,10 +55,8 @@ module _ (kept : Tabled EntrySeen) (paired : IsPaired kept.tubes) (keys : keys_o
       → is_same_name (as_number a) (as_number b) ≡ is_same_name name other
   told_by name other a None is has some = absurd cc
   told_by name other None (Some n) is has some = grind (arith, found_alike)
-  told_by name other (Some m) (Some n) is has some = elim (cases_Bool (is_same_name name other)) [
-    | inl e ↦ grind (arith, found_alike)
-    | inr e ↦ grind (arith, same_name, has_name name m is, has_name other n has, same_itself name)
-  ]
+  told_by name other (Some m) (Some n) is has some =
+      grind (arith, common_steps, found_alike, same_name, has_name name m is, has_name other n has, same_itself name)
 
   all_numbered : All (λ t. is_some (lookup (is_named_at t.name) kept.tubes.numbers) ≡ true) (map record_at kept.entries)
   all_numbered = all_from_members _ (map record_at kept.entries) (λ t here.

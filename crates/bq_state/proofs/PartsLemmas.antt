@@ -1,8 +1,8 @@
 -- What changes of the state leave unchanged.
-use Rattle.std.proofs.Common.{Bool, List, None, Some, [], ap, arith, get_or, if◌then◌else◌, inl, inr, length, map, refl, set, slice_get}
-use Rattle.std.proofs.lemmas.{Bool.or_cases, Option.{get_or_from_slice_get, slice_get-get_or, slice_get_within}}
+use Rattle.std.proofs.Common.{Bool, List, None, Some, [], ap, arith, if◌then◌else◌, inl, inr, length, map, refl, set, slice_get, rules}
+use Rattle.std.proofs.lemmas.{Bool.or_cases, Option.{get_or_from_slice_get, slice_get_within}}
 use Rattle.std.proofs.lemmas.{Bool.{and_parts, cases_Bool, eq-eqb, ne_eqb}, List.Elements.{All-from_recursion, All-set, recursion_from_All}}
-use Rattle.std.proofs.{Common.{subst, suc, sym, true, zero, ℕ, ◌++◌, ◌+◌, ◌<◌, ◌==◌, ◌^◌, ◌||◌, ◌∙◌, ◌∷◌, ◌≡◌, ◌≤◌}, lemmas.List.length-map}
+use Rattle.std.proofs.{Common.{subst, suc, sym, true, zero, ℕ, ◌++◌, ◌+◌, ◌==◌, ◌^◌, ◌||◌, ◌∙◌, ◌∷◌, ◌≡◌, ◌≤◌}, lemmas.List.length-map}
 use Rattle.std.{proofs.lemmas.Grind.common_steps, specs.{List.{AllByRecursion as All, list_any}, Prelude.{filter, find, nat_le}}}
 use Rattle.bq_job.proofs.ListLemmas.{all_always, all_at, all_from_members, all_of_filter, all_of_map, all_weaker, found_passes, keys_of_map}
 use Rattle.bq_job.specs.{declared.job.Job.Job, machine.{SeatRecord, TubeRecord, default_tube, empty_seat, fresh_tube, greatest, job_with}}
@@ -73,13 +73,9 @@ entries_of_seat number what jobs seats entries h e = grind (arith, all_kept)
 pub number_kept : (what : SeatChange) (s : SeatRecord) → (seat_changed what s).number ≡ s.number
 number_kept what s = grind (arith, common_steps)
 
-mapped_numbered : (f : SeatRecord → SeatRecord) → ((s : SeatRecord) → (f s).number ≡ s.number) → (seats : List SeatRecord)
-    → AreNumbered seats → AreNumbered (map f seats)
-mapped_numbered f keeps seats h = grind (arith, keys_of_map, all_always, length-map)
-
 pub numbered_after : (number : ℕ) (what : SeatChange) (seats : List SeatRecord) → AreNumbered seats
     → AreNumbered (map (seat_changed_at number what) seats)
-numbered_after number what seats h = grind (arith, common_steps, mapped_numbered)
+numbered_after number what seats h = grind (arith, keys_of_map, all_always, length-map)
 
 -- changes of tubes
 pub tube_name_kept : (what : TubeChange) (t : TubeRecord) → (tube_changed what t).name ≡ t.name
@@ -93,9 +89,7 @@ name_kept_at name what t = grind (arith)
 
 pub entries_of_tube : (name : List ℕ) (what : TubeChange) (jobs : List Job) (seats : List SeatRecord) (entries : List TubeRecord)
     → AreEntries jobs seats entries → AreEntries jobs seats (map (tube_changed_at name what) entries)
-entries_of_tube name what jobs seats entries e =
-    let fresh = all_kept IsFreshUnlessCounted (tube_changed_at name what) (λ t fresh. grind (arith)) entries e.fresh in
-    grind (arith, all_weaker, order_kept, name_kept_at, same_entries)
+entries_of_tube name what jobs seats entries e = search (rules, all_kept, all_weaker, order_kept, name_kept_at, same_entries)
 
 pub counted_provided : (name : List ℕ) (entries : List TubeRecord) → counted (provided name entries) ≡ counted entries
 counted_provided name entries = grind (arith, counted_inserted)
@@ -165,18 +159,14 @@ changed_there seats i s f h found = set_at_place 0 i seats i s f (omega arith) h
 
 pub watching_numbered : (names : List (List ℕ)) (i : ℕ) (s : SeatRecord) (seats : List SeatRecord) → slice_get seats i ≡ Some s
     → AreNumbered seats → AreNumbered (set seats i (watching names s))
-watching_numbered names i s seats found h = grind (arith, common_steps, changed_there seats i s (watching names) h found, mapped_numbered)
+watching_numbered names i s seats found h =
+    grind (arith, common_steps, changed_there seats i s (watching names) h found, keys_of_map, all_always, length-map)
 
 pub all_read : {A : Type 0} (P : A → Type 0) (xs : List A) (i : ℕ) (x : A) → All P xs → slice_get xs i ≡ Some x → P x
 all_read P xs i x all found = all_at P xs x all (i, slice_get_within xs i x found, get_or_from_slice_get xs i x x found)
 
 pub all_set : {A : Type 0} (P : A → Type 0) (xs : List A) (i : ℕ) (y : A) → All P xs → P y → All P (set xs i y)
 all_set P xs i y all h = recursion_from_All P (set xs i y) (All-set P xs i y h (All-from_recursion P xs all))
-
--- a place within a list has an element
-pub some_at : {A : Type 0} (xs : List A) (i : ℕ) → i < length xs → (x : A) × (slice_get xs i ≡ Some x)
-some_at [] i h = absurd (omega arith)
-some_at (x ∷ xs) i h = (get_or (x ∷ xs) i x, slice_get-get_or (x ∷ xs) i x h)
 
 -- The tubes of a state still have entries
 module _ (st : CoreParts) where

@@ -1,12 +1,12 @@
 -- The counts of tubes are at the places of their entries.
-use Rattle.std.proofs.Common.{Bool, List, Some, [], ap, arith, false, length, map, refl, sym, true, ℕ, ◌&&◌, ◌∙◌, ◌∷◌, ◌≡◌, ◌≤◌}
-use Rattle.std.proofs.lemmas.{Bool.{both_ways, cases_Bool, false_from_ne_true}, Cmp.nat_list_eq_equiv, Grind.common_steps, List.drop-map}
+use Rattle.std.proofs.Common.{Bool, List, Some, [], ap, arith, false, length, map, refl, sym, true, ℕ, ◌&&◌, ◌∙◌, ◌∷◌, ◌≡◌, ◌≤◌, rules}
+use Rattle.std.proofs.lemmas.{Bool.{both_ways, false_from_ne_true}, Cmp.nat_list_eq_equiv, Grind.common_steps, List.drop-map}
 use Rattle.std.{proofs.lemmas.List.{map-append, take-map}, specs.List.{AllByRecursion as All, insert, list_any, prefix_len}}
 use Rattle.std.specs.Prelude.{count_by, filter, if◌then◌else◌}
 use Rattle.bq_job.specs.{beside.AreIdsWithin, declared.job.Job.Job, machine.{TubeRecord, greatest, is_name_before, job_with}}
 use Rattle.bq_job.specs.{reading.TubeName.is_same_name}
 use Rattle.bq_jobs.specs.JobsSeen.{with_added, without}
-use Rattle.bq_state.proofs.{TallyLemmas.{both_count, one_added, one_taken, tally_by, tally_is}}
+use Rattle.bq_state.proofs.TallyLemmas.{both_count, one_added, one_taken, tally_by, tally_is}
 use Rattle.bq_state.{proofs.TubeLemmas.{before_differs, provided_new, same_name}, specs.Tallies.{AreCounted, count_with, count_without}}
 use Rattle.bq_state.specs.Tallies.{has_jobs, tallies_at, tallies_of, tallies_provided, tallies_with, tallies_without, tally_at, tally_in}
 use Rattle.bq_state.specs.{Tallies.{tally_of, tally_with, tally_without}, TubeEntries.{AreInOrder, has_entry, provided}}
@@ -25,8 +25,7 @@ value_at none name (t ∷ es) [] = none
 value_at none name (t ∷ es) (x ∷ xs) = if is_same_name name t.name then x else value_at none name es xs
 
 pub map_same : {A B : Type 0} (u v : A → B) (xs : List A) → ((x : A) → u x ≡ v x) → map u xs ≡ map v xs
-map_same u v [] same = refl
-map_same u v (x ∷ xs) same = λ i. same x i ∷ map_same u v xs same i
+map_same u v xs same = grind arith
 
 -- no later entry has the name of the first one
 module _ {A : Type 0} (name : List ℕ) (f : A → A) (g : TubeRecord → A) where
@@ -45,8 +44,7 @@ module _ {A : Type 0} (g : List ℕ → A) where
   pub value_there : (none : A) (name : List ℕ) (es : List TubeRecord) → (has_entry name es ≡ false → g name ≡ none)
       → value_at none name es (map (λ t. g t.name) es) ≡ g name
   value_there none name [] missing = sym (missing refl)
-  value_there none name (t ∷ es) missing =
-      grind (arith, common_steps, cases_Bool, same_name name t.name, value_there none name es)
+  value_there none name (t ∷ es) missing = grind (arith, same_name name t.name, value_there none name es)
 
   -- an entry is added,
   pub values_provided : (none : A) (name : List ℕ) (es : List TubeRecord) → (has_entry name es ≡ false → g name ≡ none)
@@ -108,8 +106,7 @@ counted_kept f same tally tallies jobs es was =
 
 -- no job and no client is at a tube without an entry
 pub other_name : (name n : List ℕ) (es : List TubeRecord) → has_entry name es ≡ false → has_entry n es ≡ true → is_same_name name n ≡ false
-other_name name n es none some =
-    false_from_ne_true _ (λ same. both_ways _ none (ap (λ m. has_entry m es) (same_name name n same) ∙ some))
+other_name name n es none some = search (rules, false_from_ne_true, both_ways, same_name)
 
 no_job_there : (name : List ℕ) (es : List TubeRecord) (jobs : List Job) → All (λ j. has_entry j.tube es ≡ true) jobs
     → has_entry name es ≡ false → tally_named jobs name ≡ tally_of []

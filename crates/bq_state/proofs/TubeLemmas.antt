@@ -14,9 +14,6 @@ same_name a b h = (bytes_decides a b).0 h
 pub same_itself : (a : List ℕ) → is_same_name a a ≡ true
 same_itself a = (bytes_decides a a).1 refl
 
-pub both_same : (a b c : List ℕ) → is_same_name a b ≡ true → is_same_name a c ≡ true → is_same_name c b ≡ true
-both_same a b c h i = grind (arith, same_name a b, same_name a c, same_itself)
-
 -- a name that comes before another one differs from it
 pub before_differs : (a b : List ℕ) → is_name_before a b ≡ true → is_same_name a b ≡ false
 before_differs a b h = search (rules, cases_Bool, not_before, same_name)
@@ -138,8 +135,7 @@ all_inserted P x (t ∷ ts) h all = grind (arith, common_steps, cases_Bool, all_
 pub order_inserted : (x : TubeRecord) (entries : List TubeRecord) → has_entry x.name entries ≡ false → AreInOrder entries
     → AreInOrder (with_record x entries)
 order_inserted x [] h order = (tt, tt)
-order_inserted x (t ∷ entries) h order =
-    grind (arith, common_steps, or_parts, all_weaker, before_trans x.name t.name, all_inserted, after, order_inserted x entries)
+order_inserted x (t ∷ entries) h order = grind (arith, or_parts, all_weaker, before_trans, all_inserted, after, order_inserted x entries)
 
 pub counted_inserted : (x : TubeRecord) → is_counted x ≡ false → (entries : List TubeRecord) → has_entry x.name entries ≡ false
     → counted (with_record x entries) ≡ counted entries

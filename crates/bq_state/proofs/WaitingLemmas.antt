@@ -1,4 +1,5 @@
 -- The waiting list after one seat changes.
+use Rattle.bq_jobs.proofs.TableLemmas.{has_value}
 use Rattle.std.proofs.Common.{Bool, List, None, Option, Some, [], ap, arith, false, inl, inr, length, map, not, refl, set, slice_get, suc}
 use Rattle.std.proofs.{Common.{sym, true, ℕ, ◌+◌, ◌-◌, ◌<◌, ◌==◌, ◌∙◌, ◌∷◌, ◌≡◌, ◌≤◌}, lemmas.Bool.{cases_Bool, eq-eqb, eqb-true}}
 use Rattle.std.{proofs.lemmas.{Grind.common_steps, List.{Sums.count_by-le-length, length-map}}, specs.Cmp.IsStrictWeakOrder}
@@ -6,7 +7,7 @@ use Rattle.std.specs.{List.{AllByRecursion as All, insert, position, prefix_len,
 use Rattle.bq_job.proofs.{ChoiceLemmas.pair_order, LawfulLemmas.length_numbers, ListLemmas.{all_weaker, found_passes}}
 use Rattle.bq_job.specs.machine.{SeatRecord, empty_seat, is_waiting, numbers, seat_with, watching}
 use Rattle.bq_state.proofs.{ClientLemmas.{all_others, heads, others, others_left}, PartsLemmas.{all_read, changed_there, number_kept}}
-use Rattle.bq_state.{proofs.PartsLemmas.{numbered_after, some_at}, specs.SeatChanges.{AreNumbered, seat_changed, seat_changed_at}}
+use Rattle.bq_state.{proofs.PartsLemmas.numbered_after, specs.SeatChanges.{AreNumbered, seat_changed, seat_changed_at}}
 use Rattle.bq_state.specs.WaitingList.{AreInTurn, IsRising, WaitingList, is_none_or_before, is_waiter_before, placed, removed, waiters_of}
 use Rattle.bq_state.specs.{WaitingList.{once_joined, once_left}, declared.seats.SeatChange.SeatChange}
 
@@ -76,8 +77,7 @@ waiters_moved n what seats h = rw (waiters_left n seats h, sym (others_left n (s
 pub rising_placed : {A : Type 0} {before : A → A → Bool} (order : IsStrictWeakOrder before) (x : A) (ys : List A) → IsRising before ys
     → IsRising before (placed before x ys)
 rising_placed order x [] rising = (tt, tt)
-rising_placed {before = before} order x (y ∷ ys) rising =
-    grind (arith, common_steps, cases_Bool, all_placed, all_weaker, rising_placed order x ys)
+rising_placed {before = before} order x (y ∷ ys) rising = grind (arith, all_placed, all_weaker, rising_placed order x ys)
 
 rising_waiters : (seats : List SeatRecord) → IsRising is_waiter_before (waiters_of seats)
 rising_waiters [] = tt
@@ -98,7 +98,7 @@ pub all_before : (t : ℕ × ℕ) (waiters : List (ℕ × ℕ)) → IsRising is_
     → is_none_or_before t (slice_get waiters (length waiters - 1)) ≡ true → prefix_len (λ u. is_waiter_before u t) waiters ≡ length waiters
 all_before t [] rising ends = refl
 all_before t (x ∷ xs) rising ends =
-    grind (arith, common_steps, rising_ends waiter_order t (x ∷ xs) (length xs), some_at (x ∷ xs) (length xs))
+    grind (arith, common_steps, rising_ends waiter_order t (x ∷ xs) (length xs), has_value (x ∷ xs) (length xs))
 
 -- the first waiter of a seat is removed
 removed_there : (n : ℕ) (xs : List (ℕ × ℕ)) → prefix_len (λ t. not (t.1 == n)) xs < length xs

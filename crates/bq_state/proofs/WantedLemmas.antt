@@ -1,4 +1,5 @@
 -- What is known about the jobs that waiting clients may receive.
+use Rattle.std.proofs.Common.{rules}
 use Rattle.std.proofs.Common.{Bool, List, None, Some, [], arith, filter, find, if◌then◌else◌, is_some, map, refl, set, slice_get, sym, true}
 use Rattle.std.{proofs.{Common.{ℕ, ◌&&◌, ◌||◌, ◌∙◌, ◌∷◌, ◌≡◌}, lemmas.{Bool.cases_Bool, Grind.common_steps}}, specs.List.list_any}
 use Rattle.bq_job.proofs.{ChoiceLemmas.{first_of_none, first_of_none_passes}, ListLemmas.{all_always, all_at, all_from_members, all_of_map}}
@@ -7,7 +8,7 @@ use Rattle.bq_job.specs.machine.{Machine.Machine, SeatRecord, TubeRecord, forget
 use Rattle.bq_job.specs.machine.{is_waiting_for, next_job, tube_record, watching, with_record, with_tube}
 use Rattle.bq_job.specs.reading.TubeName.{is_same_name}
 use Rattle.bq_jobs.specs.JobsSeen.{with_added}
-use Rattle.bq_state.proofs.{PartsLemmas.{all_added, all_read, all_set, tube_name_kept}, TubeLemmas.{both_same, found_name, same_itself}}
+use Rattle.bq_state.proofs.{PartsLemmas.{all_added, all_read, all_set, tube_name_kept}, TubeLemmas.{found_name, same_itself}}
 use Rattle.bq_state.proofs.TubeLemmas.{same_name}
 use Rattle.bq_state.specs.{Crowds.is_waiter, SeatChanges.seat_changed_at, TubeEntries.tube_changed, WantedJobs.{AreKnown, is_nothing}}
 use Rattle.bq_state.specs.WantedJobs.{may_get, wanted_after_seat, wanted_after_tube, with_wanted}
@@ -17,7 +18,7 @@ use Rattle.bq_state.specs.declared.tubes.entry.TubeChange.{TubeChange}
 -- a job that a client could receive can still be received, and so can one of this tube
 still_wanted : (name : List ℕ) (wanted : Wanted) (tube : List ℕ) (seat : ℕ) → (may_get wanted tube seat || is_same_name name tube) ≡ true
     → may_get (with_wanted name wanted) tube seat ≡ true
-still_wanted name wanted tube seat h = grind (arith, common_steps, both_same)
+still_wanted name wanted tube seat h = search (rules, same_name, same_itself)
 
 -- there is no next job
 pub known_nothing : (m : Machine) → next_job m ≡ None → AreKnown Nothing m.jobs m.seats m.tubes
@@ -71,8 +72,7 @@ found_with name t (u ∷ us) = grind (arith, same_name t.name, same_name name, s
 still_paused : (tube : List ℕ) (f : TubeRecord → TubeRecord) (m : Machine) → ((t : TubeRecord) → (f t).name ≡ t.name) → (name : List ℕ)
     → (name ≡ tube → is_paused name m ≡ true → is_some (f (tube_record tube m)).pause ≡ true) → is_paused name m ≡ true
     → is_paused name (with_tube tube f m) ≡ true
-still_paused tube f m keeps name stays paused =
-    grind (arith, found_with name (f (tube_record tube m)) m.tubes, same_name name, keeps, found_name tube m.tubes)
+still_paused tube f m keeps name stays paused = grind (arith, found_with, same_name, found_name)
 
 pub known_of_change : (tube : List ℕ) (what : TubeChange) (m : Machine) (wanted : Wanted) → AreKnown wanted m.jobs m.seats m.tubes
     → AreKnown (wanted_after_tube tube what wanted) m.jobs m.seats (with_tube tube (tube_changed what) m).tubes

@@ -49,6 +49,7 @@ fn change(client: &mut SeatRecord, what: &SeatChange)
 
 /// Changes the seat with this number. No other seat is accessed.
 #[inline(always)]
+#[tactic(auto, using(std::proofs::lemmas::Option::slice_get_read, crate::proofs::PartsLemmas::changed_there))]
 pub(crate) fn change_at(seats: &mut Vec<SeatRecord, Global>, number: Seat, what: &SeatChange)
     requires { AreNumbered seats.old.items }
     ensures { seats.new.items ≡ map (seat_changed_at number what.now) seats.old.items }

@@ -78,7 +78,7 @@ impl Store {
 
     /// Gives an entry and a number to a tube that has none, and returns the number. The allocations
     /// for that come before any change.
-    #[tactic(auto, using(crate::proofs::NamedLemmas::new_parts, crate::proofs::NumberLemmas::number_given))]
+    #[tactic(auto, using(crate::proofs::NamedLemmas::new_parts, crate::proofs::NumberLemmas::number_given, bq_jobs::proofs::NamedJobs::named_more))]
     pub(crate) fn provide(&mut self, alloc: Global, name: &TubeName) -> Result<TubeNumber, NoMemory>
         requires { has_entry name.now self.old.tubes.entries ≡ false }
         ensures after { self.new.tubes

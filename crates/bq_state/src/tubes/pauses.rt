@@ -15,6 +15,7 @@ use bq_jobs::{Tube, TubeNumber, TubeTable};
 use std::alloc::Global;
 
 // Returns the end of the pause of the tube with this name, if it is paused.
+#[tactic(auto, using(crate::proofs::EndMoves::no_end, crate::proofs::EndMoves::some_end))]
 fn end_of(kept: &TubeTable<TubeEntry>, name: &TubeName, hint: TubeNumber) -> Option<PauseEnd>
     ensures end { result ≡ end_of (number_at name.now kept.now.tubes.numbers)
         (pause_at name.now (map record_at kept.now.entries)) }

@@ -1,9 +1,6 @@
-use Rattle.std.proofs.Common.{arith, refl}
+use Rattle.std.proofs.Common.{refl}
 use Rattle.bq_state.proofs.HandOutLemmas.{handed_out, sound_then}
 use Rattle.bq_state.proofs.changes.hand_out.Goals as goal
-
-pub count_if_moved-requires-clause-number : goal.count_if_moved-requires-clause-number
-count_if_moved-requires-clause-number c = grind arith
 
 pub invariant_of-state : goal.invariant_of-state
 invariant_of-state c =

@@ -1,5 +1,5 @@
 use Rattle.std.proofs.Common.{arith}
-use Rattle.bq_state.{proofs.NameLemmas.{alive_are_tubes, tubes_in_order}, specs.{CoreParts.machine_of}}
+use Rattle.bq_state.{proofs.NameLemmas.{alive_are_tubes, tubes_in_order}, specs.CoreParts.machine_of}
 use Rattle.bq_state.proofs.changes.tube_names.Goals as goal
 
 pub returns-clause-names : goal.returns-clause-names

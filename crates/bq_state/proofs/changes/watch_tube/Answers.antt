@@ -1,6 +1,6 @@
-use Rattle.std.proofs.{Common.{[], ap, arith, length, refl, set, ◌++◌, ◌∙◌, ◌∷◌, ◌≡◌, ◌≤◌}, lemmas.Option.get_or_from_slice_get}
+use Rattle.std.proofs.{Common.{[], ap, rules, arith, length, refl, set, ◌++◌, ◌∷◌, ◌≤◌}, lemmas.Option.get_or_from_slice_get}
 use Rattle.std.proofs.lemmas.Option.{slice_get_read}
-use Rattle.bq_job.specs.machine.{Machine.Machine, greatest, is_waiting, watching}
+use Rattle.bq_job.specs.machine.{Machine.Machine, greatest, watching}
 use Rattle.bq_state.proofs.{KnowledgeLemmas.so_watching, PartsLemmas.{changed_there, seat_read, seat_there, watching_more}}
 use Rattle.bq_state.proofs.{PartsLemmas.watching_numbered, WaitingLemmas.in_turn_watching}
 use Rattle.bq_state.proofs.changes.watch_tube.Goals as goal
@@ -24,11 +24,7 @@ returns-in-Ok-clause-watched c s found =
     (ap (λ (m : Machine). record m { seats = set st.seats.items c.args.seat (change s) }) p.after)
 
 pub returns-in-Ok-clause-wanted : goal.returns-in-Ok-clause-wanted
-returns-in-Ok-clause-wanted c s found rests =
-    let t = c.index.result.now in
-    let is : t ≡ s = (rw c.from-2.ensures at c.index.ensures) ∙ get_or_from_slice_get c.provide_tube.new.state.seats.items c.args.seat s t
-    (rw c.in_ok-number.ensures.seats (seat_there _ _ _ c.args.state.now.sound.numbered found)) in
-    rw (c.add_all_if.ensures, c.of_watcher-roles.ensures, ap is_waiting is ∙ rests) c.in_ok-number.ensures.wanted
+returns-in-Ok-clause-wanted c s found rests = search (rules, get_or_from_slice_get, seat_there)
 
 pub invariant_of-state : goal.invariant_of-state
 invariant_of-state c =

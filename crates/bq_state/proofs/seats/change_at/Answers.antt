@@ -1,9 +1,6 @@
-use Rattle.std.proofs.{Common.{arith, sym}, lemmas.{Grind.common_steps, Option.slice_get_read}}
-use Rattle.bq_state.proofs.{PartsLemmas.changed_there, SeatPlaces.none_there}
+use Rattle.std.proofs.Common.{arith, sym}
+use Rattle.bq_state.proofs.SeatPlaces.{none_there}
 use Rattle.bq_state.proofs.seats.change_at.Goals as goal
-
-pub returns-in-Some : goal.returns-in-Some
-returns-in-Some c = grind (arith, common_steps, slice_get_read, changed_there)
 
 pub returns-in_default : goal.returns-in_default
 returns-in_default c =

@@ -1,5 +1,5 @@
 use Rattle.std.proofs.{Common.arith, lemmas.Grind.common_steps}
-use Rattle.bq_jobs.proofs.NamedJobs.{named_more, registered_more}
+use Rattle.bq_jobs.proofs.NamedJobs.{registered_more}
 use Rattle.bq_state.{proofs.{EndMoves.ends_provided, NamedLemmas.new_part, TubeLemmas.provided_new}, specs.TubesSeen.record_at}
 use Rattle.bq_state.proofs.store.Store.provide.Goals as goal
 
@@ -15,6 +15,3 @@ invariant_of-self-2 c =
       provided_new,
       ends_provided c.args.name.now,
     )
-
-pub returns-clause-jobs : goal.returns-clause-jobs
-returns-clause-jobs c = grind (arith, named_more)

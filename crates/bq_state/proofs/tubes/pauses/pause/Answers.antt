@@ -1,13 +1,14 @@
 use Rattle.std.proofs.Common.{arith}
 use Rattle.std.proofs.lemmas.Grind.{common_steps}
-use Rattle.bq_state.proofs.EndMoves.{change_moves, end_absent, ends_moved}
+use Rattle.bq_state.proofs.EndMoves.{edit_moves, end_absent, ends_moved}
+use Rattle.bq_state.specs.TubesSeen.{entry_changed}
 use Rattle.bq_state.proofs.tubes.pauses.pause.Goals as goal
 
 pub enter-requires : goal.enter-requires
 enter-requires c =
     let from = c.end_of-from.ensures in
     let edit = c.edit-changed.ensures in
-    let moves = change_moves c.args.name.now c.args.what _ _ from.ordered edit.tubes edit.entries from.told in
+    let moves = edit_moves c.args.name.now (entry_changed c.args.what) _ _ edit.tubes edit.entries from.ordered from.told in
     let next = rw edit.tubes at c.end_of-to.ensures.end in
     record {
       spare = grind (arith, common_steps);
@@ -18,6 +19,6 @@ pub returns-clause-ends : goal.returns-clause-ends
 returns-clause-ends c =
     let from = c.end_of-from.ensures in
     let edit = c.edit-changed.ensures in
-    let moves = change_moves c.args.name.now c.args.what _ _ from.ordered edit.tubes edit.entries from.told in
+    let moves = edit_moves c.args.name.now (entry_changed c.args.what) _ _ edit.tubes edit.entries from.ordered from.told in
     let next = rw edit.tubes at c.end_of-to.ensures.end in
     search ends_moved
