@@ -10,4 +10,4 @@ taken_first held left known n h4 = grind (arith, append_assoc, take-append-drop 
 
 -- as many bytes as both have
 pub some_of_both : (a b n : ℕ) → n ≡ min a b → 0 < a → 0 < b → n ≡ 0 → ⊥
-some_of_both a b n is some more none = omega (arith, is, some, more, none)
+some_of_both a b n is some more none = omega arith

@@ -1,5 +1,5 @@
 -- The result of carrying out an action that is known by an equation.
-use Rattle.std.proofs.Common.{◌≡◌, ℕ, List, [], refl, sym, ap, ◌∙◌, subst, inl, inr, arith}
+use Rattle.std.proofs.Common.{◌≡◌, ℕ, List, [], refl, sym, ap, ◌∙◌, inl, inr, arith}
 use Rattle.std.proofs.lemmas.Grind.{common_steps}
 use Rattle.bq_job.specs.declared.answer.Answer.{Answer}
 use Rattle.bq_job.specs.declared.step.Step.{Step}
@@ -10,7 +10,7 @@ use Rattle.bq_seat.specs.declared.machine.SeatMachine.{SeatMachine}
 use Rattle.bq_seat.specs.declared.machine.Event.TheVariants as events
 use Rattle.bq_seat.specs.SeatMoves.{IsMove}
 use Rattle.bq_job.specs.texts.AnswerText.{answer_text}
-use Rattle.bq_line.specs.Carried.{CanEnd, CarriedPart, HasGone, IsWrittenAs, MayCall, with_part}
+use Rattle.bq_line.specs.Carried.{CanEnd, CarriedPart, HasGone, IsWrittenAs, with_part}
 use Rattle.bq_line.specs.declared.attendant.Progress.{Progress}
 use Rattle.bq_line.specs.declared.attendant.Progress.TheVariants as results
 use Rattle.bq_line.specs.Writing.{BreaksOff, with_begun, with_written}
@@ -36,16 +36,8 @@ module _ {K : Type 0} (trace : K → List Step → List Answer → K → Type 0)
       → ((first : LineSeen) → seen ≡ with_begun (answer_text answer) sent first
       → (last : LineSeen) × (later ≡ with_part next now last) × IsWrittenAs result old first answer new last next)
       → ComesOn trace result old seen sent link new later now link next action
-  wrote_as result new next now can wrote = rw is (
-    [],
-    [],
-    refl,
-    (
-      record { can_end = can; still = λ moved. (refl, refl) },
-      (refl, refl),
-      λ first begun. let w = wrote first begun in (w.0, w.1, (refl, refl, w.2)),
-    ),
-  )
+  wrote_as result new next now can wrote =
+      rw is ([], [], refl, (record { can_end = can; still = λ moved. (refl, refl) }, (refl, refl), grind arith))
 
   -- The rest of the answer was written: all of it, as far as there was room, or it was cut off.
   pub wrote_whole : {new : SeatMachine} {next : Action}
@@ -68,13 +60,6 @@ module _ {K : Type 0} (trace : K → List Step → List Answer → K → Type 0)
       → ComesOn trace results.Part old seen sent link old later now link (actions.Write answer) action
   wrote_part now w = grind (arith, wrote_as)
 
--- what a link did in an action: what it records of its calls, or nothing if it was not used
-pub gone : {K : Type 0} (trace : K → List Step → List Answer → K → Type 0) (P : List Step → List Answer → Type 0) (first last : K)
-    (action : Action) (submitted : List Step) (taken : List Answer)
-    → ((submitted : List Step) (taken : List Answer) → trace first submitted taken last → P submitted taken) → (last ≡ first → P [] [])
-    → HasGone trace first action submitted taken last → MayCall action submitted taken → P submitted taken
-gone trace P first last action submitted taken h7 h8 h9 h10 = grind arith
-
 -- The answer that the place for the next action lends is the one that the action writes.
 pub writes_this : {action : Action} {lent : Answer} (writes : (answer : Answer) × (action ≡ actions.Write answer))
     → ((answer : Answer) → action ≡ actions.Write answer → lent ≡ answer) → action ≡ actions.Write lent
@@ -93,12 +78,5 @@ module _ {K : Type 0} (trace : K → List Step → List Answer → K → Type 0)
       (later : LineSeen) (next : Action) (now : ℕ) (submitted : List Step) (taken : List Answer)
       → HasGone trace first action submitted taken last → CarriedPart result old seen action sent new later next now submitted taken
       → Uses trace result first action last
-  uses_carried results.Moved old seen (actions.Submit step) sent new later next now submitted taken g c =
-      let h = (c.2 seen refl).2 in
-      (taken, subst (λ (s : List Step). trace first s taken last) h.2.0 g)
-  uses_carried results.Moved old seen actions.PollMail sent new later next now submitted taken g c =
-      let h = (c.2 seen refl).2 in (
-        h.2.0,
-        subst (λ (t : List Answer). trace first [] t last) h.2.1 (subst (λ (s : List Step). trace first s taken last) h.1 g),
-      )
+  uses_carried results.Moved old seen action sent new later next now submitted taken g c = grind (arith, c.2 seen)
   uses_carried _ old seen action sent new later next now submitted taken g c = tt

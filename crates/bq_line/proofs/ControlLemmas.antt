@@ -1,7 +1,7 @@
 -- How the control line is read, byte by byte.
-use Rattle.std.proofs.Common.{◌≡◌, ℕ, ◌+◌, Bool, true, false, ◌&&◌, ◌==◌, List, arith}
-use Rattle.std.proofs.Common.{[], ◌∷◌, ◌++◌, refl, ap, ◌∙◌, take}
-use Rattle.std.proofs.Common.{inl, inr, Option, IfSome, if◌then◌else◌}
+use Rattle.std.proofs.Common.{◌≡◌, ℕ, ◌+◌, Bool, true, false, ◌==◌, List, arith}
+use Rattle.std.proofs.Common.{[], ◌∷◌, ◌++◌, refl, take}
+use Rattle.std.proofs.Common.{inl, inr, ap, Option, IfSome}
 use Rattle.std.proofs.lemmas.Bool.{cases_Bool}
 use Rattle.std.specs.Prelude.{nat_eq}
 use Rattle.std.specs.Cmp.Lexicographic.{pointwise}
@@ -9,14 +9,10 @@ use Rattle.std.specs.Io.KnownBytes.{Consumes, IsAtEnd}
 use Rattle.bq_job.specs.promise.ControlDid.{are_same, drain_word, drains_from, one_if}
 use Rattle.bq_line.specs.ControlRead.{HasRead, IsReadToEnd}
 
-and_if : (a b : Bool) → (a && b) ≡ (if a then b else false)
-and_if a b = grind arith
-
 pub same_bytes : (xs ys : List ℕ) → pointwise nat_eq xs ys ≡ are_same xs ys
-same_bytes [] [] = refl
-same_bytes [] (y ∷ ys) = refl
+same_bytes [] ys = grind arith
 same_bytes (x ∷ xs) [] = refl
-same_bytes (x ∷ xs) (y ∷ ys) = ap (λ b. (x == y) && b) (same_bytes xs ys) ∙ and_if (x == y) (are_same xs ys)
+same_bytes (x ∷ xs) (y ∷ ys) = grind (arith, same_bytes xs ys)
 
 -- the first six bytes determine whether a line is the word
 kept_tells : (line : List ℕ) → are_same (take 6 line) drain_word ≡ are_same line drain_word
@@ -24,7 +20,7 @@ kept_tells line = grind arith
 
 -- what is kept of a line is as good as the line
 kept_serves : (line bytes : List ℕ) (failed : Bool) → drains_from (take 6 line) bytes failed ≡ drains_from line bytes failed
-kept_serves line [] failed = ap (λ b. if failed then 0 else one_if b) (kept_tells line)
+kept_serves line [] failed = grind (arith, kept_tells)
 kept_serves line (byte ∷ bytes) failed = elim (cases_Bool (byte == 10)) [
   | inl e ↦ rw e (ap (λ b. one_if b + drains_from [] bytes failed) (kept_tells line))
   | inr e ↦ grind (arith, kept_serves (take 6 line ++ byte ∷ []) bytes failed, kept_serves (line ++ byte ∷ []) bytes failed)

@@ -38,37 +38,25 @@ carried_counted result size old new seen later action next before submitted got 
 
 unclosed_steps : (taken : List Step) → has_close taken ≡ false → closings taken ≡ 0
 unclosed_steps [] h = refl
-unclosed_steps (steps.Close ∷ taken) h = absurd cc
-unclosed_steps (step ∷ taken) h = unclosed_steps taken h
+unclosed_steps (step ∷ taken) h = grind (arith, unclosed_steps taken)
 
 -- no close was submitted before this step
 turn_closings : (step : Step) (taken : List Step) (mail : List Answer) → IsInTurn step taken mail → closings taken ≡ 0
-turn_closings steps.Connect taken mail t = ap closings t
 turn_closings (steps.Ask request) taken mail t = grind (arith, append-nil, asked_steps_closings t.0 [] refl)
 turn_closings steps.End taken mail t = grind (arith, append-nil, asked_steps_closings t.0 [] refl)
-turn_closings steps.Close taken mail t = grind (arith, asked_steps_closings)
-turn_closings _ taken mail t = absurd t
+turn_closings _ taken mail t = grind (arith, asked_steps_closings)
 
 -- Unless the seat checks its mail next, only a connection that has ended is closed.
 on_closings : (size : ℕ) (machine : SeatMachine) (seen : LineSeen) (action : Action) (submitted : List Step) (taken : List Answer)
     → IsOnLine size machine seen action submitted taken → polls_by action ≡ false → closings submitted ≤ over_by action
-on_closings size machine seen (actions.Submit step) submitted taken o p = grind (arith, turn_closings)
-on_closings size machine seen actions.Read submitted taken o p = grind (arith, unclosed_steps, orderly)
-on_closings size machine seen actions.PollMail submitted taken o p = absurd cc
-on_closings size machine seen (actions.Write answer) submitted taken o p = grind (arith, unclosed_steps, orderly)
 on_closings size machine seen (actions.LineOver end) submitted taken o p =
-    let e = ap closings o.submitted_is in
-    let f = line_closings size (heard (seen_line [] o.past)) end o.past.steps (o.found []).to_close.line in
-    omega arith
-on_closings size machine seen actions.Stray submitted taken o p = absurd (let e = o.awaits in cc)
+    grind (arith, line_closings size (heard (seen_line [] o.past)) end o.past.steps (o.found []).to_close.line)
+on_closings size machine seen action submitted taken o p = grind (arith, unclosed_steps, orderly, turn_closings)
 
 -- a connection that has ended was answered `Closed`
 on_closes : (size : ℕ) (machine : SeatMachine) (seen : LineSeen) (action : Action) (submitted : List Step) (taken : List Answer)
     → IsOnLine size machine seen action submitted taken → over_by action ≤ closes taken
-on_closes size machine seen (actions.LineOver end) submitted taken o =
-    let p = o.past in
-    let late = (o.found []).late in
-    grind (arith, closes_append)
+on_closes size machine seen (actions.LineOver end) submitted taken o = grind (arith, closes_append, (o.found []).late)
 on_closes size machine seen _ submitted taken o = omega arith
 
 module _ {L : Type 0} (seen : L → LineSeen) (size : ℕ) where

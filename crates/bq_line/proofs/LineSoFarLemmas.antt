@@ -1,10 +1,9 @@
 -- An open connection so far, whatever action comes next: its steps, and what was written to it.
-use Rattle.std.proofs.Common.{◌≡◌, ℕ, List, [], ◌∷◌, ◌++◌, Option, Some, None, take}
-use Rattle.std.proofs.Common.{refl, sym, ap, ◌∙◌, subst, arith}
+use Rattle.std.proofs.Common.{◌≡◌, ℕ, List, [], ◌∷◌, ◌++◌, Option, take}
+use Rattle.std.proofs.Common.{refl, arith}
 use Rattle.std.proofs.lemmas.Grind.{common_steps}
 use Rattle.bq_job.specs.declared.answer.Answer.{Answer}
 use Rattle.bq_job.specs.declared.line_end.LineFault.{LineFault}
-use Rattle.bq_job.specs.declared.line_end.LineFault.TheVariants as faults
 use Rattle.bq_job.specs.declared.step.Step.{Step}
 use Rattle.bq_job.specs.texts.AnswerText.{answer_text}
 use Rattle.bq_job.specs.promise.LineSteps.{IsBeginning, LineHeard, LineSeen, answers_text, heard}
@@ -28,9 +27,7 @@ steps_fewer size line all taken more is s = grind (arith, common_steps)
 
 written_begins : (fault : Option LineFault) (handed : List Answer) (bytes : List ℕ) → IsWrittenSo fault handed bytes
     → IsBeginning bytes (answers_text handed)
-written_begins None handed bytes w = begins_whole bytes (answers_text handed) w
-written_begins (Some faults.Read) handed bytes w = begins_whole bytes (answers_text handed) w
-written_begins (Some faults.Write) handed bytes w = grind (arith, common_steps)
+written_begins fault handed bytes w = grind (arith, common_steps, begins_whole)
 
 -- ---- an open line
 
@@ -43,15 +40,9 @@ quiet : (size : ℕ) (machine : SeatMachine) (line : LineSeen) (action : Action)
 quiet size machine line action submitted more taken waiting o steps_are written_is mail_is heard_is =
     let p = o.past in
     let q = with_action action p in
-    let all : IsStepsSoFar size (heard (seen_line o.written p)) q.steps =
-    subst (λ (h : LineHeard). IsStepsSoFar size h q.steps) heard_is
-    (subst (λ (n : ℕ). IsStepsSoFar n (heard (seen_line o.written q)) q.steps) o.limit_is (steps_stand machine q o.written o.stands)) in
-    let handed : p.written ≡ p.mail = sym written_is ∙ handed_stand machine q o.stands ∙ mail_is in
-    let begins : IsBeginning o.written (answers_text p.mail) =
-    subst (λ (xs : List Answer). IsBeginning o.written (answers_text xs)) handed (written_begins p.fault p.written o.written o.writes) in
     rw (o.seen_is, ← o.submitted_is, o.taken_is) (record {
-      of_steps = steps_fewer size (heard (seen_line o.written p)) q.steps p.steps more steps_are all;
-      written = texts_more o.written (p.mail ++ p.late_mail) waiting (texts_more o.written p.mail p.late_mail begins);
+      of_steps = grind (arith, steps_fewer, steps_stand machine q o.written o.stands);
+      written = grind (arith, texts_more, handed_stand machine q o.stands, written_begins p.fault p.written o.written o.writes);
     })
 
 -- the connection while an answer is written
@@ -61,18 +52,11 @@ writing : (size : ℕ) (machine : SeatMachine) (line : LineSeen) (answer : Answe
 writing size machine line answer sent submitted taken waiting o =
     let p = o.past in
     let q = with_action (actions.Write answer) p in
-    let all : IsStepsSoFar size (heard (seen_line o.written p)) p.steps =
-    subst (λ (n : ℕ). IsStepsSoFar n (heard (seen_line o.written p)) p.steps) o.limit_is (steps_stand machine q o.written o.stands) in
-    let handed : p.written ++ answer ∷ [] ≡ p.mail = handed_stand machine q o.stands in
     let cut : List ℕ = take sent (answer_text answer) in
-    let before : o.written ≡ answers_text p.written = unbroken p.fault p.written o.written o.found.1 o.writes in
-    let begins : IsBeginning (o.written ++ cut) (answers_text p.mail) =
-    subst (λ (xs : List Answer). IsBeginning (o.written ++ cut) (answers_text xs)) handed
-    (texts_cut (o.written ++ cut) cut p.written answer (ap (λ (xs : List ℕ). xs ++ cut) before) (take_begins sent (answer_text answer))) in
+    let begins = texts_cut (o.written ++ cut) cut p.written answer (grind (arith, unbroken)) (take_begins sent (answer_text answer)) in
     rw (o.seen_is, ← o.submitted_is, o.taken_is) (record {
-      of_steps = steps_fewer size (heard (seen_line o.written p)) p.steps p.steps [] (same_steps p.steps) all;
-      written = texts_more (o.written ++ cut) (p.mail ++ p.late_mail) waiting
-          (texts_more (o.written ++ cut) p.mail p.late_mail begins);
+      of_steps = grind (arith, steps_fewer, same_steps, steps_stand machine q o.written o.stands);
+      written = grind (arith, texts_more, handed_stand machine q o.stands);
     })
 
 -- Whatever action comes next: the connection's steps, and what was written to it, of the answers

@@ -29,8 +29,7 @@ read_more : (all : List Part) (place offset n : ℕ) (part : Part) → place < l
     → bytes_up_to all place (offset + n) ≡ bytes_up_to all place offset ++ take n (drop offset (part_bytes part))
 read_more [] place offset n part lt is = absurd (omega arith)
 read_more (first ∷ more) zero offset n part lt is = grind (arith, take-add)
-read_more (first ∷ more) (suc place) offset n part lt is =
-    rw (read_more more place offset n part (omega arith) is) (grind (arith, append_assoc))
+read_more (first ∷ more) (suc place) offset n part lt is = grind (arith, append_assoc, read_more more place offset n part)
 
 -- These bytes come from the part at the place that was skipped to.
 pub read_given : (all : List Part) (place offset next from n : ℕ) (part : Part) (bytes given : List ℕ)
@@ -43,7 +42,7 @@ read_given all place offset next from n part bytes given same lt is bytes_are gi
 pub passed_fault : (all : List Part) (place offset : ℕ) (part : Part) → place < length all → part ≡ get_or all place part
     → part ≡ parts.Fault
     → bytes_up_to all (suc place) zero ≡ bytes_up_to all place offset
-passed_fault all place offset part lt is fault = passed_whole all place offset part lt is (rw fault (grind (arith, common_steps)))
+passed_fault all place offset part lt is fault = grind (arith, common_steps, passed_whole)
 
 -- A read that returns bytes does not end the connection's input.
 pub still_open : (ended : Bool) (n : ℕ) → 0 < n → ended ≡ (ended || n == 0)

@@ -1,6 +1,6 @@
 -- One more reading of a script.
-use Rattle.std.proofs.Common.{◌≡◌, ◌<◌, ◌≤◌, ℕ, ◌+◌, inl, inr, suc, List, [], ◌∷◌, ◌++◌}
-use Rattle.std.proofs.Common.{Option, Some, None, refl, ap, arith, append_assoc, length, length-drop, take, drop, take-add}
+use Rattle.std.proofs.Common.{◌≡◌, ◌<◌, ◌≤◌, ℕ, ◌+◌, inl, List, [], ◌∷◌, ◌++◌}
+use Rattle.std.proofs.Common.{Option, Some, None, refl, arith, append_assoc, length, length-drop, take, drop, take-add}
 use Rattle.std.proofs.lemmas.Grind.{common_steps}
 use Rattle.std.proofs.lemmas.List.{replicate-append-replicate}
 use Rattle.std.proofs.lemmas.Option.{get_or_from_slice_get, slice_get_within}
@@ -15,20 +15,13 @@ pub read_next : (first old new : ScriptPlace) (readings : List (Option ℕ)) (r 
     → old.place < length old.script → slice_get old.script old.place ≡ Some r → new.script ≡ old.script → new.place ≡ old.place + 1
     → IsRead first (readings ++ r ∷ []) new
 read_next first old new readings r read lt is script place =
-    let none_again : read.again ≡ 0 = elim read.at_end [ inl none ↦ none | inr le ↦ absurd (omega arith) ] in
-    let le : suc old.place ≤ length old.script = omega arith in
-    let same : length old.script ≡ length first.script = ap length read.script_is in
-    record {
+    let here = one_more old.script old.place r is in record {
       count = read.count + 1;
       again = 0;
-      script_is = cc;
-      within = rw (length-drop first.place first.script) (let at = read.place_is in omega arith);
-      place_is = let at = read.place_is in omega arith;
-      readings_are =
-          let here : take 1 (drop read.count (drop first.place first.script)) ≡ r ∷ [] =
-          rw (drop-drop read.count first.place first.script)
-          (rw (← read.script_is, ← read.place_is) (one_more old.script old.place r is)) in
-          rw (take-add read.count 1 (drop first.place first.script), here, read.readings_are, none_again) (grind (arith, common_steps));
+      script_is = grind arith;
+      within = grind (arith, length-drop);
+      place_is = grind arith;
+      readings_are = grind (arith, common_steps, take-add, drop-drop);
       at_end = inl refl;
     }
 

@@ -1,22 +1,19 @@
 -- A seat's record continues with each action, whatever its link is.
-use Rattle.std.proofs.Common.{◌≡◌, ℕ, List, [], ◌∷◌, ◌++◌, Option, Some, None}
-use Rattle.std.proofs.Common.{refl, ap, ◌∙◌, subst, append-nil, append_assoc, inl, arith}
+use Rattle.std.proofs.Common.{◌≡◌, ℕ, List, [], ◌∷◌, ◌++◌, Option, None}
+use Rattle.std.proofs.Common.{append-nil, append_assoc, arith}
 use Rattle.std.proofs.lemmas.Grind.{common_steps}
 use Rattle.bq_job.specs.declared.answer.Answer.{Answer}
 use Rattle.bq_job.specs.declared.line_end.LineEnd.{LineEnd}
-use Rattle.bq_job.specs.declared.line_end.LineEnd.TheVariants as ends
 use Rattle.bq_job.specs.declared.line_end.LineFault.{LineFault}
-use Rattle.bq_job.specs.declared.request.Request.{Request}
 use Rattle.bq_job.specs.declared.step.Step.{Step}
 use Rattle.bq_job.specs.declared.step.Step.TheVariants as steps
 use Rattle.bq_job.specs.texts.AnswerText.{answer_text}
-use Rattle.bq_job.specs.promise.LineSteps.{IsWritten, LineSeen, answers_text}
-use Rattle.bq_job.specs.beside.SeatDid.{IsLineServed, IsNoneUnwritten}
+use Rattle.bq_job.specs.promise.LineSteps.{LineSeen, answers_text}
+use Rattle.bq_job.specs.beside.SeatDid.{IsLineServed}
 use Rattle.bq_seat.specs.InTurn.{IsInTurn}
 use Rattle.bq_seat.specs.Past.{Awaited}
 use Rattle.bq_seat.specs.SeatMoves.{IsMove}
 use Rattle.bq_seat.specs.SeatStands.{awaited}
-use Rattle.bq_seat.specs.Served.{IsFaultOf}
 use Rattle.bq_seat.specs.declared.machine.Action.{Action}
 use Rattle.bq_seat.specs.declared.machine.Action.TheVariants as actions
 use Rattle.bq_seat.specs.declared.machine.Event.TheVariants as events
@@ -32,8 +29,7 @@ use Rattle.bq_seat.proofs.OrderlyLemmas.{orderly}
 -- without a fault everything was written
 pub unbroken : (fault : Option LineFault) (handed : List Answer) (written : List ℕ) → fault ≡ None → IsWrittenSo fault handed written
     → written ≡ answers_text handed
-unbroken None handed written e h = h
-unbroken (Some f) handed written e h = absurd cc
+unbroken fault handed written e h = grind arith
 
 module _ {size : ℕ} {old new : SeatMachine} {seen later : LineSeen} {next : Action} {before : List Step} {got : List Answer} where
   -- the whole answer was written
@@ -46,12 +42,6 @@ module _ {size : ℕ} {old new : SeatMachine} {seen later : LineSeen} {next : Ac
       → IsOnLine size old seen (actions.Write answer) before got → IsOnLine size new later next before got
   broke_on {answer = answer} broke move s = grind arith
 
--- what was written of the answers given for writing, depending on how the connection ended
-written_of : (end : LineEnd) (fault : Option LineFault) (asked : List Request) (own : List Answer) (written : List ℕ) → IsFaultOf end fault
-    → IsWrittenSo fault own written → IsWritten end asked own written × IsNoneUnwritten end own written
-written_of ends.ReadFault fault asked own written f w = let all : written ≡ answers_text own = rw f at w in (inl all, all)
-written_of _ fault asked own written f w = (rw f at w, tt)
-
 -- A connection that has ended was served.
 pub line_served : (size : ℕ) (machine : SeatMachine) (seen : LineSeen) (end : LineEnd) (submitted : List Step) (taken : List Answer)
     → IsOnLine size machine seen (actions.LineOver end) submitted taken
@@ -60,21 +50,19 @@ line_served size machine seen end submitted taken s =
     let p = s.past in
     let over = s.found s.written in
     let served = over.to_close in
-    let w = written_of end p.fault served.line.asked p.mail s.written served.fault
-    (subst (λ (xs : List Answer). IsWrittenSo p.fault xs s.written) served.handed_out s.writes) in
+    let writes = rw served.handed_out at s.writes in
     rw (s.seen_is, ← s.submitted_is) (record {
       own = p.mail;
       others = over.late.others;
-      line_owed = record { steps = served.line; answered = served.answered; written = w.0 };
-      none_unwritten = w.1;
-      taken_is = s.taken_is ∙ ap (λ (xs : List Answer). p.mail ++ xs) over.late.late_is;
+      line_owed = record { steps = served.line; answered = served.answered; written = grind arith };
+      none_unwritten = grind arith;
+      taken_is = grind arith;
       none_closed = over.late.none_closed;
     })
 
 -- A step in its turn counts: it is not a tick.
 turn_counts : (step : Step) (taken : List Step) (mail : List Answer) → IsInTurn step taken mail → as_submitted step ≡ step ∷ []
-turn_counts steps.Tick taken mail h = absurd h
-turn_counts _ taken mail h = refl
+turn_counts step taken mail h = grind arith
 
 -- The connection continues with each action that was carried out.
 pub carried_on : (result : Progress) (size : ℕ) (old new : SeatMachine) (seen later : LineSeen) (action next : Action)

@@ -1,6 +1,6 @@
 -- What calls of a stream mean for a connection over it.
 use Rattle.std.proofs.Common.{◌≡◌, ◌<◌, ◌==◌, ◌||◌, ℕ, List, [], ◌∷◌, ◌++◌, Option}
-use Rattle.std.proofs.Common.{IfSome, Result, Ok, Err, length, take, refl, sym, ◌∙◌, append-nil, arith, subst}
+use Rattle.std.proofs.Common.{IfSome, Result, Ok, Err, length, take, refl, append-nil, arith}
 use Rattle.std.proofs.KnownBytes.{Appends-kept, Consumes-trans}
 use Rattle.std.proofs.lemmas.List.{append_cancel_left}
 use Rattle.std.specs.Io.KnownBytes.{Consumes, Keeps}
@@ -26,10 +26,7 @@ still_all first old new read bytes h5 h6 h7 = grind (arith, nothing_before, appe
 -- A connection that read these bytes is over the stream that returned them.
 read_bytes : (first old new : StreamSeen) (line : LineSeen) (n : ℕ) (buf : List ℕ) → 0 < length buf → ReadsFrom old (Ok n) buf new
     → LiesOver first line old → LiesOver first (record line { read = line.read ++ take n buf; ended = line.ended || n == 0 }) new
-read_bytes first old new line n buf room gave over =
-    let whole : Consumes first.left new.left (line.read ++ take n buf) =
-    Consumes-trans first.left old.left new.left line.read (take n buf) over.read gave.1.0 in
-    grind (arith, still_all)
+read_bytes first old new line n buf room gave over = grind (arith, still_all, Consumes-trans)
 
 read_on : (first old new : StreamSeen) (line : LineSeen) (result : Result ℕ StreamError) (buf : List ℕ) → 0 < length buf
     → ReadsFrom old result buf new → LiesOver first line old → LiesOver first (after_read result buf line) new
@@ -41,14 +38,7 @@ read_on first old new line (Err e) buf room gave over = grind arith
 pub read_more : (first old new : StreamSeen) (line : LineSeen) (bytes all : List ℕ) → all ≡ line.read ++ bytes
     → Consumes old.left new.left bytes → Keeps old.held new.held → new.may_fail ≡ old.may_fail → LiesOver first line old
     → LiesOver first (record line { read = all }) new
-read_more first old new line bytes all all_is gave apart same over =
-    subst (λ read. LiesOver first (record line { read = read }) new) (sym all_is) (record {
-      read = Consumes-trans first.left old.left new.left line.read bytes over.read gave;
-      written = Appends-kept first.held old.held new.held line.written over.written apart;
-      ended = λ is. still_all first.left old.left new.left line.read bytes over.read gave (over.ended is);
-      may_fail = same ∙ over.may_fail;
-      fault = over.fault;
-    })
+read_more first old new line bytes all all_is gave apart same over = grind (arith, Consumes-trans, Appends-kept, still_all)
 
 -- what holds of a connection and its stream, under equal names
 noted_so : (first gave new : StreamSeen) (noted later : LineSeen) → later ≡ noted → new ≡ gave → LiesOver first noted gave

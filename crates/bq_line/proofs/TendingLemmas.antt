@@ -1,6 +1,6 @@
 -- A seat and its door continue with each thing that the seat does.
 use Rattle.std.proofs.Common.{ℕ, ◌≡◌, ◌≤◌, true, false, List, [], ◌∷◌, ◌++◌, length}
-use Rattle.std.proofs.Common.{refl, sym, ap, ◌∙◌, arith, subst, append-nil, append_assoc, length-append, inl, inr}
+use Rattle.std.proofs.Common.{refl, sym, ap, ◌∙◌, arith, rules, append-nil, append_assoc, length-append, inl, inr}
 use Rattle.std.proofs.lemmas.Grind.{common_steps}
 use Rattle.bq_job.specs.declared.answer.Answer.{Answer}
 use Rattle.bq_job.specs.declared.line_end.LineEnd.{LineEnd}
@@ -22,12 +22,12 @@ use Rattle.bq_line.specs.LineCalls.{new_line}
 use Rattle.bq_line.specs.Links.{Calls}
 use Rattle.bq_line.specs.Submitting.{IsSubmittedOn}
 use Rattle.bq_line.specs.Tending.{DoorSeen, GoesOn, IsCounted, IsNewDoor, IsNewSeat, IsPlaced, IsTended, Tends}
-use Rattle.bq_line.specs.Tending.{attendant, ended_lines, over_by, over_now}
+use Rattle.bq_line.specs.Tending.{attendant, ended_lines, over_now}
 use Rattle.bq_line.specs.declared.attendant.Attendant.{Attendant}
 use Rattle.bq_line.specs.declared.attendant.SeatPhase.{SeatPhase}
 use Rattle.bq_line.specs.declared.attendant.SeatPhase.TheVariants as phases
 use Rattle.bq_job.proofs.JoinLemmas.{lines_more}
-use Rattle.bq_line.proofs.CarriedLemmas.{gone, none_begun}
+use Rattle.bq_line.proofs.CarriedLemmas.{none_begun}
 use Rattle.bq_line.proofs.CountedLemmas.{carried_counted}
 use Rattle.bq_line.proofs.SeatLemmas.{carried_on, line_served, opened_on}
 
@@ -44,12 +44,12 @@ moves_to : {L : Type 0} (seen : L → LineSeen) (size : ℕ) (old : Attendant L)
     → IsAt seen size new phase t.now t.getting → IsPlaced phase next
     → IsTended seen size (attendant new phase) next (before ++ []) (got ++ []) × IsCounted old door [] (attendant new phase) next
 moves_to seen size old new phase door next before got t over grows at placed =
-    none_taken seen size old (attendant new phase) door next before got (let e = ap length over in omega arith) (record {
+    none_taken seen size old (attendant new phase) door next before got (grind arith) (record {
       before = t.before;
       now = t.now;
       got = t.got;
       getting = t.getting;
-      of_lines = rw over t.of_lines;
+      of_lines = grind arith;
       at_phase = at;
       submitted_is = t.submitted_is;
       taken_is = t.taken_is;
@@ -106,12 +106,12 @@ tends_carried result seen old new line later action next sent now submitted take
         got = t.got;
         getting = t.getting ++ taken;
         of_lines = t.of_lines;
-        at_phase = (c.0, c.1, carried_on result size old new at.0 c.0 action next t.now submitted t.getting taken c.2 at.2);
-        submitted_is = ap (λ (xs : List Step). xs ++ submitted) t.submitted_is ∙ append_assoc t.before t.now submitted;
-        taken_is = ap (λ (xs : List Answer). xs ++ taken) t.taken_is ∙ append_assoc t.got t.getting taken;
+        at_phase = (c.0, c.1, grind (arith, carried_on));
+        submitted_is = grind (arith, append_assoc);
+        taken_is = grind (arith, append_assoc);
         placed = t.placed;
       },
-      record { grows = let e : over_by action ≤ over_by next = counted.0 in omega arith; unclosed = counted.1 },
+      grind arith,
     )
 
 -- A step was submitted or was not accepted, and if it was, its answer may have been taken too.
@@ -127,13 +127,8 @@ tends_submitted result seen old new line step next sent now submitted taken door
     let first = tends_carried results.Moved seen old s.1 line line (actions.Submit step) actions.PollMail sent 0 submitted [] door
     (λ first e. (seen line, refl, (e, refl, s.2))) size before got t in
     let last = tends_carried results.Moved seen s.1 new line line actions.PollMail next 0 now [] taken door
-    (λ first e. (seen line, rw none (none_begun next (seen line)), (e, refl, s.3))) size (before ++ submitted) (got ++ []) first.0 in (
-      rw (append-nil (before ++ submitted), append-nil got) at last.0,
-      record {
-        grows = let a = first.1.grows in let b = last.1.grows in omega arith;
-        unclosed = last.1.unclosed;
-      },
-    )
+    (λ first e. (seen line, rw none (none_begun next (seen line)), (e, refl, s.3))) size (before ++ submitted) (got ++ []) first.0 in
+    (rw (append-nil (before ++ submitted), append-nil got) at last.0, grind arith)
 
 -- the same with the link's calls
 pub tends_acted : {K L : Type 0} (trace : K → List Step → List Answer → K → Type 0) (result : Progress) (first last : K)
@@ -145,25 +140,14 @@ pub tends_acted : {K L : Type 0} (trace : K → List Step → List Answer → K 
     × ((door : DoorSeen) → Tends seen (attendant old (phases.On line action sent)) door submitted taken
     (attendant new (phases.On later next now)) door)
 tends_acted trace result first last seen old new line later action next sent now submitted taken h carried = (
-  gone trace (λ s t. Calls trace first s t last) first last action submitted taken (λ s t w. inl w) (λ e. inr (e, refl, refl)) h carried.1,
+  grind arith,
   λ door. tends_carried result seen old new line later action next sent now submitted taken door carried.2,
 )
 
 -- A new seat at a new door.
 pub tended_new : {L : Type 0} (seen : L → LineSeen) (size : ℕ) (a : Attendant L) (door : DoorSeen) → IsNewSeat size a → IsNewDoor door
     → IsTended seen size a door [] []
-tended_new {L} seen size a door seat new =
-    subst (λ (q : SeatPhase L). IsTended seen size (attendant a.machine q) door [] []) (sym seat.phase) (record {
-      before = [];
-      now = [];
-      got = [];
-      getting = [];
-      of_lines = rw new.none_over (refl, refl);
-      at_phase = (refl, refl, seat.awaits, seat.limit);
-      submitted_is = refl;
-      taken_is = refl;
-      placed = (new.inside, new.more);
-    })
+tended_new seen size a door seat new = rw (seat.phase, new.none_over) (search rules)
 
 -- a phase with an action that is known by an equation
 pub on_action : {L : Type 0} {phase : SeatPhase L} {line : L} {action same : Action} {sent : ℕ} → phase ≡ phases.On line action sent
@@ -183,16 +167,8 @@ pub tends_from : {L : Type 0} {seen : L → LineSeen} {machine : SeatMachine} {p
     → phase ≡ same → Tends seen (attendant machine same) door [] [] later next → Tends seen (attendant machine phase) door [] [] later next
 tends_from is h = rw is h
 
-still_open : {L : Type 0} (seen : L → LineSeen) (machine : SeatMachine) (line later : L) (action : Action) (sent : ℕ) (door : DoorSeen)
-    → seen later ≡ seen line → Tends seen (attendant machine (phases.On line action sent)) door [] []
-    (attendant machine (phases.On later action sent)) door
-still_open seen machine line later action sent door same size before got t =
-    let at = t.at_phase in
-    moves_to seen size (attendant machine (phases.On line action sent)) machine (phases.On later action sent) door door before got t refl
-    (omega arith) (at.0, same ∙ at.1, at.2) t.placed
-
 -- The open connection was given a hint, and its record is unchanged.
 pub tends_told : {L : Type 0} (seen : L → LineSeen) (a : Attendant L) (line later : L) (action : Action) (sent : ℕ)
     → a.phase ≡ phases.On line action sent → seen later ≡ seen line
     → (door : DoorSeen) → Tends seen a door [] [] (attendant a.machine (phases.On later action sent)) door
-tends_told seen a line later action sent is same door = tends_from is (still_open seen a.machine line later action sent door same)
+tends_told seen a line later action sent is same door = tends_from is (λ size before got t. search (rules, moves_to))

@@ -1,12 +1,11 @@
 -- What a control line has told so far.
 use Rattle.std.proofs.lemmas.Grind.{common_steps}
-use Rattle.std.proofs.Common.{◌≡◌, ℕ, ◌+◌, Bool, true, false, List, [], ◌∷◌, ◌++◌}
-use Rattle.std.proofs.Common.{Option, IfSome, refl, sym, ap, ◌∙◌, subst, arith, append-nil}
+use Rattle.std.proofs.Common.{◌≡◌, ℕ, ◌+◌, Bool, true, false, List, [], ◌++◌}
+use Rattle.std.proofs.Common.{Option, IfSome, refl, ◌∙◌, arith, append-nil}
 use Rattle.std.specs.Io.KnownBytes.{Consumes, IsAtEnd}
 use Rattle.std.specs.Option.{option_to_list}
 use Rattle.bq_job.specs.declared.step.Step.{Step}
-use Rattle.bq_job.specs.declared.step.Step.TheVariants.{Drain}
-use Rattle.bq_job.specs.promise.ControlDid.{IsControlDone, are_same, drain_word, drains, drains_from, one_if}
+use Rattle.bq_job.specs.promise.ControlDid.{IsControlDone, are_same, drain_word, drains_from, one_if}
 use Rattle.bq_line.specs.ControlRead.{IsOver, IsReadToEnd}
 use Rattle.bq_line.specs.ControlSeen.{after_heard}
 use Rattle.bq_line.specs.declared.control_line.Heard.TheVariants as hears
@@ -22,12 +21,8 @@ turns_of input line owes stage = record { input = input; line = line; owes_drain
 
 module _ {I : Type 0} {i : Control I} where
   -- Nothing more was submitted.
-  tells_same : (first : Option (List ℕ)) (may : Bool) (c : ControlSteps I) (before : List Step) → HasTold i first may c before
-      → HasTold i first may c (before ++ [])
-  tells_same first may c before h = subst (λ (xs : List Step). HasTold i first may c xs) (sym (append-nil before)) h
-
   pub tells_none : {c : ControlSteps I} → TellsOn i c [] c
-  tells_none {c} = record { on = λ first may before h. tells_same first may c before h }
+  tells_none {c} = grind (arith, append-nil)
 
   -- One thing after another.
   pub tells_then : {a b c : ControlSteps I} {more later : List Step} → TellsOn i a more b → TellsOn i b later c
@@ -36,28 +31,10 @@ module _ {I : Type 0} {i : Control I} where
 
 module _ {I : Type 0} (i : Control I) where
   -- A drain that was owed was submitted.
-  pub tells_drain : (input : I) (line : List ℕ) (stage : Stage)
-      → TellsOn i (turns_of input line true stage) (Drain ∷ []) (turns_of input line false stage)
-  tells_drain input line stages.Reads = record {
-    on = λ first may before h. record {
-      same = h.same;
-      count = h.count + 1;
-      at_stage = grind (arith, common_steps);
-    };
-  }
-  tells_drain input line stages.Ended = record {
-    on = λ first may before h. record {
-      same = h.same;
-      count = h.count + 1;
-      at_stage = grind (arith, common_steps);
-    };
-  }
-  tells_drain input line stages.Over = record { on = λ first may before h. absurd (let none = h.at_stage.0 in cc) }
-
-  -- The same, by what was owed.
   pub tells_drain_if : (input : I) (line : List ℕ) (owes : Bool) (stage : Stage) → owes ≡ true
       → TellsOn i (turns_of input line owes stage) (option_to_list (owed_by owes stage)) (turns_of input line false stage)
-  tells_drain_if input line owes stage is = rw is (tells_drain input line stage)
+  tells_drain_if input line owes stage is = rw is
+      (record { on = λ first may before h. record { same = h.same; count = h.count + 1; at_stage = grind (arith, common_steps) } })
 
   -- The input has ended or failed: this is what its text asks for.
   tells_over : (old new : I) (kept : List ℕ) (owes failed : Bool) → IsOver (i.seen new) → (i.seen new).text ≡ (i.seen old).text
@@ -67,65 +44,38 @@ module _ {I : Type 0} (i : Control I) where
       → drains_from kept [] failed ≡ one_if owes
       → TellsOn i (turns_of old kept false stages.Reads) [] (turns_of new kept owes stages.Ended)
   tells_over old new kept owes failed over text_is failed_is may_is read fault owed = record {
-    on = λ first may before h. let r = h.at_stage.1 in tells_same first may (turns_of new kept owes stages.Ended) before (record {
-      same = may_is ∙ h.same;
-      count = h.count;
-      at_stage = (
-        h.at_stage.0,
-        record {
-          over = over;
-          read = grind arith;
-          fault = λ f. sym h.same ∙ fault (sym (failed_is r.well) ∙ f);
-          counted =
-              ap (λ (text : List ℕ). drains text (i.seen new).failed) text_is
-              ∙ ap (λ (b : Bool). drains (i.seen old).text b) (failed_is r.well)
-              ∙ ap (λ (text : List ℕ). drains text failed) (sym (append-nil (i.seen old).text)) ∙ r.counted [] failed
-              ∙ ap (λ n. (h.count + 0) + n) owed ∙ plus h.count (one_if owes);
-        },
-      );
-    });
+    on = λ first may before h.
+        let r = h.at_stage.1 in record {
+          same = may_is ∙ h.same;
+          count = h.count;
+          at_stage = (
+            rw (append-nil before) h.at_stage.0,
+            record {
+              over = over;
+              read = grind arith;
+              fault = grind arith;
+              counted = grind (arith, append-nil (i.seen old).text, r.counted [] failed);
+            },
+          );
+        };
   }
-    where
-      plus : (a b : ℕ) → (a + 0) + b ≡ a + b
-      plus a b = omega arith
 
   -- The end of the input was reached, which also ends the last line.
-  tells_end : (old new : I) (kept : List ℕ) → i.seen new ≡ after_heard hears.End (i.seen old) → i.may_fail new ≡ i.may_fail old
-      → Consumes (i.remaining old) (i.remaining new) [] → IfSome (i.remaining old) (λ bytes. IsAtEnd (i.remaining new))
-      → TellsOn i (turns_of old kept false stages.Reads) [] (turns_of new kept (are_same kept drain_word) stages.Ended)
-  tells_end old new kept is may_is read ended =
-      tells_over old new kept (are_same kept drain_word) false (subst IsOver (sym is) (over_by (i.seen old).failed)) (ap (λ s. s.text) is)
-      (λ well. ap (λ s. s.failed) is ∙ well) may_is
-      (λ first h. ends_read first (i.remaining old) (i.remaining new) (i.seen old).text false h read ended) (λ e. absurd cc) refl
-    where
-      over_by : (b : Bool) → IsOver (record { text = (i.seen old).text; ended = true; failed = b })
-      over_by b = refl
-
-  -- A read failed, and an incomplete line has no effect.
-  tells_fault : (old new : I) (kept : List ℕ) → i.seen new ≡ after_heard hears.Fault (i.seen old) → i.may_fail new ≡ i.may_fail old
-      → Consumes (i.remaining old) (i.remaining new) [] → i.may_fail old ≡ true
-      → TellsOn i (turns_of old kept false stages.Reads) [] (turns_of new kept false stages.Ended)
-  tells_fault old new kept is may_is read may_be =
-      tells_over old new kept false true (subst IsOver (sym is) (over_by (i.seen old).ended)) (ap (λ s. s.text) is)
-      (λ well. ap (λ s. s.failed) is) may_is
-      (λ first h. fails_read first (i.remaining old) (i.remaining new) (i.seen old).text h read) (λ e. may_be) refl
-    where
-      over_by : (b : Bool) → IsOver (record { text = (i.seen old).text; ended = b; failed = true })
-      over_by true = refl
-      over_by false = refl
-
-  -- Both by the state before.
   pub tells_end_if : (old new : I) (kept : List ℕ) (owes : Bool) (stage : Stage) (word : Bool) → owes ≡ false → stage ≡ stages.Reads
       → word ≡ are_same kept drain_word → i.seen new ≡ after_heard hears.End (i.seen old) → i.may_fail new ≡ i.may_fail old
       → Consumes (i.remaining old) (i.remaining new) [] → IfSome (i.remaining old) (λ bytes. IsAtEnd (i.remaining new))
       → TellsOn i (turns_of old kept owes stage) [] (turns_of new kept word stages.Ended)
-  tells_end_if old new kept owes stage word none reads word_is is may_is read ended = grind (arith, tells_end)
+  tells_end_if old new kept owes stage word none reads word_is is may_is read ended =
+      rw (none, reads, word_is) (tells_over old new kept (are_same kept drain_word) false (grind arith) (grind arith) (grind arith) may_is
+      (grind (arith, ends_read)) (grind arith) refl)
 
   pub tells_fault_if : (old new : I) (kept : List ℕ) (owes : Bool) (stage : Stage) → owes ≡ false → stage ≡ stages.Reads
       → i.seen new ≡ after_heard hears.Fault (i.seen old) → i.may_fail new ≡ i.may_fail old
       → Consumes (i.remaining old) (i.remaining new) [] → i.may_fail old ≡ true
       → TellsOn i (turns_of old kept owes stage) [] (turns_of new kept owes stages.Ended)
-  tells_fault_if old new kept owes stage none reads is may_is read may_be = grind (arith, tells_fault)
+  tells_fault_if old new kept owes stage none reads is may_is read may_be =
+      rw (none, reads) (tells_over old new kept false true (grind arith) (grind arith) (grind arith) may_is (grind (arith, fails_read))
+      (λ e. may_be) refl)
 
 -- A control line that was read to its end and whose steps were all submitted.
 pub record IsToldSo {I : Type 0} (i : Control I) (first : Option (List ℕ)) (may : Bool) (c : ControlSteps I) (told : List Step)
@@ -155,8 +105,5 @@ pub record Submitted {I K : Type 0} (i : Control I) (first : Option (List ℕ)) 
 module _ {I K : Type 0} {i : Control I} {first : Option (List ℕ)} {may : Bool} {trace : K → List Step → K → Type 0} where
   pub submitted_on : {old mid new : K} {steps later : ControlSteps I} → Submitted i first may trace old mid steps
       → HasSubmitted i trace mid steps new later → Submitted i first may trace old new later
-  submitted_on {new = new} s m = record {
-    told = s.told ++ m.told;
-    tells = m.tells.on first may s.told s.tells;
-    over_link = grind (arith, common_steps);
-  }
+  submitted_on {new = new} s m =
+      record { told = s.told ++ m.told; tells = m.tells.on first may s.told s.tells; over_link = grind (arith, common_steps) }

@@ -87,6 +87,7 @@ impl MemLine {
     }
 
     // Reads from the next part, which isn't done.
+    #[tactic(auto, using(std::proofs::lemmas::Option::slice_get_read, crate::proofs::PartLemmas::passed_fault))]
     fn read_part(&mut self, buf: &mut [u8]) -> Result<usize, StreamError>
         requires some { 0 < length buf.old }
         requires open { IfSome (slice_get self.old.parts.items self.old.place)

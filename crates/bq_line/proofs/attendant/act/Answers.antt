@@ -1,11 +1,11 @@
-use Rattle.std.proofs.Common.{[], ◌∷◌, refl}
+use Rattle.std.proofs.Common.{[], ◌∷◌, refl, rules}
 use Rattle.bq_line.proofs.attendant.act.Goals as goal
 
 pub returns-in-Read-clause-carried : goal.returns-in-Read-clause-carried
-returns-in-Read-clause-carried g c = rw c.in-Read.ensures.action ([], [], refl, c.read.ensures.0)
+returns-in-Read-clause-carried g c = rw c.in-Read.ensures.action (search rules)
 
 pub returns-in-Write-clause-carried : goal.returns-in-Write-clause-carried
-returns-in-Write-clause-carried g c = rw c.in-Write.ensures.action.1 ([], [], refl, (refl, refl, (refl, refl, refl)))
+returns-in-Write-clause-carried g c = rw c.in-Write.ensures.action.1 (search rules)
 
 pub returns-then-mail-clause-carried : goal.returns-then-mail-clause-carried
 returns-then-mail-clause-carried g c =
@@ -19,19 +19,7 @@ returns-else-mail-clause-carried g c =
     rw c.in-PollMail.ensures.action ([], [], none.1, (c.expect_more.ensures.seen, refl, (refl, c.nothing_yet.ensures)))
 
 pub returns-in-LineOver-clause-carried : goal.returns-in-LineOver-clause-carried
-returns-in-LineOver-clause-carried g c =
-    rw c.in-LineOver.ensures.action (
-      [],
-      [],
-      refl,
-      record { result_is = refl; machine = refl; line = refl; action_is = refl; none_submitted = refl; none_taken = refl },
-    )
+returns-in-LineOver-clause-carried g c = rw c.in-LineOver.ensures.action (search rules)
 
 pub returns-in-Stray-clause-carried : goal.returns-in-Stray-clause-carried
-returns-in-Stray-clause-carried g c =
-    rw c.in-Stray.ensures.action (
-      [],
-      [],
-      refl,
-      record { result_is = refl; machine = refl; line = refl; action_is = refl; none_submitted = refl; none_taken = refl },
-    )
+returns-in-Stray-clause-carried g c = rw c.in-Stray.ensures.action (search rules)
