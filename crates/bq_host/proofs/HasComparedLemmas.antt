@@ -14,12 +14,8 @@ use Rattle.bq_host.proofs.ComparedLemmas.{looked_within, within_on}
 pub compared_step : (d n : TimedState) (at seat : ℕ) (what : Step) (outcome : Outcome) (given : List GivenAnswer)
     → IsStepWithin d.core at seat what outcome given n.core d.compared n.compared → n.known ≡ false
     → Compares d (record { moment = at; seat = seat; what = what } ∷ []) given n
-compared_step d n at seat what outcome given step unknown start before gave from h = (
-  n.compared,
-  within_on start d.core n.core before (record { moment = at; seat = seat; what = what }) gave given from h.0 n.compared h.1
-      (record { looked = d.compared; outcome = outcome; look = looked_within d.known d.core h.0 d.compared h.2; step = step }),
-  rw unknown refl,
-)
+compared_step d n at seat what outcome given step unknown start before gave from h =
+    (n.compared, grind (arith, within_on, looked_within d.known d.core h.0 d.compared h.2), rw unknown refl)
 
 -- The core was not used.
 pub compared_still : (d n : TimedState) → n.core ≡ d.core → n.known ≡ d.known → n.compared ≡ d.compared → Compares d [] [] n
@@ -40,9 +36,7 @@ compared_on first next last history more given later a b start before gave from 
 -- From a core that was not asked for the next due moment yet.
 pub compared_from : (first last : TimedState) (history : List Entry) (given : List GivenAnswer) → first.known ≡ false
     → Compares first history given last → AreCompared first.core history given last.core first.compared last.compared
-compared_from first last history given unknown h =
-    let all = h first.core [] [] first.compared (first.compared, (refl, (refl, refl)), (rw unknown refl)) in
-    record { count = all.0; steps = all.1; look = looked_within last.known last.core all.0 last.compared all.2 }
+compared_from first last history given unknown h = grind (arith, looked_within, h first.core [] [] first.compared)
 
 -- From a core that has compared nothing.
 pub compared_all : (first last : MailState) (history : List Entry) (given : List GivenAnswer) → first.known ≡ false → first.compared ≡ 0

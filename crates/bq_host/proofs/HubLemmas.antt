@@ -1,8 +1,8 @@
 -- What happens at a hub, step by step.
 use Rattle.bq_host.proofs.TraceLemmas.{none_held_back, seat_delivered, seat_none, seat_on, seat_stepped, seat_took}
-use Rattle.std.proofs.Common.{◌≡◌, ℕ, ◌&&◌, Bool, true, false, true≢false, not, List, [], ◌∷◌, ◌++◌, arith}
+use Rattle.std.proofs.Common.{◌≡◌, ℕ, ◌&&◌, Bool, true, false, not, List, [], ◌∷◌, ◌++◌, arith}
 use Rattle.std.proofs.lemmas.Grind.{common_steps}
-use Rattle.std.proofs.Common.{Option, refl, sym, ap, ◌∙◌, subst}
+use Rattle.std.proofs.Common.{Option, refl}
 use Rattle.std.specs.Prelude.{if◌then◌else◌, slice_index_or}
 use Rattle.std.specs.Option.{option_to_list}
 use Rattle.bq_job.specs.declared.answer.Answer.{Answer}
@@ -42,14 +42,7 @@ module _ {C K : Type 0} (k : Core K) where
         → other ≡ seat → HubTrace k c seat first submitted taken next → HubTrace k c other next more later last
         → HubTrace k c seat first (submitted ++ more) (taken ++ later) last
     trace_then seat other first next last submitted more taken later same a b =
-        let b' = rw same at b.0 in (
-          (
-            a.0.0 ++ b'.0,
-            gave_then c.given first.timed.time.clock next.timed.time.clock last.timed.time.clock a.0.0 b'.0 a.0.1 b'.1,
-            seat_on (state_of k first) (state_of k next) (state_of k last) seat a.0.0 b'.0 submitted more taken later a.0.2 b'.2,
-          ),
-          wakes_then first.mails.items next.mails.items last.mails.items first.wake_queue next.wake_queue last.wake_queue a.1 b.1,
-        )
+        let b' = rw same at b.0 in ((a.0.0 ++ b'.0, search gave_then, search seat_on), search wakes_then)
 
     pub trace_delivered : (seat : ℕ) (first last : Hub C K) → OnlyDelivers (state_of k first) (state_of k last)
         → last.timed.time.clock ≡ first.timed.time.clock → Wakes first.mails.items last.mails.items first.wake_queue last.wake_queue
@@ -60,43 +53,32 @@ module _ {C K : Type 0} (k : Core K) where
     pub trace_moved : (seat : ℕ) (first last : Hub C K) (held_back : Option GivenAnswer) (answers : List GivenAnswer) (delivered : Bool)
         → last ≡ with_pending held_back answers delivered first → (state_of k last).pending ≡ (state_of k first).pending
         → HubTrace k c seat first [] [] last
-    trace_moved seat first last held_back answers delivered moved pending =
-        subst (λ (h : Hub C K). HubTrace k c seat first [] [] h) (sym moved)
-        (trace_delivered seat first (with_pending held_back answers delivered first) (record {
-          rest = refl;
-          many = refl;
-          waiting_is = grind arith;
-        }) refl (wakes_none first.mails.items first.wake_queue))
+    trace_moved seat first last held_back answers delivered moved pending = trace_delivered seat first last (grind arith) (grind arith)
+        (rw moved (wakes_none first.mails.items first.wake_queue))
 
     -- A seat without mail took the oldest answer.
     pub trace_taken : (seat : ℕ) (answer : Answer) (first last : Hub C K) (held_back : Option GivenAnswer) (answers : List GivenAnswer)
         (delivered : Bool) → last ≡ with_pending held_back answers delivered first → slice_index_or first.mails.items seat [] ≡ []
         → (state_of k first).pending ≡ (seat, answer) ∷ (state_of k last).pending → HubTrace k c seat first [] (answer ∷ []) last
-    trace_taken seat answer first last held_back answers delivered moved empty pending =
-        subst (λ (h : Hub C K). HubTrace k c seat first [] (answer ∷ []) h) (sym moved) (
-          (
-            [],
-            gave_none c.given first.timed.time.clock,
-            seat_takes_pending (state_of k first) seat answer (option_to_list held_back ++ answers) delivered empty
-                (pending ∙ ap (λ (h : Hub C K). (seat, answer) ∷ (state_of k h).pending) moved),
-          ),
-          wakes_none first.mails.items first.wake_queue,
-        )
+    trace_taken seat answer first last held_back answers delivered moved empty pending = rw moved (
+      ([], gave_none c.given first.timed.time.clock, seat_takes_pending (state_of k first) seat answer _ delivered empty (grind arith)),
+      wakes_none first.mails.items first.wake_queue,
+    )
 
     -- The core took a step, or a tick, while all answers so far were in the mail.
     pub trace_stepped : (seat at : ℕ) (what : Step) (old : Hub C K) (t : TimedCore C K) (marked : Bool)
         → TimedRan k c old.timed (entry_of at seat what ∷ []) t.outs.given t → (state_of k old).pending ≡ []
         → HubTrace k c seat old (if is_tick what then [] else what ∷ []) [] (record old { timed = t; all_delivered = marked })
-    trace_stepped seat at what old t marked r empty = (
-      (
-        r.0,
-        r.1,
-        seat_stepped (state_of k old) (state_of k (record old { timed = t; all_delivered = marked })) seat at what r.0
-            t.outs.given r.2 refl empty
-            (ap (λ (xs : List GivenAnswer). xs ++ t.outs.given) (none_held_back (option_to_list old.held_back) old.timed.outs.given empty)),
-      ),
-      wakes_none old.mails.items old.wake_queue,
-    )
+    trace_stepped seat at what old t marked r empty =
+        let none = none_held_back (option_to_list old.held_back) old.timed.outs.given empty in (
+          (
+            r.0,
+            r.1,
+            seat_stepped (state_of k old) (state_of k (record old { timed = t; all_delivered = marked })) seat at what r.0
+                t.outs.given r.2 refl empty (grind arith),
+          ),
+          wakes_none old.mails.items old.wake_queue,
+        )
 
     -- Time passed, and no step was taken.
     trace_over : (seat : ℕ) (old : Hub C K) (t : TimedCore C K) (marked : Bool) → PassesOver k c old.timed t
@@ -110,12 +92,10 @@ module _ {C K : Type 0} (k : Core K) where
         → (may ≡ true → (state_of k old).pending ≡ []) → IsInOrder (state_of k old)
         → TraceInOrder k c 0 old [] [] (record old { timed = t; all_delivered = may && not due })
     trace_passed old t true true ready settings over ticked empty o = (
-      order_ready old (record old { timed = t; all_delivered = false }) ready settings refl
-          (λ delivered. absurd (true≢false (sym delivered))) o,
+      grind arith,
       trace_stepped 0 t.time.moment Tick old t false (timed_late k c old.timed t 0 Tick (ticked refl)) (empty refl),
     )
-    trace_passed old t true false ready settings over ticked empty o = grind (arith, trace_over 0 old t true (over refl))
-    trace_passed old t false due ready settings over ticked empty o = grind (arith, trace_over 0 old t false (over refl))
+    trace_passed old t may due ready settings over ticked empty o = grind (arith, trace_over 0 old t may)
 
     -- What a seat did, whether its link to the hub was used or not.
     pub called : (seat : ℕ) (first last : Hub C K) (submitted : List Step) (taken : List Answer)

@@ -45,7 +45,7 @@ module _ {C K : Type 0} (k : Core K) (c : Clock C) where
       seat ∙ w.1,
       rw (append-nil submitted) at (trace_then k c first.seat old.seat first.hub.now old.hub.now new.hub.now submitted [] taken
           (t.0 ∷ []) w.1 w.2 t.2),
-      fresh_on c.given first.hub.now old.hub.now new.hub.now w.3 m,
+      grind (arith, fresh_on),
     ),
   )
   took_further old new place next false name seat t m = (
@@ -55,6 +55,6 @@ module _ {C K : Type 0} (k : Core K) (c : Clock C) where
       seat ∙ w.1,
       rw (append-nil submitted, append-nil taken) at (trace_then k c first.seat old.seat first.hub.now old.hub.now new.hub.now
           submitted [] taken [] w.1 w.2 t.1),
-      fresh_on c.given first.hub.now old.hub.now new.hub.now w.3 m,
+      grind (arith, fresh_on),
     ),
   )

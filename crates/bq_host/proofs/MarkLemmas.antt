@@ -1,32 +1,18 @@
 -- Marks of seats that enter and leave a list.
-use Rattle.std.proofs.Common.{ℕ, ◌≡◌, ◌≢◌, ◌⊎◌, inl, inr, ◌+◌, ◌≤◌, ◌<◌, ◌==◌, Bool, true, false, cond, List, [], ◌∷◌, ◌++◌, length}
-use Rattle.std.proofs.Common.{replicate, slice_set, slice_index_or, ap, ◌∙◌, arith}
+use Rattle.std.proofs.Common.{ℕ, ◌≡◌, inl, inr, ◌+◌, ◌≤◌, ◌<◌, ◌==◌, Bool, true, false, cond, List, [], ◌∷◌, ◌++◌, length}
+use Rattle.std.proofs.Common.{replicate, slice_set, slice_index_or, arith}
 use Rattle.std.proofs.lemmas.Grind.{common_steps}
 use Rattle.std.proofs.lemmas.List.{get_or-set_other, get_or_past, length-set}
 use Rattle.std.proofs.lemmas.List.Sums.{count_by-le-length, sum_by-set, sum_by_push}
-use Rattle.std.proofs.lemmas.Bool.{cases_lt}
-use Rattle.std.proofs.lemmas.Bool.Decides.{eqb_tells, nat_tests}
+use Rattle.std.proofs.lemmas.Bool.Decides.{eqb_tells}
 use Rattle.bq_host.specs.Marks.{HasMarks, times}
 
 abbrev pub one_if : Bool → ℕ
 one_if b = cond b 1 0
 
-pub at_most_one : (b : Bool) → one_if b ≤ 1
-at_most_one b = grind arith
-
 -- a seat more at the end of the list
 pub times_push : (t : ℕ) (xs : List ℕ) (s : ℕ) → times t (xs ++ s ∷ []) ≡ times t xs + one_if (s == t)
 times_push t xs s = sum_by_push (λ x. one_if (x == t)) xs s
-
--- a seat more in the list
-pub times_more : (t : ℕ) (xs : List ℕ) (s : ℕ) (ys : List ℕ) → times t (xs ++ s ∷ ys) ≡ times t (xs ++ ys) + one_if (s == t)
-times_more t xs s ys = grind (arith, common_steps)
-
-pub same_one : (s : ℕ) → one_if (s == s) ≡ 1
-same_one s = grind (arith, nat_tests)
-
-pub longer : (xs : List ℕ) (s : ℕ) (ys : List ℕ) → length (xs ++ s ∷ ys) ≡ length (xs ++ ys) + 1
-longer xs s ys = grind (arith, common_steps)
 
 -- `p` tells the marks of the seats of a list, and `away` is a mark of others.
 module _ {M : Type 0} (p : M → Bool) (away : M) where
@@ -39,13 +25,9 @@ module _ {M : Type 0} (p : M → Bool) (away : M) where
       → times s zs + has_mark marks s ≡ times s xs + one_if (p y) → ((t : ℕ) → one_if (s == t) ≡ 0 → times t zs ≡ times t xs)
       → length zs + has_mark marks s ≡ length xs + one_if (p y) → HasMarks p away zs (slice_set marks s y)
   changed xs zs marks s y has below here others long = record {
-    each = λ t. at t (eqb_tells s t);
-    many = omega (arith, has.many, sum_by-set (λ x. one_if (p x)) marks s y away below, long);
+    each = λ t. elim (eqb_tells s t) [ inl same ↦ grind (arith, common_steps) | inr differs ↦ grind (arith, get_or-set_other) ];
+    many = grind (arith, common_steps, sum_by-set);
   }
-    where
-      at : (t : ℕ) → ((s == t) ≡ true) × (s ≡ t) ⊎ ((s == t) ≡ false) × (s ≢ t) → times t zs ≡ has_mark (slice_set marks s y) t
-      at t (inl (_, same)) = grind (arith, common_steps)
-      at t (inr (test, differs)) = grind (arith, get_or-set_other)
 
   -- A seat without such a mark that gets one is appended.
   pub entered : (xs : List ℕ) (marks : List M) (s : ℕ) (y : M) → HasMarks p away xs marks → s < length marks
@@ -60,12 +42,8 @@ module _ {M : Type 0} (p : M → Bool) (away : M) where
   -- A seat that loses its mark leaves.
   pub left : (xs ys : List ℕ) (marks : List M) (s : ℕ) (y : M) → HasMarks p away (xs ++ s ∷ ys) marks → s < length marks
       → p y ≡ false → HasMarks p away (xs ++ ys) (slice_set marks s y)
-  left xs ys marks s y has below is =
-      let most = at_most_one (p (slice_index_or marks s away)) in
-      let old : has_mark marks s ≡ 1 = omega (arith, times_more s xs s ys, same_one s, has.each s, most) in
-      let new : one_if (p y) ≡ 0 = ap one_if is in
-      changed (xs ++ s ∷ ys) (xs ++ ys) marks s y has below (omega (arith, times_more s xs s ys, same_one s, old, new))
-      (λ t none. omega (arith, times_more t xs s ys, none)) (omega (arith, longer xs s ys, old, new))
+  left xs ys marks s y has below is = changed (xs ++ s ∷ ys) (xs ++ ys) marks s y has below (grind (arith, common_steps, has.each s))
+      (grind (arith, common_steps)) (grind (arith, common_steps, has.each s))
 
   -- There is room for a list of marked seats.
   pub fits : (xs : List ℕ) (marks : List M) → HasMarks p away xs marks → length xs ≤ length marks
@@ -84,12 +62,7 @@ module _ {M : Type 0} (p : M → Bool) (away : M) where
   -- A seat of a list exists.
   pub within : (xs ys : List ℕ) (marks : List M) (s : ℕ) → p away ≡ false → HasMarks p away (xs ++ s ∷ ys) marks
       → s < length marks
-  within xs ys marks s none has = by (cases_lt s (length marks)) where
-    by : (s < length marks) ⊎ (length marks ≤ s) → s < length marks
-    by (inl below) = below
-    by (inr past) =
-        let no : has_mark marks s ≡ 0 = ap (λ z. one_if (p z)) (get_or_past marks s away past) ∙ ap one_if none in
-        omega (arith, times_more s xs s ys, same_one s, has.each s, no)
+  within xs ys marks s none has = grind (arith, common_steps, get_or_past marks s away, has.each s)
 
   -- No seat has such a mark at first.
   pub none_marked : (n : ℕ) (y : M) → p away ≡ false → p y ≡ false → HasMarks p away [] (replicate n y)

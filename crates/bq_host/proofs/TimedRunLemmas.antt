@@ -1,17 +1,16 @@
 -- What a core with its clock did, one thing after another.
-use Rattle.std.proofs.Common.{◌≡◌, ℕ, List, [], ◌∷◌, ◌++◌, Option, refl, sym, ap, subst, inl, inr, append-nil, arith}
+use Rattle.std.proofs.Common.{◌≡◌, ℕ, List, [], ◌∷◌, ◌++◌, Option, refl, ap, inr, append-nil, arith}
 use Rattle.std.proofs.lemmas.Grind.{common_steps}
 use Rattle.std.proofs.lemmas.List.{map-append}
 use Rattle.bq_job.specs.declared.step.Step.{Step}
 use Rattle.bq_job.specs.machine.Dispatch.{GivenAnswer}
 use Rattle.bq_job.specs.promise.History.{ArePickedFrom, IsTimedFrom, last_heard, moment_heard, moments_heard}
-use Rattle.bq_job.specs.promise.Runs.{Entry, Run}
+use Rattle.bq_job.specs.promise.Runs.{Entry}
 use Rattle.bq_job.proofs.RunLemmas.{run_append, run_from, run_none}
 use Rattle.bq_line.specs.GivenReadings.{GaveReadings}
 use Rattle.bq_host.specs.Meanings.{Clock, Core}
 use Rattle.bq_host.specs.Timed.{KnowsDue, LooksAndSteps, OnlyHears, PassesOver, TakesStep}
 use Rattle.bq_host.specs.TimedRuns.{HasRun, TimedState, timed_state}
-use Rattle.bq_host.specs.declared.timed_core.HeardClock.{HeardClock}
 use Rattle.bq_host.specs.declared.timed_core.TimedCore.{TimedCore}
 use Rattle.bq_host.proofs.HasComparedLemmas.{compared_looked, compared_on, compared_step, compared_still}
 
@@ -43,8 +42,7 @@ picked_later (x ∷ xs) (m ∷ ms) ns h = inr (picked_later (x ∷ xs) ms ns h)
 picked_append : (xs ys ms ns : List ℕ) → ArePickedFrom xs ms → ArePickedFrom ys ns → ArePickedFrom (xs ++ ys) (ms ++ ns)
 picked_append [] ys ms ns h i = picked_later ys ms ns i
 picked_append (x ∷ xs) ys [] ns h i = absurd h
-picked_append (x ∷ xs) ys (m ∷ ms) ns (inl h) i = inl (h.0, picked_append xs ys ms ns h.1 i)
-picked_append (x ∷ xs) ys (m ∷ ms) ns (inr h) i = inr (picked_append (x ∷ xs) ys ms ns h i)
+picked_append (x ∷ xs) ys (m ∷ ms) ns h i = grind (arith, picked_append xs ys ms ns, picked_append (x ∷ xs) ys ms ns)
 
 -- two parts of a history are timed by the readings of both
 timed_on : (first next last : ℕ) (readings reads : List (Option ℕ)) (history more : List Entry)
@@ -70,11 +68,7 @@ module _ {C K : Type 0} (k : Core K) (c : Clock C) where
 
   timed_then : (old mid new : TimedCore C K) (history more : List Entry) (answers later : List GivenAnswer)
       → TimedRan old history answers mid → TimedRan mid more later new → TimedRan old (history ++ more) (answers ++ later) new
-  timed_then old mid new history more answers later a b = (
-    a.0 ++ b.0,
-    gave_then c.given old.time.clock mid.time.clock new.time.clock a.0 b.0 a.1 b.1,
-    ran_then (timed_state k old) (timed_state k mid) (timed_state k new) a.0 b.0 history more answers later a.2 b.2,
-  )
+  timed_then old mid new history more answers later a b = (a.0 ++ b.0, search gave_then, search ran_then)
 
   -- The core took a step.
   pub timed_step : (old new : TimedCore C K) (seat : ℕ) (what : Step) → TakesStep k c old seat what new
@@ -83,11 +77,9 @@ module _ {C K : Type 0} (k : Core K) (c : Clock C) where
     s.reading ∷ [],
     s.time.gave,
     record {
-      runs = subst (λ answers. Run (k.machine old.core) (entry_of new.time.moment seat what ∷ []) answers (k.machine new.core))
-          (append-nil new.outs.given)
-          (run_from (k.machine old.core) (k.machine new.core) (k.machine new.core) (entry_of new.time.moment seat what) [] s.outcome
-          new.outs.given [] s.step.step (run_none (k.machine new.core)));
-      timed = record { picked = inl (s.time.heard, tt); last_is = s.time.heard };
+      runs = rw (append-nil new.outs.given) at (run_from (k.machine old.core) (k.machine new.core) (k.machine new.core)
+          (entry_of new.time.moment seat what) [] s.outcome new.outs.given [] s.step.step (run_none (k.machine new.core)));
+      timed = grind arith;
       compared = compared_step (timed_state k old) (timed_state k new) new.time.moment seat what s.outcome new.outs.given s.step s.unknown;
     },
   )
@@ -96,33 +88,22 @@ module _ {C K : Type 0} (k : Core K) (c : Clock C) where
   timed_looked : (old looked : TimedCore C K) → KnowsDue k old looked → TimedRan old [] [] looked
   timed_looked old looked l = (
     [],
-    subst (GaveReadings c.given old.time.clock []) (sym (ap (λ (h : HeardClock C). h.clock) l.time)) (gave_none c.given old.time.clock),
+    rw l.time (gave_none c.given old.time.clock),
     record {
-      runs = subst (λ m. Run (k.machine old.core) [] [] m) (sym l.same) (run_none (k.machine old.core));
-      timed = record { picked = tt; last_is = ap (λ (h : HeardClock C). h.moment) l.time };
-      compared = compared_looked (timed_state k old) (timed_state k looked) l.known l.same l.once;
+      runs = rw l.same (run_none (k.machine old.core));
+      timed = grind arith;
+      compared = search compared_looked;
     },
   )
 
   -- The clock was read.
   pub timed_heard : (old new : TimedCore C K) → OnlyHears c.given old new → TimedRan old [] [] new
-  timed_heard old new (reading, h, same) = (
-    reading ∷ [],
-    h.gave,
-    subst (λ (t : TimedCore C K). HasRun (timed_state k old) (reading ∷ []) [] [] (timed_state k t)) (sym same)
-        (record {
-          runs = run_none (k.machine old.core);
-          timed = record { picked = tt; last_is = h.heard };
-          compared = compared_still (timed_state k old) (timed_state k (record old { time = new.time })) refl refl refl;
-        }),
-  )
+  timed_heard old new (reading, h, same) = (reading ∷ [], h.gave, rw same (search (run_none, compared_still)))
 
   -- Time passed, and no step was taken.
   pub timed_over : (old new : TimedCore C K) → PassesOver k c old new → TimedRan old [] [] new
-  timed_over old new (looked, l, rest) = elim rest [
-    | inl e ↦ subst (TimedRan old [] []) (sym e) (timed_looked old looked l)
-    | inr h ↦ timed_then old looked new [] [] [] [] (timed_looked old looked l) (timed_heard looked new h)
-  ]
+  timed_over old new (looked, l, rest) =
+      grind (arith, timed_looked old looked l, timed_heard looked new, timed_then old looked new [] [] [] [])
 
   -- Time passed, and the core took a step.
   pub timed_late : (old new : TimedCore C K) (seat : ℕ) (what : Step) → LooksAndSteps k c old seat what new

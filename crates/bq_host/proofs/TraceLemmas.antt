@@ -1,8 +1,8 @@
 -- What happens at a core with its clock and the mail of its seats, step by step.
-use Rattle.std.proofs.Common.{◌≡◌, ◌≢◌, ◌<◌, ℕ, zero, suc, Bool, List, [], ◌∷◌, ◌++◌}
-use Rattle.std.proofs.Common.{Option, length, replicate, refl, sym, ap, ◌∙◌, arith, append-nil, append_assoc}
-use Rattle.std.specs.Prelude.{◌==◌, if◌then◌else◌, slice_index_or}
-use Rattle.std.proofs.lemmas.Bool.{cases_Bool, eq-eqb, eqb-true}
+use Rattle.std.proofs.Common.{◌≡◌, ◌≢◌, ◌<◌, ℕ, List, [], ◌∷◌, ◌++◌}
+use Rattle.std.proofs.Common.{Option, length, refl, ap, ◌∙◌, arith, append-nil, append_assoc}
+use Rattle.std.specs.Prelude.{◌==◌, if◌then◌else◌}
+use Rattle.std.proofs.lemmas.Bool.{cases_Bool}
 use Rattle.std.proofs.lemmas.Grind.{common_steps}
 use Rattle.std.proofs.lemmas.List.{length-replicate}
 use Rattle.bq_job.specs.declared.answer.Answer.{Answer}
@@ -23,24 +23,6 @@ steps_append t (x ∷ xs) ys = grind (arith, common_steps, cases_Bool, steps_app
 abbrev the_empty : List Answer
 the_empty = []
 
--- for each seat, what waited and was given equals what was taken and waits, for two parts of a
--- history
-tied_on : (t : ℕ) (first next last : MailState) (given later : List GivenAnswer) (taken more : List Answer)
-    → waiting t first ++ answers_to t given ≡ taken ++ waiting t next → waiting t next ++ answers_to t later ≡ more ++ waiting t last
-    → waiting t first ++ answers_to t (given ++ later) ≡ (taken ++ more) ++ waiting t last
-tied_on t first next last given later taken more h i = grind (arith, answers_append, append_assoc)
-
--- what the core did, whatever was taken out of the mail
-ran_of : (d n : MailState) (readings : List (Option ℕ)) (history : List Entry) (took : ℕ → List Answer)
-    → (w : CoreTrace d readings history took n) → HasRun (timed_of d) readings history w.given (timed_of n)
-ran_of d n readings history took w = record { runs = w.runs; timed = w.timed; compared = w.compared }
-
--- what happened while the core did this
-trace_of : (d n : MailState) (readings : List (Option ℕ)) (history : List Entry) (given : List GivenAnswer) (took : ℕ → List Answer)
-    → HasRun (timed_of d) readings history given (timed_of n) → length n.mails ≡ length d.mails
-    → ((t : ℕ) → t < length d.mails → waiting t d ++ answers_to t given ≡ took t ++ waiting t n) → CoreTrace d readings history took n
-trace_of d n readings history given took ran many tied = grind arith
-
 -- Nothing happened.
 pub core_none : (d : MailState) → CoreTrace d [] [] (λ t. []) d
 core_none d = grind (arith, common_steps)
@@ -50,26 +32,22 @@ pub core_on : (first next last : MailState) (readings reads : List (Option ℕ))
     → CoreTrace first readings history took next → CoreTrace next reads more later last
     → CoreTrace first (readings ++ reads) (history ++ more) (λ t. took t ++ later t) last
 core_on first next last readings reads history more took later a b =
-    trace_of first last (readings ++ reads) (history ++ more) (a.given ++ b.given) (λ t. took t ++ later t)
-    (ran_then (timed_of first) (timed_of next) (timed_of last) readings reads history more a.given b.given
-    (ran_of first next readings history took a) (ran_of next last reads more later b)) (b.many ∙ a.many)
-    (λ t below. tied_on t first next last a.given b.given (took t) (later t) (a.tied t below)
-    (b.tied t (let m = a.many in omega arith)))
+    let ran : HasRun (timed_of first) (readings ++ reads) (history ++ more) (a.given ++ b.given) (timed_of last) =
+    ran_then (timed_of first) (timed_of next) (timed_of last) readings reads history more a.given b.given (grind arith) (grind arith) in
+    record {
+      given = a.given ++ b.given;
+      runs = ran.runs;
+      timed = ran.timed;
+      compared = ran.compared;
+      many = grind arith;
+      tied = λ t below. grind (arith, answers_append, append_assoc, a.tied t below, b.tied t);
+    }
 
 -- ---- one seat
 
 -- this for the seat, and nothing for the others
 abbrev pub only : {X : Type 0} → ℕ → List X → ℕ → List X
 only seat xs t = if t == seat then xs else []
-
-only_own : {X : Type 0} (seat : ℕ) (xs : List X) → only seat xs seat ≡ xs
-only_own {X} seat xs = ap (λ (b : Bool). if b then xs else []) (eq-eqb seat seat refl)
-
-only_other : {X : Type 0} (seat t : ℕ) (xs : List X) → t ≢ seat → only seat xs t ≡ []
-only_other {X} seat t xs differs = grind arith
-
-none_only : {X : Type 0} (b : Bool) (none : List X) → none ≡ [] → (if b then none else []) ≡ []
-none_only b none is = grind arith
 
 -- What a seat did while the core did this: no other seat submitted a step or took an answer.
 pub seat_did : (d n : MailState) (seat : ℕ) (readings : List (Option ℕ)) (history : List Entry) (given : List GivenAnswer)
@@ -81,17 +59,12 @@ pub seat_did : (d n : MailState) (seat : ℕ) (readings : List (Option ℕ)) (hi
 seat_did d n seat readings history given submitted taken ran many tied steps others = record {
   history = history;
   took = only seat taken;
-  trace = trace_of d n readings history given (only seat taken) ran many tied;
+  trace = grind arith;
   submitted_is = steps;
-  taken_is = only_own seat taken;
+  taken_is = grind (arith, common_steps);
   others_still = others;
-  others_took = λ t differs. only_other seat t taken differs;
+  others_took = λ t differs. grind (arith, common_steps);
 }
-
--- the steps of an entry at a seat
-entry_steps : (t at seat : ℕ) (what : Step)
-    → steps_at t (entry_of at seat what ∷ []) ≡ (if is_tick what then [] else (if seat == t then what ∷ [] else []))
-entry_steps t at seat what = grind (arith, common_steps, cases_Bool)
 
 -- The core took a step of the seat, or a tick.
 pub seat_stepped : (d n : MailState) (seat at : ℕ) (what : Step) (readings : List (Option ℕ)) (given : List GivenAnswer)
@@ -99,12 +72,7 @@ pub seat_stepped : (d n : MailState) (seat at : ℕ) (what : Step) (readings : L
     → n.pending ≡ given → SeatTrace seat d readings (if is_tick what then [] else what ∷ []) [] n
 seat_stepped d n seat at what readings given ran mails empty full =
     seat_did d n seat readings (entry_of at seat what ∷ []) given (if is_tick what then [] else what ∷ []) [] ran (ap length mails)
-    (λ t below. tied_at t ∙ ap (λ (xs : List Answer). xs ++ waiting t n) (sym (none_only (t == seat) the_empty refl)))
-    (rw (entry_steps seat at seat what, eq-eqb seat seat refl) refl)
-    (λ t differs. grind (arith, common_steps, cases_Bool, entry_steps, eqb-true))
-  where
-    tied_at : (t : ℕ) → waiting t d ++ answers_to t given ≡ [] ++ waiting t n
-    tied_at t = rw (empty, mails, full) (rw (append-nil (slice_index_or d.mails t [])) refl)
+    (λ t below. grind (arith, common_steps)) (grind (arith, common_steps)) (λ t differs. grind (arith, common_steps))
 
 -- The seat took these answers while no step was taken.
 pub seat_took : (d n : MailState) (seat : ℕ) (readings : List (Option ℕ)) (taken : List Answer)
@@ -124,12 +92,10 @@ seat_on first next last seat readings reads submitted more taken later a b = rec
   history = a.history ++ b.history;
   took = λ t. a.took t ++ b.took t;
   trace = core_on first next last readings reads a.history b.history a.took b.took a.trace b.trace;
-  submitted_is = steps_append seat a.history b.history ∙ ap (λ (xs : List Step). xs ++ steps_at seat b.history) a.submitted_is
-      ∙ ap (λ (xs : List Step). submitted ++ xs) b.submitted_is;
-  taken_is = ap (λ (xs : List Answer). xs ++ b.took seat) a.taken_is ∙ ap (λ (xs : List Answer). taken ++ xs) b.taken_is;
-  others_still = λ t differs. steps_append t a.history b.history
-      ∙ ap (λ (xs : List Step). xs ++ steps_at t b.history) (a.others_still t differs) ∙ b.others_still t differs;
-  others_took = λ t differs. ap (λ (xs : List Answer). xs ++ b.took t) (a.others_took t differs) ∙ b.others_took t differs;
+  submitted_is = grind (arith, steps_append);
+  taken_is = grind arith;
+  others_still = grind (arith, steps_append);
+  others_took = grind arith;
 }
 
 -- Answers were only put into the mail: the seat did nothing.
@@ -145,15 +111,9 @@ none_held_back (x ∷ xs) ys h = absurd cc
 pub order_new : (settings : Settings) (d : MailState) → IsNewMailState settings d → IsInOrder d
 order_new settings d new = grind (arith, common_steps)
 
--- a new core has no mail
-no_mail : (n t : ℕ) → slice_index_or (replicate n []) t [] ≡ the_empty
-no_mail zero t = refl
-no_mail (suc n) zero = refl
-no_mail (suc n) (suc t) = no_mail n t
-
 pub new_mails_are : (settings : Settings) (d : MailState) → IsNewMailState settings d → length d.mails ≡ settings.seats
 new_mails_are settings d new = ap length new.mails ∙ length-replicate settings.seats the_empty
 
 -- No answer waits at a new core.
 pub none_waits : (settings : Settings) (d : MailState) (seat : ℕ) → IsNewMailState settings d → waiting seat d ≡ []
-none_waits settings d seat new = rw (new.mails, new.pending, no_mail settings.seats seat) refl
+none_waits settings d seat new = grind (arith, common_steps)

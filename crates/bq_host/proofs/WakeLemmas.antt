@@ -1,7 +1,7 @@
 -- Seats that are to be woken since they have mail.
 use Rattle.std.proofs.lemmas.Grind.{common_steps}
-use Rattle.std.proofs.Common.{ℕ, ◌≡◌, ◌≢◌, ◌⊎◌, inl, inr, ◌≤◌, ◌<◌, ◌==◌, ◌&&◌, nat_lt, Bool, true, false, List, [], ◌∷◌, ◌++◌}
-use Rattle.std.proofs.Common.{length, slice_set, if◌then◌else◌, refl, sym, ap, ◌∙◌, subst, arith, append_assoc}
+use Rattle.std.proofs.Common.{ℕ, ◌≡◌, ◌≢◌, ◌⊎◌, inl, inr, ◌<◌, ◌==◌, Bool, true, false, List, [], ◌∷◌, ◌++◌}
+use Rattle.std.proofs.Common.{length, slice_set, refl, sym, ap, ◌∙◌, subst, arith, append_assoc}
 use Rattle.std.specs.Prelude.{slice_index_or}
 use Rattle.std.proofs.lemmas.Bool.{cases_lt}
 use Rattle.std.proofs.lemmas.Bool.Decides.{eqb_tells}
@@ -21,23 +21,8 @@ pub wakes_then : (first next last : List (List Answer)) (old mid new : WakeList)
 wakes_then first next last old mid new a b = record {
   seats = b.seats ∙ a.seats;
   kept = λ seat. omega (arith, a.kept seat, b.kept seat);
-  mail = λ seat below empty. by seat below (a.mail seat below empty);
+  mail = λ seat below empty. grind (arith, a.mail seat below empty, a.seats, b.mail seat, b.kept seat);
 }
-  where
-    by : (seat : ℕ) → seat < old.seats → (slice_index_or next seat [] ≡ []) ⊎ (0 < times seat mid.waiting)
-        → (slice_index_or last seat [] ≡ []) ⊎ (0 < times seat new.waiting)
-    by seat below (inl none) = b.mail seat (omega (arith, a.seats, below)) none
-    by seat below (inr waits) = inr (omega (arith, waits, b.kept seat))
-
--- The seat is added to the list.
-abbrev add_if : Bool → ℕ → WakeList → WakeList
-add_if b seat w = if b then record w { waiting = w.waiting ++ seat ∷ [] } else w
-
-added_kept : (b : Bool) (seat t : ℕ) (w : WakeList) → times t w.waiting ≤ times t (add_if b seat w).waiting
-added_kept b seat t w = grind (arith, common_steps)
-
-added_seats : (b : Bool) (seat : ℕ) (w : WakeList) → (add_if b seat w).seats ≡ w.seats
-added_seats b seat w = grind arith
 
 -- A seat of the list's numbers is on it once it was added.
 pub waits_now : (seat : ℕ) (w : WakeList) → seat < w.seats → 0 < times seat (to_wake seat w).waiting
@@ -51,20 +36,13 @@ pub wakes_posted : (old new : List (List Answer)) (seat : ℕ) (answer : Answer)
     → ((t : ℕ) → t < length old → slice_index_or new t [] ≡ slice_index_or old t [] ++ answers_to t ((seat, answer) ∷ []))
     → Wakes old new w (to_wake seat w)
 wakes_posted old new seat answer w many put = record {
-  seats = added_seats b seat w;
-  kept = λ t. added_kept b seat t w;
-  mail = λ t below empty. at t below empty (eqb_tells seat t) (cases_lt t (length old));
+  seats = grind arith;
+  kept = grind (arith, common_steps);
+  mail = λ t below empty. elim (eqb_tells seat t) [
+    | inl same ↦ inr (subst (λ n. 0 < times n (to_wake seat w).waiting) same.1 (waits_now seat w (omega (arith, same.1, below))))
+    | inr differs ↦ grind (arith, cases_lt t (length old), put t, get_or_past new t [])
+  ];
 }
-  where
-    b : Bool
-    b = nat_lt seat w.seats && (times seat w.waiting == 0)
-
-    at : (t : ℕ) → t < w.seats → slice_index_or old t [] ≡ [] → ((seat == t) ≡ true) × (seat ≡ t) ⊎ ((seat == t) ≡ false) × (seat ≢ t)
-        → (t < length old) ⊎ (length old ≤ t) → (slice_index_or new t [] ≡ []) ⊎ (0 < times t (to_wake seat w).waiting)
-    at t below empty (inl (_, same)) there =
-        inr (subst (λ n. 0 < times n (to_wake seat w).waiting) same (waits_now seat w (omega (arith, same, below))))
-    at t below empty (inr (test, _)) (inl here) = grind arith
-    at t below empty (inr (test, _)) (inr past) = inl (get_or_past new t [] (omega (arith, many, past)))
 
 -- A seat took the first answer of its mail, or there was none.
 pub wakes_taken : (mails : List (List Answer)) (i : ℕ) (old rest taken : List Answer) (w : WakeList) → i < length mails
