@@ -4,13 +4,13 @@ use Rattle.bq_job.proofs.KeptLemmas.{Keeps, has_holder, kept_of_close, kept_of_d
 use Rattle.std.proofs.lemmas.Bool.{leb-false, or_parts}
 use Rattle.bq_job.proofs.ListLemmas.{all_always, all_weaker, count_cons, count_of_map, list_any_with, all_of_append}
 use Rattle.std.proofs.Common.{◌⊎◌, ℕ, zero, suc, ◌≡◌, ◌≤◌, ◌+◌, Bool, true, cond, List}
-use Rattle.std.proofs.Common.{[], ◌∷◌, map, arith, refl, ap, ◌∙◌, inl, inr, Option, Some, None}
+use Rattle.std.proofs.Common.{[], ◌∷◌, map, arith, refl, inl, inr, Option, Some, None}
 use Rattle.std.proofs.lemmas.{Bool.{and_from, cases_Bool, cond_both, eqb-true, or_right}, Grind.common_steps}
 use Rattle.std.specs.{List.{AllByRecursion as All, Contains}, Prelude.{◌==◌, count_by}}
 use Rattle.bq_job.specs.machine.{Effect, Machine.Machine, SeatRecord, after_close, after_connect, effect}
 use Rattle.bq_job.specs.{beside.waiting_count, machine.{empty_seat, is_held_by, is_waiting, numbers, raised}}
 use Rattle.bq_job.specs.machine.{reserve_effect, silent, state_once_left, telling, waiting_from}
-use Rattle.bq_job.specs.{machine.{with_seat}, Types.{Answer, Job, Request, Step}}
+use Rattle.bq_job.specs.{machine.with_seat, Types.{Answer, Job, Request, Step}}
 use Rattle.bq_job.specs.declared.answer.Answer.TheVariants as answers
 use Rattle.bq_job.proofs.KeptLemmas.{kept_of_jobs, kept_of_seat, numbers_above, only_seat}
 use Rattle.bq_job.proofs.EffectKinds.{IsFreeOrOwn, Kind, adds, changes_jobs, changes_seat, changes_tube, deletes, passes, tells, waits}
@@ -95,12 +95,8 @@ one_more_waits f low (suc n) number (s ∷ seats) e =
 -- the client begins to wait
 leaves_reserve : (until : Option ℕ) (m : Machine) (s : SeatRecord) → Keeps m → IsThere m s → s.connected ≡ true
     → Leaves m (reserve_effect until m s)
-leaves_reserve until m s h there c = record {
-  keeps = kept_of_seat s.number (waiting_from (raised m.tickets) until) h
-      (all_weaker _ _ m.seats
-      (λ t only e. record { number = refl; stays = λ d. d; waits = λ w. ap (λ (u : SeatRecord). u.connected) (only e) ∙ c }) there.alone);
-  waiting = let more = one_more_waits (waiting_from (raised m.tickets) until) 0 m.settings.seats s.number m.seats h.seated in omega arith;
-}
+leaves_reserve until m s h there c =
+    grind (arith, kept_of_seat s.number (waiting_from (raised m.tickets) until) h, all_weaker, waits, one_more_waits)
 
 -- every kind of command
 leaves_kind : (request : Request) (m : Machine) (s : SeatRecord) {e : Effect} → Kind m s request e → Keeps m → IsThere m s

@@ -1,12 +1,13 @@
 -- The command's own effect, as a move: what each request and each other event does to jobs.
+use Rattle.std.proofs.lemmas.Grind.{common_steps}
 use Rattle.std.proofs.{Common.{◌∙◌, ◌≡◌, ℕ, ap, arith, refl, subst, sym, true}, lemmas.Bool.{cond_both, eq-eqb}}
-use Rattle.bq_job.specs.machine.{Effect, Machine.Machine, Memory, SeatRecord, acted, after_close, delayed_by, given_back, in_state}
-use Rattle.bq_job.specs.{beside.AreIdsWithin, laws.removed, machine.{is_held_by, is_ready_state, new_job}}
+use Rattle.bq_job.specs.machine.{Effect, Machine.Machine, Memory, SeatRecord, acted, after_close, delayed_by, given_back}
+use Rattle.bq_job.specs.{beside.AreIdsWithin, laws.removed, machine.{is_ready_state, new_job}}
 use Rattle.bq_job.specs.{machine.state_once_left, Types.{Request, Step}}
 use Rattle.bq_job.specs.declared.step.Step.TheVariants as steps
 use Rattle.bq_job.proofs.EffectKinds.{Kind, adds, changes_jobs, changes_seat, changes_tube, deletes, passes, tells, waits}
 use Rattle.bq_job.proofs.BecomeLemmas.{held_not_ready}
-use Rattle.bq_job.proofs.ChangeLemmas.{Becomes, JobsAfter, added, becomes_itself, changed, removed_one, unchanged}
+use Rattle.bq_job.proofs.ChangeLemmas.{JobsAfter, added, becomes_itself, changed, removed_one, unchanged}
 use Rattle.bq_job.proofs.{CommandKinds.kind_of, EachEvent.each_acted, LookupLemmas.found_job}
 
 -- the ids of a model's jobs
@@ -37,18 +38,8 @@ after_kind request m s (changes_tube tube seconds one) ids = after_itself (steps
 
 after_closed : (m : Machine) (seat : ℕ) → After steps.Close m (after_close m seat)
 after_closed m seat =
-    let left = state_once_left m in
-    changed (given_back left seat) refl refl
-    (λ j. cond_both (is_held_by seat j) (in_state left j) j (λ k. k.id ≡ j.id) (λ e. refl) (λ e. refl))
-    (λ j i. cond_both (is_held_by seat j) (in_state left j) j (Becomes steps.Close j)
-    (λ e. record {
-      id = refl;
-      tube = refl;
-      body = refl;
-      ready = λ h. absurd (held_not_ready seat j e h);
-      held = grind arith;
-    })
-    (λ e. becomes_itself steps.Close j))
+    changed (given_back (state_once_left m) seat) refl refl (λ j. grind (arith, common_steps, cond_both))
+    (λ j i. grind (arith, common_steps, cond_both, becomes_itself, held_not_ready))
 
 -- whether or not memory was lacking
 pub after_acted : (memory : Memory) (m : Machine) (seat : ℕ) (what : Step) → Ids m → After what m (acted memory m seat what).machine

@@ -13,7 +13,7 @@ use Rattle.bq_job.specs.declared.answer.Answer.TheVariants as answers
 use Rattle.bq_job.specs.declared.request.Request.TheVariants as requests
 use Rattle.bq_job.specs.declared.step.Step.TheVariants as steps
 use Rattle.bq_job.proofs.Trace.{IsServing, IsTrace, of_serves, of_turns, steady}
-use Rattle.bq_job.proofs.{DispatchLemmas.{reserved_is_least}, EffectKinds.is_common, LawfulLemmas.end_of}
+use Rattle.bq_job.proofs.{DispatchLemmas.reserved_is_least, EffectKinds.is_common, LawfulLemmas.end_of}
 use Rattle.bq_job.proofs.{ListLemmas.{all_at, all_of_append}, LookupLemmas.found_job, OwnAnswerLemmas.Tells}
 use Rattle.bq_job.proofs.OwnAnswerLemmas.{drains_acted, tells_acted}
 
@@ -93,8 +93,7 @@ dispatched_least : (first : Machine) (before handed given more early : List Give
     → Dispatches first handed last → handed ≡ given ++ (seat, answers.Reserved id body) ∷ more → early ≡ before ++ given
     → IsDispatchedLeast first before handed early seat id body
 dispatched_least first before handed given more early seat id body last d is place =
-    let t = turn_in_chain first given (seat, answers.Reserved id body) more d.end
-    (rw is at d.turns) in
+    let t = turn_in_chain first given (seat, answers.Reserved id body) more d.end (rw is at d.turns) in
     grind (arith, reserved_is_least t.0 t.1 seat id body t.3)
 
 -- the command's own answer
@@ -178,8 +177,7 @@ module _ (t : Transition) (s : IsStep t.first t.entry.moment t.entry.seat t.entr
       ]
 
   drains_then : act.machine.draining ≡ true → t.last.draining ≡ true
-  drains_then drains = (of_serves steady s.after s.handed_then s.ended_then t.last s.serves_then).draining
-      ∙ ap (λ (l : Machine). l.draining) s.acts ∙ drains
+  drains_then drains = grind (arith, of_serves steady s.after s.handed_then s.ended_then t.last s.serves_then)
 
   drained_step : act.machine.draining ≡ true → has_inserted own ≡ false → StaysDraining t.given t.last
   drained_step drains none = grind (arith, drains_then, given_is, none_joined, none_served, served, served_then)
@@ -240,9 +238,7 @@ run_deletes first taken last t seat goes i c =
 pub none_while_draining : (first : Machine) (taken : List Transition) (last : Machine) → GoesBy first taken last → first.draining ≡ true
     → has_inserted (flat_map (λ (t : Transition). t.given) taken) ≡ false
 none_while_draining first [] last goes d = refl
-none_while_draining first (t ∷ taken) last goes d =
-    let s = stays_draining t goes.1.step (ap (λ (l : Machine). l.draining) goes.0 ∙ d) in
-    none_joined t.given (flat_map (λ (t : Transition). t.given) taken) s.none (none_while_draining t.last taken last goes.2 s.draining)
+none_while_draining first (t ∷ taken) last goes d = grind (arith, stays_draining, none_joined, none_while_draining t.last taken last goes.2)
 
 pub none_after_drain : (first : Machine) (early : List Transition) (t : Transition) (more : List Transition) (last : Machine)
     → GoesBy first (early ++ t ∷ more) last → t.entry.what ≡ steps.Drain
@@ -257,9 +253,6 @@ none_after_last_id first [] last [] seat more goes e = absurd cc
 none_after_last_id first [] last (g ∷ early) seat more goes e = absurd cc
 none_after_last_id first (t ∷ taken) last early seat more goes e =
     elim (split_at t.given (flat_map (λ (t : Transition). t.given) taken) early (seat, answers.Inserted last_id) more e) [
-      | inl i ↦
-          let a = after_last_at t goes.1.step early seat i.rest i.first_is in
-          ap has_inserted i.more_is ∙ none_joined i.rest (flat_map (λ (t : Transition). t.given) taken) a.none
-          (none_while_draining t.last taken last goes.2 a.draining)
+      | inl i ↦ grind (arith, after_last_at t goes.1.step early seat i.rest i.first_is, none_joined, none_while_draining)
       | inr i ↦ none_after_last_id t.last taken last i.begin seat more goes.2 i.second_is
     ]

@@ -1,12 +1,12 @@
 -- What a command makes of a job: who held it, and which happening is recorded.
-use Rattle.std.proofs.Common.{ℕ, zero, suc, ◌≡◌, Bool, true, false, ◌||◌, cond, List, [], ◌∷◌, Some, arith}
+use Rattle.std.proofs.Common.{ℕ, ◌≡◌, Bool, true, false, ◌||◌, cond, List, [], ◌∷◌, Some, arith}
 use Rattle.std.proofs.lemmas.Bool.{and_parts, or_cases, or_left, or_right, cond_both, eqb-true, cases_Bool}
 use Rattle.std.proofs.lemmas.Grind.{common_steps}
 use Rattle.std.specs.{List.{AllByRecursion as All, Contains, list_any}, Prelude.{◌==◌, filter, take}}
 use Rattle.bq_job.specs.machine.{delayed_by, in_order, is_buried, is_buried_before, is_buried_in, is_delayed}
 use Rattle.bq_job.specs.machine.{is_held_by, is_ready, is_reserved, job_with, kickable, kicked_first}
 use Rattle.bq_job.specs.{beside.AreIdsWithin, laws.{change, disturbs, given_up}}
-use Rattle.bq_job.specs.{machine.put_in_order, reading.TubeName.is_same_name, Types.{Job, JobState, Step}}
+use Rattle.bq_job.specs.{machine.put_in_order, Types.{Job, JobState, Step}}
 use Rattle.bq_job.proofs.{ChangeLemmas.{Becomes, becomes_itself}, ListLemmas.{all_from_members, all_of_filter}}
 use Rattle.bq_job.proofs.{ListLemmas.all_weaker, LookupLemmas.job_found}
 
@@ -36,9 +36,7 @@ all_in_order P before [] h = tt
 all_in_order P before (j ∷ jobs) h = all_put_in_order P before j (in_order before jobs) h.0 (all_in_order P before jobs h.1)
 
 pub all_of_take : (P : Job → Type 0) (n : ℕ) (jobs : List Job) → All P jobs → All P (take n jobs)
-all_of_take P zero jobs h = tt
-all_of_take P (suc n) [] h = tt
-all_of_take P (suc n) (j ∷ jobs) h = (h.0, all_of_take P n jobs h.1)
+all_of_take P n jobs h = grind (arith, common_steps)
 
 -- a job of the list that no client holds
 abbrev pub IsAside : List Job → Job → Type 0
@@ -52,9 +50,7 @@ aside_of_filter jobs p next ids only =
 
 pub kickable_aside : (tube : List ℕ) (jobs : List Job) (next : ℕ) → AreIdsWithin 1 jobs next → All (IsAside jobs) (kickable tube jobs)
 kickable_aside tube jobs next ids =
-    of_first (filter (is_buried_in tube) jobs)
-    (aside_of_filter jobs (is_buried_in tube) next ids
-    (λ j e. or_left (is_buried j.state) (is_delayed j.state) (and_parts (is_buried j.state) (is_same_name tube j.tube) e).0))
+    of_first (filter (is_buried_in tube) jobs) (grind (arith, common_steps, aside_of_filter, or_left, and_parts))
   where
     of_first : (first : List Job) → All (IsAside jobs) first → All (IsAside jobs) (kicked_first tube jobs first)
     of_first [] h = grind (arith, common_steps, all_in_order, aside_of_filter, or_right, and_parts)
@@ -63,8 +59,7 @@ kickable_aside tube jobs next ids =
 pub chosen_not_held : (jobs chosen : List Job) (j : Job) → job_with j.id jobs ≡ Some j → All (IsAside jobs) chosen
     → list_any (λ k. k.id == j.id) chosen ≡ true → is_reserved j.state ≡ true → ⊥
 chosen_not_held jobs [] j found h any held = absurd cc
-chosen_not_held jobs (k ∷ chosen) j found h any held =
-    grind (arith, common_steps, or_cases, eqb-true, chosen_not_held jobs chosen j)
+chosen_not_held jobs (k ∷ chosen) j found h any held = grind (arith, or_cases, eqb-true, chosen_not_held jobs chosen j)
 
 -- If the job of one id changes, each job of the list becomes what it may.
 pub one_becomes : (what : Step) (id : ℕ) (f : Job → Job) (jobs : List Job) (next : ℕ) (j : Job) → AreIdsWithin 1 jobs next

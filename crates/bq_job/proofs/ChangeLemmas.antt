@@ -42,8 +42,7 @@ unchanged what limit jobs next = changed (λ j. j) (sym (map-id jobs)) refl (λ 
 any_in_parts : {X Y : Type 0} (p : Y → Bool) (g : X → List Y) (xs : List X) → list_any (λ x. list_any p (g x)) xs ≡ true
     → list_any p (flat_map g xs) ≡ true
 any_in_parts p g [] h = h
-any_in_parts p g (x ∷ xs) h =
-    grind (arith, common_steps, list_any-append, or_cases, or_left, or_right, any_in_parts p g xs)
+any_in_parts p g (x ∷ xs) h = grind (arith, list_any-append, or_cases, or_left, or_right, any_in_parts p g xs)
 
 plain_change_or_removal : (what : Step) (j : Job) (o : Option Job) → All (λ h. is_plain h ≡ true) (change_or_removal what j o)
 plain_change_or_removal what j o = grind (arith, common_steps, cases_Bool)
@@ -117,9 +116,7 @@ move_of_jobs what m n ids (changed f after next same becomes) =
     quiet (record {
       next = next;
       plain = plain_changes what m.jobs n.jobs
-          (subst (All (λ j. is_none (job_with j.id m.jobs) ≡ false)) (sym after)
-          (all_of_map _ f m.jobs (all_weaker _ _ m.jobs
-          (λ j h. subst (λ id. is_none (job_with id m.jobs) ≡ false) (sym (same j)) h) (were_there m.jobs m.next_id ids))));
+          (rw after (all_of_map _ f m.jobs (all_weaker _ _ m.jobs (λ j h. rw same h) (were_there m.jobs m.next_id ids))));
       fates = grind (arith, changed_fate);
     })
 move_of_jobs what m n ids (removed_one gone told after next) =
@@ -128,8 +125,5 @@ move_of_jobs what m n ids (added j after next is at_once free) =
     let silent : All (λ k. change_or_removal what k (job_with k.id n.jobs) ≡ []) m.jobs =
     all_from_members (λ k. change_or_removal what k (job_with k.id n.jobs) ≡ []) m.jobs (λ k i.
     let found = job_found 1 m.next_id m.jobs k ids i in
-    let less = found.1 in
-    let other : (j.id == k.id) ≡ false = false_from_ne_true (j.id == k.id) (λ t. let at = eqb-true j.id k.id t in absurd (omega arith)) in
-    ap (λ o. change_or_removal what k o) (ap (job_with k.id) after ∙ job_in_more k.id m.jobs j other ∙ found.0)
-    ∙ (grind (arith, common_steps, cases_Bool))) in
+    grind (arith, common_steps, cases_Bool, job_in_more, eqb-true, false_from_ne_true)) in
     grind (arith, last_kept, were_there, none_at, none_of_parts)

@@ -3,7 +3,7 @@
 use Rattle.std.proofs.Common.{◌||◌, ◌∙◌, ◌∷◌, ◌≡◌, ◌⊎◌, Bool, List, None, Option, Some, []}
 use Rattle.std.proofs.Common.{ℕ, ap, arith, false, inl, inr, refl, sym, true}
 use Rattle.std.proofs.{Common.◌==◌, lemmas.Bool.{and_parts, cases_Bool, Decides.nat_tests}}
-use Rattle.std.proofs.lemmas.{Grind.common_steps, List.Elements.{All-contains, All-from_recursion}}
+use Rattle.std.proofs.lemmas.Grind.{common_steps}
 use Rattle.std.proofs.{lemmas.List.Folds.list_any-from_Any, Math.Bool.or_assoc}
 use Rattle.std.specs.{Cmp.IsStrictWeakOrder, List.{AllByRecursion, Contains, list_any}, Prelude.{IfSome, fold, is_some}}
 use Rattle.bq_job.specs.machine.{better_of, first_of, is_pair_before}
@@ -33,14 +33,12 @@ fold_is_least passes {before = before} order best (x ∷ xs) z h =
 -- nothing that passes comes before the chosen one
 pub first_of_is_least : {X : Type 0} (passes : X → Bool) {before : X → X → Bool} (order : IsStrictWeakOrder before) (xs : List X) (z y : X)
     → first_of passes before xs ≡ Some z → Contains xs y → passes y ≡ true → before y z ≡ false
-first_of_is_least passes {before = before} order xs z y h i p =
-    grind (arith, common_steps, All-contains, All-from_recursion, fold_is_least passes order None xs z h)
+first_of_is_least passes {before = before} order xs z y h i p = grind (arith, common_steps, fold_is_least passes order None xs z h)
 
 fold_passes : {X : Type 0} (passes : X → Bool) (before : X → X → Bool) (best : Option X) (xs : List X) → IfSome best (λ b. passes b ≡ true)
     → IfSome (fold (better_of passes before) best xs) (λ b. passes b ≡ true)
 fold_passes passes before best [] h = h
-fold_passes passes before best (x ∷ xs) h =
-    fold_passes passes before (better_of passes before best x) xs (grind (arith, common_steps, cases_Bool, and_parts))
+fold_passes passes before best (x ∷ xs) h = grind (arith, and_parts, fold_passes passes before (better_of passes before best x) xs)
 
 -- the chosen one passes
 pub first_of_passes : {X : Type 0} (passes : X → Bool) (before : X → X → Bool) (xs : List X) (z : X)
@@ -60,10 +58,8 @@ first_of_contains passes before xs z h = elim (fold_contains passes before None 
 
 fold_is_some : {X : Type 0} (passes : X → Bool) (before : X → X → Bool) (best : Option X) (xs : List X)
     → is_some (fold (better_of passes before) best xs) ≡ (is_some best || list_any passes xs)
-fold_is_some passes before None [] = refl
-fold_is_some passes before (Some b) [] = refl
-fold_is_some passes before best (x ∷ xs) =
-    grind (arith, common_steps, or_assoc, fold_is_some passes before (better_of passes before best x) xs)
+fold_is_some passes before best [] = grind arith
+fold_is_some passes before best (x ∷ xs) = grind (arith, or_assoc, fold_is_some passes before (better_of passes before best x) xs)
 
 -- An element is chosen if and only if one passes.
 pub first_of_is_some : {X : Type 0} (passes : X → Bool) (before : X → X → Bool) (xs : List X)
@@ -100,8 +96,7 @@ first_of_is passes {before = before} order xs x i p least unique =
 fold_agrees : {X : Type 0} (p q : X → Bool) (before : X → X → Bool) (best : Option X) (xs : List X) → AllByRecursion (λ x. p x ≡ q x) xs
     → fold (better_of p before) best xs ≡ fold (better_of q before) best xs
 fold_agrees p q before best [] h = refl
-fold_agrees p q before best (x ∷ xs) h =
-    grind (arith, common_steps, fold_agrees p q before (better_of q before best x) xs h.1)
+fold_agrees p q before best (x ∷ xs) h = grind (arith, fold_agrees p q before (better_of q before best x) xs h.1)
 
 -- Two tests that agree on the list choose the same element.
 pub first_of_agrees : {X : Type 0} (p q : X → Bool) (before : X → X → Bool) (xs : List X) → AllByRecursion (λ x. p x ≡ q x) xs

@@ -17,7 +17,7 @@ use Rattle.bq_job.proofs.ListLemmas.{all_at, all_both, all_pass, all_weaker, lis
 use Rattle.bq_job.proofs.OneClientLemmas.{Found, Passes, answers_append, changed_none, changed_numbers, changed_quiet, changed_some}
 use Rattle.bq_job.proofs.OneClientLemmas.{connected_in, finds, one_for, passes_serves, unclosed_append, waits_in}
 use Rattle.bq_job.proofs.{ChoiceLemmas.first_of_none, KeptLemmas.is_open_wait}
-use Rattle.bq_job.proofs.{LawfulLemmas.{step_is_lawful}, ReplyLemmas.{replies_acted, replies_effect}}
+use Rattle.bq_job.proofs.{LawfulLemmas.step_is_lawful, ReplyLemmas.{replies_acted, replies_effect}}
 use Rattle.bq_job.proofs.ReplyLemmas.{stays_acted, told, told_elsewhere}
 
 -- the parts of a step, as one client sees them
@@ -33,16 +33,10 @@ pub record Parts (client : ℕ) (first last : Machine) (seat : ℕ) (what : Step
 
 pub parts_of : (client : ℕ) (first last : Machine) (at seat : ℕ) (what : Step) (outcome : Outcome) (given : List GivenAnswer)
     → IsStep first at seat what outcome given last → Parts client first last seat what given
-parts_of client first last at seat what outcome given s = record {
-  memory = s.memory;
-  before = s.before;
-  early = s.handed ++ s.ended;
-  late = s.handed_then ++ s.ended_then;
-  comes = passes_serves client (forgetting (after_timers (at_moment at first))) s.handed s.ended s.before s.serves;
-  possible = s.possible;
-  goes = grind (arith, passes_serves client s.after s.handed_then s.ended_then last s.serves_then);
-  given_is = grind (arith, common_steps, append_assoc);
-}
+parts_of client first last at seat what outcome given s =
+    let begin = passes_serves client (forgetting (after_timers (at_moment at first))) s.handed s.ended s.before s.serves in
+    let goes = passes_serves client s.after s.handed_then s.ended_then last s.serves_then in
+    grind (arith, common_steps, append_assoc)
 
 -- A command gives the client no answer, and the client waits and is connected as before.
 gets_quiet : (client : ℕ) (first last : Machine) (seat : ℕ) (what : Step) (given : List GivenAnswer)
@@ -123,22 +117,19 @@ gives_closed : (first last : Machine) (seat : ℕ) (given : List GivenAnswer) �
     → Parts seat first last seat steps.Close given → connected_in seat first.seats ≡ true
     → GetsClosed first last seat (answers_to seat given)
 gives_closed first last seat given h there p c =
-    let m = p.before in
     let f = found_before first last seat steps.Close given h there p in
     let s = f.client in
-    let here : s.connected ≡ true = sym f.connected ∙ p.comes.connected ∙ c in
-    let e = own_effect seat first last steps.Close given p (telling answers.Closed (after_close m s.number)) refl refl
+    let e = own_effect seat first last steps.Close given p (telling answers.Closed (after_close p.before s.number)) refl refl
     (grind (arith, common_steps)) in
-    let waits_after = changed_none seat s.number (λ t. empty_seat t.number) is_waiting m.seats f.number (λ t. refl) in
-    let connected_after = changed_none seat s.number (λ t. empty_seat t.number) (λ t. t.connected) m.seats f.number (λ t. refl) in
+    let waits_after = changed_none seat s.number (λ t. empty_seat t.number) is_waiting p.before.seats f.number (λ t. refl) in
+    let connected_after = changed_none seat s.number (λ t. empty_seat t.number) (λ t. t.connected) p.before.seats f.number (λ t. refl) in
     grind (arith, common_steps, answers_of_parts)
 
 -- A tick at any seat gives to any client what it waits for.
 pub tick_gives_client : (first last : Machine) (at seat client : ℕ) (outcome : Outcome) (given : List GivenAnswer)
     → IsStep first at seat steps.Tick outcome given last → GetsWhatWaits first last client (answers_to client given)
 tick_gives_client first last at seat client outcome given s =
-    gets_quiet client first last seat steps.Tick given (parts_of client first last at seat steps.Tick outcome given s) refl (λ m. refl)
-    (λ m. refl) (λ m. refl)
+    gets_quiet client first last seat steps.Tick given (search parts_of) refl (λ m. refl) (λ m. refl) (λ m. refl)
 
 over_by_end : (waits soon past ended : Bool) → ended ≡ true → (waits && (soon || (past || ended))) ≡ false → waits ≡ false
 over_by_end waits soon past ended e h = grind (arith, common_steps, cases_Bool)
@@ -177,12 +168,10 @@ step_gives_client first last at seat steps.End outcome given h there s =
       λ c. gives_end first last seat given h (step_is_lawful first last at seat steps.End outcome given h s) there p c,
     )
 step_gives_client first last at seat steps.Drain outcome given h there s =
-    gets_quiet seat first last seat steps.Drain given (parts_of seat first last at seat steps.Drain outcome given s) refl (λ m. refl)
-    (λ m. refl) (λ m. refl)
+    gets_quiet seat first last seat steps.Drain given (search parts_of) refl (λ m. refl) (λ m. refl) (λ m. refl)
 step_gives_client first last at seat steps.Tick outcome given h there s = tick_gives_client first last at seat seat outcome given s
 step_gives_client first last at seat steps.Gone outcome given h there s =
-    gets_quiet seat first last seat steps.Gone given (parts_of seat first last at seat steps.Gone outcome given s) refl (λ m. refl)
-    (λ m. refl) (λ m. refl)
+    gets_quiet seat first last seat steps.Gone given (search parts_of) refl (λ m. refl) (λ m. refl) (λ m. refl)
 
 -- A connected client makes a request, whether it waits or not.
 pub asks_at_most : (first last : Machine) (at seat : ℕ) (request : Request) (outcome : Outcome) (given : List GivenAnswer) → IsLawful first

@@ -40,13 +40,8 @@ here_closes : (first last : Machine) (at t : ℕ) (what : Step) (outcome : Outco
     → IsStep first at t what outcome given last → closes (answers_to t given) ≤ closings (what ∷ [])
 here_closes first last at t what outcome given step =
     let p = parts_of t first last at t what outcome given step in
-    let o = (acted p.memory p.before t what).answer in
-    let early = answers_to t p.early in
-    let late = answers_to t p.late in
-    let all : closes (answers_to t given) ≡ closes early + (closes (told o) + closes late) =
-    ap closes (answers_of_parts t o p.early p.late given p.given_is) ∙ closes_append early (told o ++ late)
-    ∙ ap (λ n. closes early + n) (closes_append (told o) late) in
-    grind (arith, unclosed_closes, own_closes)
+    let all = answers_of_parts t (acted p.memory p.before t what).answer p.early p.late given p.given_is in
+    grind (arith, closes_append, unclosed_closes, own_closes)
 
 -- a step at another seat, or a tick
 elsewhere_closes : (t : ℕ) (m next : Machine) (at seat : ℕ) (what : Step) (outcome : Outcome) (given : List GivenAnswer)

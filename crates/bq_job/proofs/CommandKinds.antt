@@ -1,5 +1,5 @@
 -- The kind of each command: the only case split over all requests.
-use Rattle.std.proofs.Common.{◌||◌, ◌≡◌, ◌≤◌, Bool, List, None, Some, ℕ, ap, arith, cond, false, inl, inr, not, refl, true}
+use Rattle.std.proofs.Common.{◌||◌, ◌≡◌, ◌≤◌, Bool, List, None, Some, ℕ, arith, cond, false, inl, inr, not, refl, true}
 use Rattle.std.proofs.lemmas.{Bool.{and_parts, cond_both, eq-eqb}, Grind.common_steps}
 use Rattle.std.specs.{List.list_any, Prelude.{◌==◌, filter, length, take}}
 use Rattle.bq_job.specs.machine.{is_buried, is_closed_answer, is_delayed}
@@ -43,13 +43,7 @@ reserve_job_kind id m s =
     (λ j. telling (answers.Reserved j.id j.body) (with_job id (reserved_by m.moment s.number) m)) m s refl
     (λ j e p.
     one_changes (requests.ReserveJob id) m s (answers.Reserved j.id j.body) id (reserved_by m.moment s.number) m.burials j e
-    (record {
-      wanted = refl;
-      unclosed = refl;
-      done = refl;
-      own = inr (id, j.body, refl, ap (λ n. answers.Reserved n j.body) (found_job id m.jobs j e).0);
-    })
-    (λ h. h) (λ k. refl) (λ k. inr (eq-eqb s.number s.number refl))
+    (grind (arith, common_steps, found_job)) (λ h. h) (λ k. refl) (λ k. inr (eq-eqb s.number s.number refl))
     (grind (arith, common_steps, found_job, eq-eqb)))
 
 delete_kind : (id : ℕ) (m : Machine) (s : SeatRecord) → Kind m s (requests.Delete id) (asked (requests.Delete id) m s)
@@ -66,19 +60,12 @@ kick_kind bound m s =
     changes_jobs (answers.KickedCount (length chosen)) (λ j. cond (list_any (λ k. k.id == j.id) chosen) (kicked j) j) m.burials
     (says (answers.KickedCount (length chosen)) refl refl refl refl) (record {
       counts = λ h. h;
-      same = λ j. cond_both (list_any (λ k. k.id == j.id) chosen) (kicked j) j (λ k. k.id ≡ j.id) (λ e. refl) (λ e. refl);
+      same = λ j. grind (arith, common_steps, cond_both);
       holder = grind arith;
-      becomes = λ ids j i. cond_both (list_any (λ k. k.id == j.id) chosen) (kicked j) j (Becomes (steps.Ask (requests.Kick bound)) j)
-          (λ e. record {
-            id = refl;
-            tube = refl;
-            body = refl;
-            ready = λ h. inl (refl, refl);
-            held = λ h.
-                absurd (chosen_not_held m.jobs chosen j (job_found 1 m.next_id m.jobs j ids i).0
-                (all_of_take (IsAside m.jobs) bound (kickable s.used m.jobs) (kickable_aside s.used m.jobs m.next_id ids)) e h);
-          })
-          (λ e. becomes_itself (steps.Ask (requests.Kick bound)) j);
+      becomes = λ ids j i.
+          let aside = all_of_take (IsAside m.jobs) bound (kickable s.used m.jobs) (kickable_aside s.used m.jobs m.next_id ids) in
+          let found = job_found 1 m.next_id m.jobs j ids i in
+          grind (arith, common_steps, cond_both, chosen_not_held, becomes_itself);
     })
 
 kick_job_kind : (id : ℕ) (m : Machine) (s : SeatRecord) → Kind m s (requests.KickJob id) (asked (requests.KickJob id) m s)
@@ -91,10 +78,7 @@ kick_job_kind id m s =
     (record { id = refl; tube = refl; body = refl; ready = λ h. inl (refl, refl); held = λ h. absurd (put_aside_not_held j.state p h) }))
 
 watch_kind : (tube : List ℕ) (m : Machine) (s : SeatRecord) → Kind m s (requests.Watch tube) (asked (requests.Watch tube) m s)
-watch_kind tube m s =
-    let watched = watched_with tube s in
-    changes_seat (answers.Watching (length watched)) (watching watched) (says (answers.Watching (length watched)) refl refl refl refl)
-    (record { number = λ t. refl; connected = λ t. refl; wait = λ t. refl; watched = λ w t i. watched_still tube s w })
+watch_kind tube m s = changes_seat _ (watching (watched_with tube s)) (grind (arith, says)) (grind (arith, watched_still))
 
 ignore_kind : (tube : List ℕ) (m : Machine) (s : SeatRecord) → Kind m s (requests.Ignore tube) (asked (requests.Ignore tube) m s)
 ignore_kind tube m s =

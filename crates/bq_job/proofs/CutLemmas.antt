@@ -29,8 +29,7 @@ parts_close (most ∷ mosts) given h = grind (arith, common_steps, closes_append
 pub lines_close : (size : ℕ) (lines : List LineOver) (own : List Step) (taken : List Answer) (h : AreLinesServed size lines own taken)
     → length (most_of_lines size lines own taken h) ≤ closes taken
 lines_close size [] own taken h = omega arith
-lines_close size (line ∷ lines) own taken h =
-    grind (arith, common_steps, closes_append, lines_close size lines h.1 h.3 h.7)
+lines_close size (line ∷ lines) own taken h = grind (arith, closes_append, lines_close size lines h.1 h.3 h.7)
 
 -- each connection has its most
 pub lines_number : (size : ℕ) (lines : List LineOver) (own : List Step) (taken : List Answer) (h : AreLinesServed size lines own taken)
@@ -45,5 +44,4 @@ pub same_cut : (xs ys later rest : List Answer) → has_closed xs ≡ false → 
 same_cut [] [] later rest h i e = (refl, (heads answers.Closed answers.Closed later rest e).1)
 same_cut [] (y ∷ ys) later rest h i e = absurd (grind (arith, common_steps))
 same_cut (x ∷ xs) [] later rest h i e = grind (arith, common_steps, heads)
-same_cut (x ∷ xs) (y ∷ ys) later rest h i e =
-    grind (arith, common_steps, heads, or_parts, same_cut xs ys later rest)
+same_cut (x ∷ xs) (y ∷ ys) later rest h i e = grind (arith, heads, or_parts, same_cut xs ys later rest)

@@ -1,5 +1,5 @@
 -- Turns of dispatch and ends of waits: what each gives and leaves.
-use Rattle.std.proofs.{Common.{◌≡◌, List, Some, ℕ, ap, arith, inl, inr}, lemmas.{Bool.and_from, Grind.common_steps}}
+use Rattle.std.proofs.{Common.{◌≡◌, List, Some, ℕ, arith}, lemmas.{Bool.and_from, Grind.common_steps}}
 use Rattle.std.specs.List.{list_any}
 use Rattle.bq_job.specs.declared.answer.Answer.TheVariants as answers
 use Rattle.bq_job.specs.machine.{DispatchTurn, GivenAnswer, IsHandOut, Machine.Machine, SeatRecord, is_job_before, is_waiting}
@@ -34,16 +34,7 @@ next_is_least m j s e f =
 -- The RESERVED that a turn of dispatch gives is for the least job that the client may have.
 pub reserved_is_least : (m next : Machine) (seat id : ℕ) (body : List ℕ) → DispatchTurn m (seat, answers.Reserved id body) next
     → GetsLeast m seat id body
-reserved_is_least m next seat id body turn = of_hand_out (turn_of m (seat, answers.Reserved id body) next turn)
-  where
-    of_given : (j : Job) (s : SeatRecord) → next_job m ≡ Some j → next_seat m j ≡ Some s
-        → IsHandOut m j s (seat, answers.Reserved id body) next → GetsLeast m seat id body
-    of_given j s e f (inl h) =
-        let at : seat ≡ s.number = ap (λ (g : GivenAnswer). g.0) h.0 in
-        let same : answers.Reserved id body ≡ answers.Reserved j.id j.body = ap (λ (g : GivenAnswer). g.1) h.0 in
-        let w = next_seat_waits m j s f in
-        grind (arith, common_steps, next_is_least)
-    of_given j s e f (inr h) = absurd (let g : answers.Reserved id body ≡ answers.OutOfMemory = ap (λ (g : GivenAnswer). g.1) h.0 in cc)
-
-    of_hand_out : Turn m (seat, answers.Reserved id body) next → GetsLeast m seat id body
-    of_hand_out t = of_given t.job t.client t.job_is t.client_is t.hands
+reserved_is_least m next seat id body turn =
+    let t = turn_of m (seat, answers.Reserved id body) next turn in
+    let w = next_seat_waits m t.job t.client t.client_is in
+    grind (arith, common_steps, next_is_least)

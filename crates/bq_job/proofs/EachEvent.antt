@@ -1,6 +1,6 @@
 -- What an event can do to the model. A property of each possibility is a property of every event's
 -- effect.
-use Rattle.std.proofs.{Common.{◌≡◌, Some, ℕ, arith, false, true}, lemmas.Bool.{cond_both, eqb-true}}
+use Rattle.std.proofs.{Common.{◌≡◌, Some, ℕ, arith, false, true}, lemmas.Bool.eqb-true}
 use Rattle.std.proofs.lemmas.Grind.{common_steps}
 use Rattle.std.specs.List.{Contains}
 use Rattle.bq_job.specs.declared.answer.Answer.TheVariants as answers
@@ -36,19 +36,12 @@ at_seat m seat act P nothing each = grind (arith, common_steps, found_passes, eq
 -- every event
 pub each_event : (m : Machine) (seat : ℕ) (P : Step → Effect → Type 0) → HoldsOfEach m seat P → (what : Step) → P what (effect m seat what)
 each_event m seat P h steps.Connect =
-    at_seat m seat connect_effect (P steps.Connect) (h.nothing steps.Connect)
-    (λ s is. cond_both s.connected (silent m) (silent (after_connect m s.number)) (P steps.Connect) (λ e. h.nothing steps.Connect)
-    (λ e. h.connects s is))
+    at_seat m seat connect_effect (P steps.Connect) (h.nothing steps.Connect) (λ s is. grind (arith, common_steps))
 each_event m seat P h (steps.Ask request) =
     at_seat m seat (ask_effect request) (P (steps.Ask request)) (h.nothing (steps.Ask request)) (λ s is. grind (arith, common_steps))
-each_event m seat P h steps.End =
-    at_seat m seat end_effect (P steps.End) (h.nothing steps.End)
-    (λ s is. cond_both s.connected (silent (with_seat s.number with_end m)) (silent m) (P steps.End) (λ e. h.ends s is)
-    (λ e. h.nothing steps.End))
+each_event m seat P h steps.End = at_seat m seat end_effect (P steps.End) (h.nothing steps.End) (λ s is. grind (arith, common_steps))
 each_event m seat P h steps.Close =
-    at_seat m seat close_effect (P steps.Close) (h.nothing steps.Close)
-    (λ s is. cond_both s.connected (telling answers.Closed (after_close m s.number)) (silent m) (P steps.Close) (λ e. h.closes s is)
-    (λ e. h.nothing steps.Close))
+    at_seat m seat close_effect (P steps.Close) (h.nothing steps.Close) (λ s is. grind (arith, common_steps))
 each_event m seat P h steps.Drain = h.drains
 each_event m seat P h steps.Tick = h.nothing steps.Tick
 each_event m seat P h steps.Gone = h.nothing steps.Gone

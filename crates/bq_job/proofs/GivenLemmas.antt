@@ -202,8 +202,7 @@ connects t m last (e ∷ history) given more s free none r is =
           }
       | inr h ↦
           let quiet : (now ≡ []) × (owing t o.next ≡ 0) = grind (arith, common_steps) in
-          let c = connects t o.next last history o.rest more o.serves (h.1.connected ∙ free) quiet.1 o.runs (sym h.0 ∙ is) in
-          subst (λ (xs : List Answer). Connects t more xs last) (sym (nothing_first now rest (answers_to t given) o.all quiet.0)) c
+          grind (arith, connects t o.next last history o.rest more o.serves (h.1.connected ∙ free) quiet.1 o.runs (sym h.0 ∙ is))
     ]
 
 -- the steps only report that no more come
@@ -218,9 +217,7 @@ nothing_behind t m last [] given s none r gone = ap (answers_to t) ((run_of_none
 nothing_behind t m last (e ∷ history) given s none r gone =
     let o = one_entry t m last e history given s r in
     let finish : GetsWhatWaits m o.next t (answers_to t o.now) → are_gone (steps_at t history) ≡ true → answers_to t given ≡ [] = λ g gone'.
-    let quiet : ((answers_to t o.now) ≡ []) × (owing t o.next ≡ 0) = grind (arith, common_steps) in
-    nothing_first (answers_to t o.now) (answers_to t o.rest) (answers_to t given) o.all quiet.0
-    ∙ nothing_behind t o.next last history o.rest o.serves quiet.1 o.runs gone' in
+    grind (arith, common_steps, nothing_behind t o.next last history o.rest o.serves) in
     elim o.whose [
       | inl h ↦
           let parts = and_parts (is_gone e.what) (are_gone (steps_at t history)) (ap are_gone (sym h.0) ∙ gone) in
@@ -293,12 +290,6 @@ gives_parts P t size (line ∷ lines) own taken h m last history given s free no
     (grind (arith, common_steps, cases_Bool, within_asked)) c.runs c.steps_are in
     let g = e.goes in
     let later =
-    gives_parts P t size lines h.1 h.3 h.7 g.first last g.history g.given g.serves g.free g.owes tail after g.runs g.steps_are in (
-      e.part,
-      e.later,
-      e.unclosed,
-      (let a = e.few in let b = c.owes in let w = line_wants (heard line.seen) l.asked l.end_steps l.ends in omega arith),
-      ◌∙◌ {c = e.part ++ answers.Closed ∷ e.later} c.answers_are e.given_is,
-      subst (λ (xs : List Answer). ArePartsBefore P (most_of_lines size lines h.1 h.3 h.7) xs)
-          {x = answers_to t g.given} {y = e.later} g.answers_are later,
-    )
+    gives_parts P t size lines h.1 h.3 h.7 g.first last g.history g.given g.serves g.free g.owes tail after g.runs g.steps_are in
+    let w = line_wants (heard line.seen) l.asked l.end_steps l.ends in
+    grind arith

@@ -8,17 +8,16 @@ use Rattle.bq_job.proofs.{KeptJobLemmas.{accepted_is_kept, held_by_one_always}, 
 
 jobs_served : (settings : Settings) (taken : List Transition) (last : Machine) → GoesBy (new_machine settings) taken last
     → AreJobsServed taken (happenings (parts_of_run taken))
-jobs_served settings taken last goes = let first : Machine = new_machine settings in
+jobs_served settings taken last goes =
     record {
-      least = λ t i. run_gives_least first taken last t goes i;
-      once = λ j u. at_most_once settings taken last j goes u;
-      in_order = λ a b ua ub pri tube before out_a out_b. in_order settings taken last a b goes ua ub pri tube before out_a out_b;
-      kept = λ early late p j is there gone. accepted_is_kept settings taken last early late p j goes is there gone;
-      held = λ p i. held_by_one_always settings taken last p goes i;
-      deleted = λ t seat i d. run_deletes first taken last t seat goes i d;
-      drained = λ early more t is drains. none_after_drain first early t more last
-          (rw is at goes) drains;
-      last_id_given = λ early more seat is. none_after_last_id first taken last early seat more goes is;
+      least = search run_gives_least;
+      once = search at_most_once;
+      in_order = search in_order;
+      kept = search accepted_is_kept;
+      held = search held_by_one_always;
+      deleted = search run_deletes;
+      drained = grind (arith, none_after_drain);
+      last_id_given = search none_after_last_id;
     }
 
 pub jobs_served_in : (settings : Settings) (readings : List (Option ℕ)) (history : List Entry) (given : List GivenAnswer) (last : Machine)

@@ -1,7 +1,7 @@
 -- What the seats did fits what the core did.
 use Rattle.std.proofs.Common.{Option, ◌≡◌, ℕ, suc, ◌+◌, ◌≤◌, ◌<◌, Bool, true, false, ◌&&◌, List, [], ◌∷◌}
 use Rattle.std.proofs.Common.{◌++◌, map, length, refl, sym, ap, ◌∙◌, arith, subst, append-nil, append_assoc}
-use Rattle.std.proofs.lemmas.{Bool.{and_right}, Grind.common_steps, List.{length-append}}
+use Rattle.std.proofs.lemmas.{Bool.and_right, Grind.common_steps, List.length-append}
 use Rattle.std.specs.{List.list_any, Prelude.{◌==◌, IsTrue}}
 use Rattle.bq_job.specs.machine.{GivenAnswer, Machine.Machine, SeatRecord, Settings, empty_seat}
 use Rattle.bq_job.specs.machine.{has_closed, is_connected_at, is_waiting}
@@ -34,8 +34,7 @@ late_one asked own (a ∷ b ∷ others) written waits h i w = absurd (omega (ari
 is_done : (over : LineEnd) (asked : List Request) (own others : List Answer) (written : List ℕ) → AreAllAnswered over asked own
     → length (own ++ others) ≤ answered_count asked → IsWritten over asked own written → IsNoneUnwritten over own written
     → IsDone over asked (own ++ others) written
-is_done v1 asked own others written a i w none =
-    grind (arith, common_steps, cases_Bool, late_one)
+is_done over asked own others written a i w none = grind (arith, common_steps, late_one)
 
 -- A connection that was given at most as many answers as it wanted is owed exactly those that it
 -- took and wrote.
@@ -43,9 +42,8 @@ line_owed : (size : ℕ) (line : LineOver) (own : List Step) (got part : List An
     → part ≡ l.own ++ l.others → length part ≤ answered_count l.line_owed.steps.asked → IsLineOwed size line own part
 line_owed size line own got part l is few =
     let done = is_done line.over l.line_owed.steps.asked l.own l.others line.seen.written l.line_owed.answered
-    (let e = ap length is in omega arith) l.line_owed.written l.none_unwritten in
-    let done' = subst (λ (xs : List Answer). IsDone line.over l.line_owed.steps.asked xs line.seen.written) (sym is) done in
-    record { steps = l.line_owed.steps; answered = done'.answered; written = done'.written_is }
+    (rw is at few) l.line_owed.written l.none_unwritten in
+    rw is (record { steps = l.line_owed.steps; answered = done.answered; written = done.written_is })
 
 -- a connection's answers, its `Closed`, and what comes after
 around_closed : (xs ys zs : List Answer) → (xs ++ (ys ++ answers.Closed ∷ [])) ++ zs ≡ (xs ++ ys) ++ answers.Closed ∷ zs
@@ -61,22 +59,16 @@ lines_owed P size [] own taken more given h parts is few = (h, subst P (is ∙ a
 lines_owed P size (line ∷ lines) own taken more given h parts is few =
     let l = h.4 in
     let part = l.own ++ l.others in
-    let a : closes taken ≡ closes h.2 + closes h.3 = ap closes h.6 ∙ closes_append h.2 h.3 in
-    let b : closes h.2 ≡ closes l.own + closes (l.others ++ answers.Closed ∷ []) =
-    ap closes l.taken_is ∙ closes_append l.own (l.others ++ answers.Closed ∷ []) in
-    let c = closes_append l.others (answers.Closed ∷ []) in
     let d = lines_close size lines h.1 h.3 h.7 in
     let e = lines_number size lines h.1 h.3 h.7 in
-    let none : closes l.own ≡ 0 = omega arith in
-    let fewer : closes h.3 ≤ length lines = omega arith in
-    let unclosed : has_closed part ≡ false = unclosed_append l.own l.others (closes_unclosed l.own none) l.none_closed in
-    let took : taken ≡ part ++ answers.Closed ∷ h.3 =
-    h.6 ∙ ap (λ (xs : List Answer). xs ++ h.3) l.taken_is ∙ around_closed l.own l.others h.3 in
+    let none : (closes l.own ≡ 0) × (closes h.3 ≤ length lines) = grind (arith, common_steps, closes_append) in
+    let unclosed : has_closed part ≡ false = unclosed_append l.own l.others (closes_unclosed l.own none.0) l.none_closed in
+    let took : taken ≡ part ++ answers.Closed ∷ h.3 = grind (arith, around_closed) in
     let whole : given ≡ part ++ answers.Closed ∷ (h.3 ++ more) =
     is ∙ ap (λ (xs : List Answer). xs ++ more) took ∙ append_assoc part (answers.Closed ∷ h.3) more in
     let cut = same_cut parts.0 part parts.1 (h.3 ++ more) parts.2 unclosed (sym parts.4 ∙ whole) in
     let short : length part ≤ answered_count l.line_owed.steps.asked = let f = ap length cut.0 in let g = parts.3 in omega arith in
-    let rest = lines_owed P size lines h.1 h.3 more parts.1 h.7 parts.5 cut.1 fewer in
+    let rest = lines_owed P size lines h.1 h.3 more parts.1 h.7 parts.5 cut.1 none.1 in
     ((h.0, h.1, part, h.3, line_owed size line h.0 h.2 part l refl short, unclosed, h.5, took, rest.0), rest.1)
 
 -- In a new model no seat is taken, and no client waits.
@@ -122,14 +114,10 @@ pub doors_owed : (settings : Settings) (size : ℕ) (seat : ℕ) (doors : List (
 doors_owed settings size seat [] submitted taken waiting history all last few runs tied = tt
 doors_owed settings size seat (lines ∷ doors) submitted taken waiting history all last few runs tied =
     let done = tied.2 in
-    let steps_are = tied.0 ∙ done.submitted_is in (
-      record {
-        own = done.own;
-        of_lines = seat_owed settings size seat lines done.own (steps.Gone ∷ []) (taken seat) (waiting seat) history all last
-            (omega arith) runs steps_are tied.1 refl done.of_lines;
-        taken_is = steps_are;
-      },
-      doors_owed settings size (suc seat) doors submitted taken waiting history all last (omega arith) runs tied.3,
+    grind (
+      arith,
+      seat_owed settings size seat lines done.own (steps.Gone ∷ []) (taken seat) (waiting seat) history all last,
+      doors_owed settings size (suc seat) doors submitted taken waiting history all last,
     )
 
 pub joined : (settings : Settings) (doors : List (List LineOver)) (control : List ℕ) (failed : Bool) (readings : List (Option ℕ))
@@ -141,16 +129,10 @@ joined settings doors control failed readings history given last j =
 pub line_joined : (settings : Settings) (seat : ℕ) (line : LineOver) (readings : List (Option ℕ)) (history : List Entry)
     (given : List GivenAnswer) (last : Machine)
     → IsLineJoined settings seat line readings history given last → IsHistoryOfLine settings seat line readings
-line_joined settings seat line readings history given last j = record {
-  history = history;
-  given = given;
-  last = last;
-  run = j.run;
-  of_line = seat_owed settings settings.max_job_size seat (line ∷ [])
-      (steps_at seat history) [] j.taken j.waiting history given last j.within j.run.runs
-      (sym (append-nil (steps_at seat history))) j.answers_are refl j.served;
-  of_nobody_else = j.of_nobody_else;
-}
+line_joined settings seat line readings history given last j =
+    let owed = seat_owed settings settings.max_job_size seat (line ∷ []) (steps_at seat history) [] j.taken j.waiting history given last
+    j.within j.run.runs (sym (append-nil (steps_at seat history))) j.answers_are refl j.served in
+    grind arith
 
 -- one more connection has ended
 pub lines_more : (size : ℕ) (lines : List LineOver) (line : LineOver) (submitted more : List Step) (taken got : List Answer)

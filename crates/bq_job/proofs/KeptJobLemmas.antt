@@ -1,11 +1,11 @@
 -- A job is present from its put until its deletion, and at most one client holds it.
-use Rattle.std.proofs.Common.{◌++◌, ◌<◌, ◌∙◌, ◌∷◌, ◌≡◌, ◌⊎◌, List, Some, [], ap, arith, false, inl, inr, refl, subst, sym}
+use Rattle.std.proofs.Common.{◌++◌, ◌<◌, ◌∷◌, ◌≡◌, ◌⊎◌, List, Some, [], arith, false, inl, inr, refl}
 use Rattle.std.proofs.lemmas.Bool.{cond_both}
 use Rattle.std.proofs.lemmas.{Grind.common_steps}
-use Rattle.std.specs.{List.{AllByRecursion as All, Contains, list_any}}
+use Rattle.std.specs.List.{AllByRecursion as All, Contains, list_any}
 use Rattle.bq_job.specs.machine.{Settings, job_with, Machine.Machine}
 use Rattle.bq_job.specs.laws.{Happening, IsHeldByOne, IsKept, Part, happenings, is_deletion, parts_of_run, put}
-use Rattle.bq_job.specs.{machine.{new_machine}, promise.{GoesBy, Transition}, Types.Job}
+use Rattle.bq_job.specs.{machine.new_machine, promise.{GoesBy, Transition}, Types.Job}
 use Rattle.bq_job.proofs.{JobMoves.{Move, Moves, handing, putting, quiet}, KeptLemmas.Keeps}
 use Rattle.bq_job.proofs.{LawfulLemmas.new_is_lawful, ListLemmas.{all_at, none_in_parts}, LookupLemmas.found_job}
 use Rattle.bq_job.proofs.{LookupLemmas.{job_at_end, job_found}, OrderLemmas.{put_behind, put_now_or_behind}}
@@ -22,9 +22,7 @@ pub record IsThere (j : Job) (m : Machine) : Type 0 where
 there_after : (j : Job) (m n : Machine) (happened : List Happening) → Move m happened n → list_any (is_deletion j.id) happened ≡ false
     → IsThere j m → IsThere j n
 there_after j m n happened (quiet q) none h = grind (arith, common_steps)
-there_after j m n happened (putting p) none h =
-    let less = h.below in
-    record { job = h.job; found = put_lookup j.id m n happened p less ∙ h.found; below = omega arith; tube = h.tube; body = h.body }
+there_after j m n happened (putting p) none h = grind (arith, put_lookup j.id m n happened p)
 there_after j m n happened (handing g) none h = grind (arith, common_steps, handed_lookup j.id m n happened g, cond_both)
 
 -- present now, or put by a move to come
@@ -37,8 +35,7 @@ there_or_to_come j m n happened more (putting p) none (inr i) = grind (arith, co
 
 there_at_end : (j : Job) (m n : Machine) (parts : List Part) → Moves m parts n → list_any (is_deletion j.id) (happenings parts) ≡ false
     → IsThere j m ⊎ Contains (happenings parts) (put j) → IsThere j n
-there_at_end j m n [] moves none (inl h) = subst (IsThere j) (sym moves) h
-there_at_end j m n [] moves none (inr i) = absurd (let less = i.1 in omega arith)
+there_at_end j m n [] moves none h = grind arith
 there_at_end j m n (p ∷ parts) moves none h =
     let each = none_in_parts (is_deletion j.id) p.happened (happenings parts) none in
     there_at_end j p.machine n parts moves.1 each.1 (there_or_to_come j m p.machine p.happened (happenings parts) moves.0 each.0 h)
@@ -60,8 +57,7 @@ accepted_is_kept settings taken last early late p j goes split accepted none =
     let m = new_machine settings in
     let u = up_to m last early late p (rw split at (run_gone m taken last (new_is_lawful settings) goes)) in
     let g = parts_go m (early ++ p ∷ []) p.machine u.gone in
-    let t = there_at_end j m p.machine g.parts g.moves (rw g.told none)
-    (inr (rw g.told accepted)) in
+    let t = there_at_end j m p.machine g.parts g.moves (rw g.told none) (inr (rw g.told accepted)) in
     let found = found_job j.id p.machine.jobs t.job t.found in
     record {
       job = t.job;
@@ -69,10 +65,7 @@ accepted_is_kept settings taken last early late p j goes split accepted none =
       id_is = found.0;
       tube_is = t.tube;
       body_is = t.body;
-      alone = λ k i e.
-          let both : Some k ≡ Some t.job = sym (job_found 1 p.machine.next_id p.machine.jobs k u.keeps.ids i).0
-          ∙ ap (λ id. job_with id p.machine.jobs) e ∙ t.found in
-          (cc);
+      alone = λ k i e. let f = job_found 1 p.machine.next_id p.machine.jobs k u.keeps.ids i in grind arith;
     }
 
 held_by_one : (m : Machine) → Keeps m → IsHeldByOne m
@@ -85,6 +78,5 @@ part_keeps m n (p ∷ parts) h = (h.0.keeps, part_keeps p.machine n parts h.1)
 pub held_by_one_always : (settings : Settings) (taken : List Transition) (last : Machine) (p : Part)
     → GoesBy (new_machine settings) taken last → Contains (parts_of_run taken) p → IsHeldByOne p.machine
 held_by_one_always settings taken last p goes i =
-    let m = new_machine settings in
-    held_by_one p.machine (all_at (λ q. Keeps q.machine) (parts_of_run taken) p
-    (part_keeps m last (parts_of_run taken) (run_gone m taken last (new_is_lawful settings) goes)) i)
+    let gone = part_keeps (new_machine settings) last _ (run_gone _ taken last (new_is_lawful settings) goes) in
+    held_by_one p.machine (all_at (λ q. Keeps q.machine) (parts_of_run taken) p gone i)

@@ -56,8 +56,7 @@ ids_of_push low next (k ∷ jobs) j e h = (h.0, ids_of_push (suc k.id) next jobs
 pub kept_of_jobs : {places next : ℕ} {jobs : List Job} {seats : List SeatRecord} {draining : Bool} (f : Job → Job)
     → Kept places jobs seats next draining → ((j : Job) → (f j).id ≡ j.id)
     → ((j : Job) → has_holder seats j ≡ true → has_holder seats (f j) ≡ true) → Kept places (map f jobs) seats next draining
-kept_of_jobs {next = next} {jobs = jobs} {seats = seats} f h same held =
-    grind (arith, common_steps, ids_of_map, all_of_map, all_weaker)
+kept_of_jobs {next = next} {jobs = jobs} {seats = seats} f h same held = search (ids_of_map, all_of_map, all_weaker)
 
 -- the same if the job of one id changes
 pub kept_of_job : {places next : ℕ} {jobs : List Job} {seats : List SeatRecord} {draining : Bool} (id : ℕ) (f : Job → Job)
@@ -116,8 +115,7 @@ kept_of_seat {seats = seats} number f h mild =
 pub numbers_above : (low n : ℕ) (seats : List SeatRecord) → map (λ s. s.number) seats ≡ numbers low n → All (λ s. low ≤ s.number) seats
 numbers_above low n [] e = tt
 numbers_above low zero (s ∷ seats) e = absurd cc
-numbers_above low (suc n) (s ∷ seats) e =
-    grind (arith, common_steps, all_weaker, numbers_above (suc low) n seats)
+numbers_above low (suc n) (s ∷ seats) e = grind (arith, all_weaker, numbers_above (suc low) n seats)
 
 -- The seat that is found is the only one of its number.
 pub only_seat : (low n number : ℕ) (seats : List SeatRecord) (s : SeatRecord) → map (λ s. s.number) seats ≡ numbers low n
@@ -155,8 +153,7 @@ kept_of_close {next = next} {jobs = jobs} {seats = seats} state seat free h = gr
 -- Jobs are removed.
 pub kept_of_filter : {places next : ℕ} {jobs : List Job} {seats : List SeatRecord} {draining : Bool} (p : Job → Bool)
     → Kept places jobs seats next draining → Kept places (filter p jobs) seats next draining
-kept_of_filter {next = next} {jobs = jobs} {seats = seats} p h =
-    grind (arith, common_steps, ids_of_filter, all_weaker, all_of_filter)
+kept_of_filter {next = next} {jobs = jobs} {seats = seats} p h = grind (arith, ids_of_filter, all_weaker, all_of_filter)
 
 -- Draining begins.
 pub kept_of_drain : {places next : ℕ} {jobs : List Job} {seats : List SeatRecord} {draining : Bool} → Kept places jobs seats next draining

@@ -10,7 +10,7 @@ use Rattle.bq_job.specs.machine.{is_waiting, is_waiting_for, job_after_timers, n
 use Rattle.bq_job.specs.machine.{numbers, reserved_by, share_refused, with_job, with_seat, with_timeout, without_wait}
 use Rattle.bq_job.specs.{beside.{IsLawful, has_open_holder, waiting_count, watches_once}, machine.empty_seat}
 use Rattle.bq_job.specs.machine.{end_of_wait, forgetting, granted, growth_refused, in_state, is_paused}
-use Rattle.bq_job.specs.{machine.{is_tube}, reading.TubeName.is_same_name, Types.{Answer, Job, Step}}
+use Rattle.bq_job.specs.{machine.is_tube, reading.TubeName.is_same_name, Types.{Answer, Job, Step}}
 use Rattle.bq_job.specs.declared.job.JobState.TheVariants as states
 use Rattle.bq_job.proofs.Trace.{IsTrace, of_turns}
 use Rattle.bq_job.proofs.KeptLemmas.{Keeps, has_holder, is_open_wait, kept_of_job, kept_of_jobs, kept_of_lawful, kept_of_seat}
@@ -96,15 +96,12 @@ one_turn m n g t = record { keeps = t.keeps; waiting = let w = t.waiting in omeg
 pub turns_of_dispatches : (first : Machine) (given : List GivenAnswer) (last : Machine) → Keeps first → Dispatches first given last
     → AreTurns first given last
 turns_of_dispatches first given last h d =
-    let t = of_turns DispatchTurn turns_trace (λ m g n turn k. one_turn m n g (turn_of_dispatch m g n k turn)) first given d.end
-    d.turns h in
-    subst (AreTurns first given) (sym d.forgets) (record { keeps = t.keeps; waiting = t.waiting })
+    let t = of_turns DispatchTurn turns_trace (search (one_turn, turn_of_dispatch)) first given d.end d.turns h in grind arith
 
 turns_of_ends : (first : Machine) (given : List GivenAnswer) (last : Machine) → Keeps first → EndsWaits first given last
     → AreTurns first given last
 turns_of_ends first given last h d =
-    let t = of_turns WaitEndTurn turns_trace (λ m g n turn k. one_turn m n g (turn_of_wait_end m g n k turn)) first given d.end d.turns h in
-    subst (AreTurns first given) (sym d.forgets) (record { keeps = t.keeps; waiting = t.waiting })
+    let t = of_turns WaitEndTurn turns_trace (search (one_turn, turn_of_wait_end)) first given d.end d.turns h in grind arith
 
 -- the same of dispatch and the ends of waits together
 pub record HasServed (first : Machine) (handed ended : List GivenAnswer) (last : Machine) : Type 0 where
@@ -114,9 +111,7 @@ pub record HasServed (first : Machine) (handed ended : List GivenAnswer) (last :
 pub served : (first : Machine) (handed ended : List GivenAnswer) (last : Machine) → Keeps first → Serves first handed ended last
     → HasServed first handed ended last
 served first handed ended last h s =
-    let d = turns_of_dispatches first handed s.between h s.dispatches in
-    let e = turns_of_ends s.between ended last d.keeps s.ends_waits in
-    record { keeps = e.keeps; waiting = let a = d.waiting in let b = e.waiting in omega arith }
+    grind (arith, turns_of_dispatches first handed s.between h s.dispatches, turns_of_ends s.between ended last)
 
 -- Only records of tubes that don't exist are forgotten, so a job's tube stays paused or unpaused.
 record_kept : (m : Machine) (j : Job) (t : TubeRecord) → Contains m.jobs j → is_same_name j.tube t.name ≡ true → is_tube t.name m ≡ true
@@ -194,14 +189,12 @@ leaves_acted share_refused m seat what h = record { keeps = h; waiting = omega a
 pub step_is_lawful : (first last : Machine) (at seat : ℕ) (what : Step) (outcome : Outcome) (given : List GivenAnswer) → IsLawful first
     → IsStep first at seat what outcome given last → IsLawful last
 step_is_lawful first last at seat what outcome given h s =
-    let before = served (forgetting (after_timers (at_moment at first))) s.handed s.ended s.before
-    (kept_of_timers at first (kept_of_lawful first h)) s.serves in
+    let begin = forgetting (after_timers (at_moment at first)) in
+    let kept = kept_of_timers at first (kept_of_lawful first h) in
+    let before = served begin s.handed s.ended s.before kept s.serves in
     let act = leaves_acted s.memory s.before seat what before.keeps in
-    let books = booked_through (forgetting (after_timers (at_moment at first))) s.handed s.ended s.before
-    (booked_timers at first (booked_of_lawful first h)) s.serves in
-    lawful_when_served s.after s.handed_then s.ended_then last (subst Keeps (sym s.acts) act.keeps)
-    (subst Booked (sym s.acts) (booked_forgetting (acted s.memory s.before seat what).machine
-    (booked_acted s.memory s.before seat what books))) s.serves_then
+    let books = booked_through begin s.handed s.ended s.before (booked_timers at first (booked_of_lawful first h)) s.serves in
+    grind (arith, lawful_when_served s.after s.handed_then s.ended_then last, booked_forgetting, booked_acted)
 
 numbered : (low n : ℕ) → map (λ s. s.number) (map empty_seat (numbers low n)) ≡ numbers low n
 numbered low zero = refl

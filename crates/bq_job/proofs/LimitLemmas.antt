@@ -1,6 +1,6 @@
 -- There are never more jobs than the job limit.
 use Rattle.std.proofs.Common.{◌∙◌, ◌∷◌, ◌≡◌, ◌≤◌, List, Some, [], ℕ, arith, length, refl, subst, sym}
-use Rattle.std.proofs.lemmas.{Bool.cases_Bool, Grind.common_steps, List.length-map}
+use Rattle.std.proofs.lemmas.{Grind.common_steps, List.length-map}
 use Rattle.std.specs.List.{AllByRecursion as All, Contains}
 use Rattle.bq_job.specs.{beside.IsLawful, laws.{Part, parts_in, parts_of_run}}
 use Rattle.bq_job.specs.machine.{acted, after_timers, at_moment}
@@ -34,8 +34,7 @@ within_steady settings m n w s = grind arith
 -- A command adds a job only within the limit.
 by_command : (settings : Settings) (what : Step) (m n : Machine) → n.settings ≡ m.settings → After what m n → IsWithin settings m
     → IsWithin settings n
-by_command settings what m n same v6 w =
-    grind (arith, common_steps, cases_Bool, within_then, length-map, filter_no_longer)
+by_command settings what m n same after w = grind (arith, common_steps, within_then, length-map, filter_no_longer)
 
 -- the parts of a step
 within_parts : (settings : Settings) (t : Transition) → Keeps t.first → IsTransition t → IsWithin settings t.first
@@ -72,6 +71,5 @@ pub few_always : (settings : Settings) (taken : List Transition) (last : Machine
     → GoesBy (new_machine settings) taken last → Contains (parts_of_run taken) p → settings.max_jobs ≡ Some most
     → length p.machine.jobs ≤ most
 few_always settings taken last p most goes i e =
-    let none : IsWithin settings (new_machine settings) = record { chosen = refl; few = λ n f. omega arith } in
-    (all_at (λ (q : Part). IsWithin settings q.machine) (parts_of_run taken) p
-    (within_run settings (new_machine settings) taken last (new_is_lawful settings) goes none) i).few most e
+    let within = within_run settings (new_machine settings) taken last (new_is_lawful settings) goes (grind arith) in
+    (all_at (λ (q : Part). IsWithin settings q.machine) (parts_of_run taken) p within i).few most e

@@ -15,11 +15,7 @@ pub first_line-append : (text more : List ℕ) (l : List ℕ × List ℕ) → fi
     → first_line (text ++ more) ≡ Some (l.0, l.1 ++ more)
 first_line-append [] more l e = cc
 first_line-append (a ∷ []) more l e = cc
-first_line-append (a ∷ b ∷ bytes) more l e =
-    elim (first_line_cases (are_line_end a b) a bytes (first_line (b ∷ bytes)) l e) [
-      | inl h ↦ rw (h.0, ← h.1)
-      | inr h ↦ rw (h.1, first_line-append (b ∷ bytes) more h.0 h.2, ← h.3)
-    ]
+first_line-append (a ∷ b ∷ bytes) more l e = grind (arith, first_line_cases, first_line-append (b ∷ bytes) more)
 
 -- a text is its first line, CR LF, and the rest
 pub first_line_is : (text : List ℕ) (l : List ℕ × List ℕ) → first_line text ≡ Some l → text ≡ l.0 ++ 13 ∷ 10 ∷ l.1

@@ -1,12 +1,12 @@
 -- Facts about lists of any elements: tests, changes of each element, counts.
 use Rattle.std.proofs.Common.{◌≡◌, ◌≤◌, ◌<◌, ◌+◌, Bool, true, false, ◌&&◌, not, cond, List}
-use Rattle.std.proofs.Common.{[], ◌∷◌, ◌++◌, map, arith, refl, sym, ap, ◌∙◌, subst}
+use Rattle.std.proofs.Common.{[], ◌∷◌, ◌++◌, map, arith, refl, sym, ap, ◌∙◌}
 use Rattle.std.proofs.lemmas.Bool.{cases_Bool, and_parts, and_from, or_parts, or_from}
 use Rattle.std.proofs.lemmas.Bool.{or_left, or_right, or_cases, both_ways, false_from_ne_true}
 use Rattle.std.proofs.lemmas.List.Elements.{All-from_recursion, recursion_from_All, All-contains}
 use Rattle.std.proofs.lemmas.List.Elements.{All-contains_itself, Contains-append_right}
 use Rattle.std.proofs.{Common.{Some, count_by, filter, find, flat_map, length}, lemmas.Grind.common_steps}
-use Rattle.std.proofs.lemmas.List.{Concat.flat_map-cons, Folds.{list_any-append, list_any-from_Any}, Sums.sum_by-cons}
+use Rattle.std.proofs.lemmas.List.{Folds.{list_any-append, list_any-from_Any}, Sums.sum_by-cons}
 use Rattle.std.specs.List.{AllByRecursion as All, Contains, list_any, list_all}
 
 -- the head of a list and its rest
@@ -49,8 +49,7 @@ all_before_map P f [] h = tt
 all_before_map P f (x ∷ xs) h = (h.0, all_before_map P f xs h.1)
 
 pub all_of_append : {X : Type 0} (P : X → Type 0) (xs ys : List X) → All P xs → All P ys → All P (xs ++ ys)
-all_of_append P [] ys h i = i
-all_of_append P (x ∷ xs) ys h i = (h.0, all_of_append P xs ys h.1 i)
+all_of_append P xs ys h i = grind (arith, common_steps)
 
 -- what is kept by a filter passes, and what held of all holds of it
 pub all_of_filter : {X : Type 0} (P : X → Type 0) (p : X → Bool) (xs : List X) → All P xs → All (λ x. P x × (p x ≡ true)) (filter p xs)
@@ -87,8 +86,7 @@ list_any_with p xs x i h = list_any-from_Any p xs (i.0, x, i.1, i.2, h)
 pub list_any_of_map : {X Y : Type 0} (p : X → Bool) (q : Y → Bool) (f : X → Y) (xs : List X) → All (λ x. p x ≡ true → q (f x) ≡ true) xs
     → list_any p xs ≡ true → list_any q (map f xs) ≡ true
 list_any_of_map p q f [] w h = h
-list_any_of_map p q f (x ∷ xs) w h =
-    grind (arith, common_steps, or_cases, or_left, or_right, list_any_of_map p q f xs)
+list_any_of_map p q f (x ∷ xs) w h = grind (arith, or_cases, or_left, or_right, list_any_of_map p q f xs)
 
 -- a change that keeps the keys keeps the list of keys
 pub keys_of_map : {X K : Type 0} (key : X → K) (f : X → X) (xs : List X) → All (λ x. key (f x) ≡ key x) xs → map key (map f xs) ≡ map key xs
@@ -111,8 +109,7 @@ count_of_map p f (x ∷ xs) w = grind (arith, common_steps, count_cons, one_or_n
 pub count_falls : {X : Type 0} (p : X → Bool) (f : X → X) (xs : List X) → All (λ x. p (f x) ≡ true → p x ≡ true) xs
     → list_any (λ x. p x && not (p (f x))) xs ≡ true → count_by p (map f xs) < count_by p xs
 count_falls p f [] w h = absurd cc
-count_falls p f (x ∷ xs) w h =
-    grind (arith, common_steps, count_cons, or_cases, count_of_map, one_or_none, count_falls p f xs)
+count_falls p f (x ∷ xs) w h = grind (arith, count_cons, or_cases, count_of_map, one_or_none, count_falls p f xs)
 
 -- if none is counted, none passes
 pub count_none : {X : Type 0} (p : X → Bool) (xs : List X) → count_by p xs ≤ 0 → All (λ x. p x ≡ false) xs
@@ -122,14 +119,12 @@ count_none p (x ∷ xs) h = grind (arith, common_steps, count_cons, count_none p
 -- what a search finds passes and is in the list
 pub found_passes : {X : Type 0} (p : X → Bool) (xs : List X) (x : X) → find p xs ≡ Some x → (p x ≡ true) × Contains xs x
 found_passes p [] x h = absurd cc
-found_passes p (y ∷ ys) x h =
-    grind (arith, common_steps, cases_Bool, contains_head, contains_tail, found_passes p ys x)
+found_passes p (y ∷ ys) x h = grind (arith, contains_head, contains_tail, found_passes p ys x)
 
 -- A filter that keeps every element that passes does not change the result of a search.
 pub find_in_filter : {X : Type 0} (p q : X → Bool) (xs : List X) → All (λ x. p x ≡ true → q x ≡ true) xs → find p (filter q xs) ≡ find p xs
 find_in_filter p q [] h = refl
-find_in_filter p q (x ∷ xs) h =
-    grind (arith, common_steps, cases_Bool, false_from_ne_true, both_ways, find_in_filter p q xs h.1)
+find_in_filter p q (x ∷ xs) h = grind (arith, false_from_ne_true, both_ways, find_in_filter p q xs h.1)
 
 -- if all pass, all are kept
 pub filter_all : {X : Type 0} (p : X → Bool) (xs : List X) → All (λ x. p x ≡ true) xs → filter p xs ≡ xs
@@ -142,8 +137,7 @@ filter_no_longer p (x ∷ xs) = grind (arith, common_steps, cases_Bool, filter_n
 
 -- tests that agree
 pub list_all_agree : {X : Type 0} (p q : X → Bool) → ((x : X) → p x ≡ q x) → (xs : List X) → list_all p xs ≡ list_all q xs
-list_all_agree p q same [] = refl
-list_all_agree p q same (x ∷ xs) = rw (same x, list_all_agree p q same xs) refl
+list_all_agree p q same xs = grind arith
 
 -- a change that changes no element
 pub map_all_same : {X : Type 0} (f : X → X) (xs : List X) → All (λ x. f x ≡ x) xs → map f xs ≡ xs
@@ -161,5 +155,4 @@ all_parts P (x ∷ xs) ys h = let rest = all_parts P xs ys h.1 in ((h.0, rest.0)
 -- what holds of all joined lists holds of each of them
 pub all_of_flat_map : {X Y : Type 0} (P : Y → Type 0) (f : X → List Y) (xs : List X) → All P (flat_map f xs) → All (λ x. All P (f x)) xs
 all_of_flat_map P f [] h = tt
-all_of_flat_map P f (x ∷ xs) h = let parts = all_parts P (f x) (flat_map f xs) (subst (All P) (flat_map-cons f x xs) h) in
-    (parts.0, all_of_flat_map P f xs parts.1)
+all_of_flat_map P f (x ∷ xs) h = let parts = all_parts P (f x) (flat_map f xs) h in (parts.0, all_of_flat_map P f xs parts.1)

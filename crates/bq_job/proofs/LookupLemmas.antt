@@ -2,7 +2,7 @@
 -- addition.
 use Rattle.std.proofs.Common.{ℕ, zero, suc, ◌≡◌, ◌≤◌, ◌<◌, false, not, cond, List, [], ◌∷◌, ◌++◌, map, arith, refl, Some, None}
 use Rattle.std.proofs.lemmas.{Bool.{both_ways, cases_Bool, eq-eqb, eqb-true}, Grind.common_steps}
-use Rattle.std.specs.{List.{Contains}, Prelude.{◌==◌, filter, option_map}}
+use Rattle.std.specs.{List.Contains, Prelude.{◌==◌, filter, option_map}}
 use Rattle.bq_job.specs.{beside.AreIdsWithin, declared.job.Job.Job, machine.job_with}
 use Rattle.bq_job.proofs.ListLemmas.{found_passes, contains_head}
 
@@ -23,9 +23,7 @@ job_found_above : (low next : ℕ) (jobs : List Job) (j : Job) → AreIdsWithin 
     → (low ≤ j.id) × (job_with j.id jobs ≡ Some j) × (j.id < next)
 job_found_above low next [] j h (n, less, is) = absurd (omega arith)
 job_found_above low next (k ∷ jobs) j h (zero, less, is) = grind (arith, ids_up)
-job_found_above low next (k ∷ jobs) j h (suc n, less, is) =
-    let rest = job_found_above (suc k.id) next jobs j h.1 (n, omega arith, is) in
-    grind arith
+job_found_above low next (k ∷ jobs) j h (suc n, less, is) = grind (arith, job_found_above (suc k.id) next jobs j h.1)
 
 -- each job of the list is found by its id
 pub job_found : (low next : ℕ) (jobs : List Job) (j : Job) → AreIdsWithin low jobs next → Contains jobs j

@@ -54,8 +54,7 @@ rest_in_order o names h = grind (arith, common_steps, cases_Bool, and_parts)
 -- the first of ordered names comes before all others, and a name that does so may be put first
 pub first_of_order : (o : List ℕ) (names : List (List ℕ)) → is_in_order (o ∷ names) ≡ true → All (λ n. is_name_before o n ≡ true) names
 first_of_order o [] h = tt
-first_of_order o (x ∷ names) h =
-    grind (arith, common_steps, and_parts, all_weaker, before_trans, first_of_order x names)
+first_of_order o (x ∷ names) h = grind (arith, and_parts, all_weaker, before_trans, first_of_order x names)
 
 pub in_order_from : (o : List ℕ) (names : List (List ℕ)) → All (λ n. is_name_before o n ≡ true) names → is_in_order names ≡ true
     → is_in_order (o ∷ names) ≡ true
@@ -69,8 +68,7 @@ put_last n (o ∷ names) more h =
 
 pub stays_fold : (names so_far : List (List ℕ)) → is_in_order (so_far ++ names) ≡ true → fold with_name so_far names ≡ so_far ++ names
 stays_fold [] so_far h = sym (append-nil so_far)
-stays_fold (n ∷ names) so_far h =
-    grind (arith, common_steps, put_last, append_assoc, stays_fold names (so_far ++ n ∷ []))
+stays_fold (n ∷ names) so_far h = grind (arith, put_last, append_assoc, stays_fold names (so_far ++ n ∷ []))
 
 -- a name is among names to which one was added if it is that name or was among them
 any_with : (p : List ℕ → Bool) (n : List ℕ) (names : List (List ℕ)) → list_any p (with_name names n) ≡ (p n || list_any p names)

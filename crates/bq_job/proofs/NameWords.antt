@@ -41,8 +41,7 @@ digits a b c d e f g h i j k l m n o p sa sb sc sd se sf sg sh si sj sk sl sm sn
 -- two lists that begin with equally many elements
 seam : (xs ys rest others : List ℕ) → length xs ≡ length ys
     → slice_cmp nat_cmp (xs ++ rest) (ys ++ others) ≡ ordering_then (slice_cmp nat_cmp xs ys) (slice_cmp nat_cmp rest others)
-seam [] [] rest others e = refl
-seam [] (y ∷ ys) rest others e = absurd (omega arith)
+seam [] ys rest others e = grind arith
 seam (x ∷ xs) [] rest others e = absurd (omega arith)
 seam (x ∷ xs) (y ∷ ys) rest others e = grind (arith, common_steps, seam xs ys rest others (omega arith))
 
@@ -114,9 +113,7 @@ padded zero n [] (y ∷ b) e p q = absurd (omega arith)
 padded (suc m) n [] (y ∷ b) e p q = rw (less_is 0 y (byte_pos y ((and_parts (name_byte y) (list_all name_byte b) q).0))) refl
 padded m zero (x ∷ a) [] e p q = absurd (omega arith)
 padded m (suc n) (x ∷ a) [] e p q = rw (more_is x 0 (byte_pos x ((and_parts (name_byte x) (list_all name_byte a) p).0))) refl
-padded m n (x ∷ a) (y ∷ b) e p q = ap (ordering_then (nat_cmp x y))
-    (padded m n a b (omega arith) ((and_parts (name_byte x) (list_all name_byte a) p).1)
-    ((and_parts (name_byte y) (list_all name_byte b) q).1))
+padded m n (x ∷ a) (y ∷ b) e p q = grind (arith, and_parts, padded m n a b)
 
 -- the front of the array of a name
 front_is : (name : List ℕ) (k : ℕ) → length name ≤ k → k ≤ 200 → take k (filled_up name) ≡ name ++ replicate (k - length name) 0
@@ -132,5 +129,4 @@ wholes_compare a b bytes others is other_is named other_named long other_long = 
 pub fronts_compare : (a b bytes others : List ℕ) (k : ℕ) → bytes ≡ filled_up a → others ≡ filled_up b → is_tube_name a ≡ true
     → is_tube_name b ≡ true → length a ≤ k → length b ≤ k → k ≤ 200
     → slice_cmp nat_cmp (take k bytes) (take k others) ≡ slice_cmp nat_cmp a b
-fronts_compare a b bytes others k is other_is named other_named long other_long fits =
-    grind (arith, common_steps, front_is, padded, and_parts)
+fronts_compare a b bytes others k is other_is named other_named long other_long fits = grind (arith, front_is, padded, and_parts)

@@ -59,8 +59,7 @@ module _ (m : Machine) (at : ℕ) (h : IsLawful m) (early : IsTrue (is_before (a
   seats_later = grind (arith, common_steps, all_of_flat_map, all_parts (IsLater now) (of_jobs ++ of_tubes) of_seats all_later, all_later)
 
   timeouts_same : grown (count_by (λ j. is_expired now j.state) m.jobs) m.timeouts ≡ m.timeouts
-  timeouts_same =
-      grind (arith, common_steps, count_all_not, all_weaker, jobs_later, min-eq_left, booked_of_lawful)
+  timeouts_same = grind (arith, count_all_not, all_weaker, jobs_later, min-eq_left, booked_of_lawful)
 
   fired_same : after_timers (at_moment at m) ≡ at_moment at m
   fired_same = grind (arith, common_steps, map_all_same, all_weaker, jobs_later, tubes_later, timeouts_same)
@@ -95,9 +94,7 @@ module _ (m : Machine) (at : ℕ) (h : IsLawful m) (early : IsTrue (is_before (a
   serves_none : (first : Machine) (handed ended : List GivenAnswer) (last : Machine) → first ≡ at_moment at m
       → Serves first handed ended last → (handed ≡ []) × (ended ≡ []) × (last ≡ at_moment at m)
   serves_none first handed ended last is s =
-      let q = serves_nobody (at_moment at m) handed ended last h.dispatched no_wait_ends forgotten_same
-      (rw is at s) in
-      (q.none_handed, q.none_ended, q.same)
+      grind (arith, serves_nobody (at_moment at m) handed ended last h.dispatched no_wait_ends forgotten_same)
 
   granted_here : (memory : Memory) (n : Machine) (seat : ℕ) → IsTrue (is_possible memory n seat steps.Tick)
       → ((acted memory n seat steps.Tick).machine ≡ n) × (addressed seat (acted memory n seat steps.Tick).answer ≡ [])

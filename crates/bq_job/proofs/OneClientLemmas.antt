@@ -41,8 +41,7 @@ passes_itself : (seat : ℕ) (seats : List SeatRecord) → Passes seat seats sea
 passes_itself seat seats = record { count = omega arith; unclosed = refl; connected = refl; ended = refl; numbers = refl }
 
 pub answers_append : (seat : ℕ) (xs ys : List GivenAnswer) → answers_to seat (xs ++ ys) ≡ answers_to seat xs ++ answers_to seat ys
-answers_append seat [] ys = refl
-answers_append seat (g ∷ xs) ys = grind (arith, common_steps, cases_Bool, answers_append seat xs ys)
+answers_append seat xs ys = grind (arith, common_steps)
 
 pub unclosed_append : (xs ys : List Answer) → has_closed xs ≡ false → has_closed ys ≡ false → has_closed (xs ++ ys) ≡ false
 unclosed_append xs ys h i = list_any-append is_closed_answer xs ys ∙ or_from (has_closed xs) (has_closed ys) h i
@@ -157,26 +156,23 @@ finds_seat low (suc n) seat (s ∷ seats) e from below =
     let rest : map (λ s. s.number) seats ≡ numbers (suc low) n = (cc) in
     elim (cases_Bool (s.number == seat)) [
       | inl b ↦ (s, rw b refl)
-      | inr b ↦
-          let other = eqb-false s.number seat b in
-          let more = finds_seat (suc low) n seat seats rest (omega arith) (omega arith) in
-          (more.0, rw b (more.1))
+      | inr b ↦ grind (arith, common_steps, eqb-false, finds_seat (suc low) n seat seats rest)
     ]
 
 pub finds : (n seat : ℕ) (seats : List SeatRecord) → map (λ s. s.number) seats ≡ numbers 0 n → seat < n → Found seat seats
 finds n seat seats e below =
     let f = finds_seat 0 n seat seats e (omega arith) (omega arith) in
     let p = found_passes (λ s. s.number == seat) seats f.0 f.1 in
-    let is : (f.0).number ≡ seat = eqb-true (f.0).number seat p.0 in
-    let alone = only_seat 0 n seat seats f.0 e f.1 in
+    let is = eqb-true (f.0).number seat p.0 in
+    let any = λ (q : SeatRecord → Bool). found_any seat seats f.0 q is p.1 (only_seat 0 n seat seats f.0 e f.1) in
     record {
       client = f.0;
       found = f.1;
       number = is;
       there = p.1;
-      waits = found_any seat seats f.0 is_waiting is p.1 alone;
-      connected = found_any seat seats f.0 (λ s. s.connected) is p.1 alone;
-      ended = found_any seat seats f.0 (λ s. s.ended) is p.1 alone;
+      waits = any is_waiting;
+      connected = any (λ s. s.connected);
+      ended = any (λ s. s.ended);
     }
 
 -- The changed seat passes a test that every change passes.

@@ -1,6 +1,6 @@
 -- Runs that have not ended: once all seats are gone, what is owed so far is the final promise.
 use Rattle.std.proofs.Common.{◌≡◌, ℕ, suc, zero, ◌+◌, ◌≤◌, ◌<◌, Bool, true, false, List, [], ◌∷◌, ◌++◌, Option, Some, None}
-use Rattle.std.proofs.Common.{map, length, replicate, refl, sym, ap, ◌∙◌, arith, inl, inr, append-nil, append_assoc}
+use Rattle.std.proofs.Common.{map, length, replicate, refl, ap, ◌∙◌, arith, append-nil, append_assoc}
 use Rattle.std.proofs.lemmas.Grind.{common_steps}
 use Rattle.std.proofs.lemmas.{Bool.{cases_Bool, or_from}, List.{Folds.list_any-append, length-map, map-append}}
 use Rattle.std.specs.List.{list_any}
@@ -31,10 +31,7 @@ lines_go_on : (size : ℕ) (lines : List LineOver) (own : List Step) (got : List
 lines_go_on size [] own got h = ap (λ (xs : List Step). list_any is_gone xs) h.0
 lines_go_on size (line ∷ lines) own got h =
     let l = h.4.steps in
-    ap (λ (xs : List Step). list_any is_gone xs) h.6
-    ∙ both_go_on h.0 h.1
-    (ap (λ (xs : List Step). list_any is_gone xs) l.steps_are ∙ line_goes_on (heard line.seen) l.asked l.end_steps l.ends)
-    (lines_go_on size lines h.1 h.3 h.8)
+    grind (arith, both_go_on, line_goes_on (heard line.seen) l.asked l.end_steps l.ends, lines_go_on size lines h.1 h.3 h.8)
 
 -- ---- a door that is gone
 
@@ -43,9 +40,7 @@ out_is_gone : (size : ℕ) (out : Option LineSeen) (taken : List Step) (answers 
 out_is_gone size None taken answers h gone = grind (arith, common_steps)
 out_is_gone size (Some line) taken answers h gone =
     let s = h.of_steps in
-    let none = none_in_parts is_gone taken s.more
-    (ap (λ (xs : List Step). list_any is_gone xs) (sym s.begins) ∙ line_goes_on (heard line) s.asked s.end_steps s.ends) in
-    absurd (let e = none.0 in cc)
+    grind (arith, none_in_parts is_gone taken s.more, line_goes_on (heard line) s.asked s.end_steps s.ends)
 
 current_is_gone : (size : ℕ) (door : DoorSoFar) (taken : List Step) (answers : List Answer) (d : IsDoorOwedSoFar size door taken answers)
     → list_any is_gone taken ≡ true → d.current ≡ steps.Gone ∷ []
@@ -70,14 +65,8 @@ module _ (settings : Settings) (history : List Entry) (all : List GivenAnswer) (
   doors_final seat [] few h gone = tt
   doors_final seat (door ∷ doors) few h gone =
       let d = h.0 in
-      let is = current_is_gone settings.max_job_size door (steps_at seat history) (answers_to seat all) d (gone seat (omega arith)) in (
-        record {
-          own = d.own;
-          of_lines = door_owed seat door (omega arith) d (ap are_gone is);
-          taken_is = d.taken_is ∙ ap (λ (xs : List Step). d.own ++ xs) is;
-        },
-        doors_final (suc seat) doors (omega arith) h.1 gone,
-      )
+      let is = current_is_gone settings.max_job_size door (steps_at seat history) (answers_to seat all) d (gone seat (omega arith)) in
+      grind (arith, common_steps, door_owed seat door, doors_final (suc seat) doors)
 
 -- ---- a control line that is gone
 
@@ -100,15 +89,10 @@ control_final text failed submitted c gone = grind (arith, common_steps, append-
 pub final_once_gone : (settings : Settings) (doors : List DoorSoFar) (control : List ℕ) (failed : Bool) (readings : List (Option ℕ))
     (last : Machine) (h : IsHistorySoFar settings doors control failed readings last) → AreAllGone settings.seats h.history
     → IsHistoryOf settings (map (λ (d : DoorSoFar). d.over) doors) control failed readings last
-final_once_gone settings doors control failed readings last h gone = record {
-  history = h.history;
-  given = h.given;
-  run = h.run;
-  many = length-map doors (λ (d : DoorSoFar). d.over) ∙ h.many;
-  of_doors = doors_final settings h.history h.given last h.run.runs 0 doors (let a = h.many in omega arith) h.of_doors gone;
-  of_control = control_final control failed (steps_at settings.seats h.history) h.of_control (gone settings.seats (omega arith));
-  of_nobody_else = h.of_nobody_else;
-}
+final_once_gone settings doors control failed readings last h gone =
+    let doors_owed = doors_final settings h.history h.given last h.run.runs 0 doors (let a = h.many in omega arith) h.of_doors gone in
+    let control_done = control_final control failed (steps_at settings.seats h.history) h.of_control (gone settings.seats (omega arith)) in
+    grind (arith, length-map doors (λ (d : DoorSoFar). d.over))
 
 -- ---- the first entries of a run
 
@@ -125,21 +109,13 @@ run_cut first last [] late given r = grind (arith, run_none first)
 run_cut first last (e ∷ early) late given r =
     let b = run_first first last e (early ++ late) given r in
     let c = run_cut b.next last early late b.more b.rest in
-    record {
-      now = b.now ++ c.now;
-      later = c.later;
-      machine = c.machine;
-      runs = run_from first b.next c.machine e early b.outcome b.now c.now b.step c.runs;
-      given_is = b.given_is ∙ ap (λ (xs : List GivenAnswer). b.now ++ xs) c.given_is ∙ sym (append_assoc b.now c.now c.later);
-    }
+    let runs = run_from first b.next c.machine e early b.outcome b.now c.now b.step c.runs in
+    grind (arith, append_assoc b.now c.now c.later)
 
 picked_first : (xs ys moments : List ℕ) → ArePickedFrom (xs ++ ys) moments → ArePickedFrom xs moments
 picked_first [] ys moments h = tt
 picked_first (x ∷ xs) ys [] h = absurd h
-picked_first (x ∷ xs) ys (moment ∷ moments) h = elim h [
-  | inl p ↦ inl (p.0, picked_first xs ys moments p.1)
-  | inr p ↦ inr (picked_first (x ∷ xs) ys moments p)
-]
+picked_first (x ∷ xs) ys (moment ∷ moments) h = grind (arith, picked_first xs ys moments, picked_first (x ∷ xs) ys moments)
 
 pub run_begins : (settings : Settings) (readings : List (Option ℕ)) (early late : List Entry) (given : List GivenAnswer) (last : Machine)
     → IsRun settings readings (early ++ late) given last → RunBegins settings readings early given

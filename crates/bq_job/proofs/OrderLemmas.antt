@@ -2,8 +2,8 @@
 use Rattle.std.proofs.Common.{ℕ, ◌≡◌, ◌≤◌, ◌<◌, Bool, true, false, List, [], ◌∷◌}
 use Rattle.std.proofs.Common.{◌++◌, arith, refl, sym, ap, ◌∙◌, inl, inr, ◌⊎◌, Some}
 use Rattle.std.proofs.lemmas.Bool.{both_ways, cases_Bool, eq-eqb, eqb-true, or_from, or_parts}
-use Rattle.std.proofs.lemmas.{Grind.common_steps, List.{Elements.Contains-append_cases}}
-use Rattle.std.specs.{List.{AllByRecursion as All, Contains, list_any}, Prelude.{◌==◌}}
+use Rattle.std.proofs.lemmas.{Grind.common_steps, List.Elements.Contains-append_cases}
+use Rattle.std.specs.{List.{AllByRecursion as All, Contains, list_any}, Prelude.◌==◌}
 use Rattle.bq_job.specs.{declared.job.Job.Job, laws.{Happening, Part, comes_first, disturbs, happenings, is_hand_out}}
 use Rattle.bq_job.specs.{laws.{is_put, put}, machine.{is_ready, job_with, Machine.Machine}}
 use Rattle.bq_job.proofs.JobMoves.{IsHandOutMove, IsPutMove, IsQuiet, Move, Moves, quiet, putting, handing, is_plain}
@@ -14,8 +14,7 @@ use Rattle.bq_job.proofs.SpentLemmas.{none_handed, none_more, put_lookup, spent_
 comes_behind : (one other : Happening → Bool) (happened more : List Happening) → list_any one happened ≡ false
     → list_any other happened ≡ false → comes_first one other (happened ++ more) ≡ comes_first one other more
 comes_behind one other [] more h i = refl
-comes_behind one other (x ∷ happened) more h i =
-    grind (arith, common_steps, or_parts, comes_behind one other happened more)
+comes_behind one other (x ∷ happened) more h i = grind (arith, or_parts, comes_behind one other happened more)
 
 plain_puts_none : (id : ℕ) (happened : List Happening) → All (λ h. is_plain h ≡ true) happened → list_any (is_put id) happened ≡ false
 plain_puts_none id [] plain = refl
@@ -58,13 +57,8 @@ ids_in_order id b m n (p ∷ parts) moves first i = at_move (ids_in_order id b p
     at_move go (handing h) = later go (ap (list_any (is_put id)) h.happened_is) (ap (list_any (is_put b.id)) h.happened_is)
         (put_behind b m p.machine p.happened (happenings parts) (inr h) i)
     at_move go (putting q) =
-        elim (cases_Bool (q.job.id == id)) [
-          | inl e ↦
-              let at = eqb-true q.job.id id e in let is = q.id in
-              let above = put_above b m n (p ∷ parts) moves i in
-              omega arith
-          | inr e ↦ grind (arith, common_steps, cases_Bool, both_ways, put_now_or_behind, eq-eqb)
-        ]
+        let above = put_above b m n (p ∷ parts) moves i in
+        grind (arith, common_steps, cases_Bool, both_ways, put_now_or_behind, eqb-true, eq-eqb)
 
 -- the job is ready, as it was put
 pub record IsReadyAs (j : Job) (m : Machine) : Type 0 where
@@ -86,26 +80,14 @@ stands_after : (j : Job) (m n k : Machine) (happened : List Happening) (parts : 
     → j.delay ≡ 0 → list_any (disturbs j.id) happened ≡ false → Stands j m (happened ++ happenings parts) → Stands j n (happenings parts)
 stands_after j m n k happened parts move moves now still (spent s) = spent (spent_after j.id m n happened move still s)
 stands_after j m n k happened parts (quiet q) moves now still (waits r) = grind (arith, common_steps)
-stands_after j m n k happened parts (putting p) moves now still (waits r) =
-    let less = r.below in
-    waits (record {
-      job = r.job;
-      there = put_lookup j.id m n happened p less
-          ∙ r.there;
-      below = omega arith;
-      ready = r.ready;
-      pri = r.pri;
-      tube = r.tube;
-    })
+stands_after j m n k happened parts (putting p) moves now still (waits r) = waits (grind (arith, put_lookup j.id m n happened p r.below))
 stands_after j m n k happened parts (handing h) moves now still (waits r) =
     grind (arith, common_steps, handed_lookup j.id m n happened h)
 stands_after j m n k happened parts (quiet q) moves now still (unborn above i) = grind (arith, common_steps, unborn, put_behind)
 stands_after j m n k happened parts (handing h) moves now still (unborn above i) = grind arith
 stands_after j m n k happened parts (putting p) moves now still (unborn above i) =
-    elim (put_now_or_behind j m n happened (happenings parts) p i) [
-      | inl e ↦ grind (arith, common_steps, job_at_end)
-      | inr e ↦ unborn (put_above j n k parts moves e) e
-    ]
+    let seen = put_now_or_behind j m n happened (happenings parts) p i in
+    grind (arith, common_steps, job_at_end, unborn, put_above j n k parts moves)
 
 -- of two such jobs, the first is handed out first
 pub handed_in_order : (a b : Job) (m n : Machine) (parts : List Part) → Moves m parts n → a.delay ≡ 0 → b.delay ≡ 0 → a.pri ≡ b.pri

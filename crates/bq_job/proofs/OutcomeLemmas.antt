@@ -2,7 +2,7 @@
 use Rattle.std.proofs.Common.{ℕ, ◌≡◌, Bool, false, ◌||◌, List, [], ◌∷◌, refl, sym, ap, ◌∙◌, subst, Option, Some, None, arith}
 use Rattle.std.proofs.lemmas.{Bool.or_parts, Grind.common_steps}
 use Rattle.std.specs.List.{list_any}
-use Rattle.bq_job.specs.machine.{Chain, DispatchTurn, Effect, GivenAnswer, IsStep, Machine.Machine, Memory, Outcome}
+use Rattle.bq_job.specs.machine.{Chain, DispatchTurn, GivenAnswer, IsStep, Machine.Machine, Outcome}
 use Rattle.bq_job.specs.machine.{Serves, WaitEndTurn, acted, after_timers, at_moment, forgetting}
 use Rattle.bq_job.specs.machine.{has_refused_share, is_out_of_memory, is_share_refused, next_end}
 use Rattle.bq_job.specs.{beside.{ample, stepped}, machine.next_job, Types.Step}
@@ -37,8 +37,7 @@ module _ (Turns : Machine → GivenAnswer → Machine → Type 0) (fine : GivenA
   chain_one first [] [] last end e f d c a b = (refl, a ∙ sym b)
   chain_one first [] (y ∷ ys) last end e f d c a b = absurd (none first y b.0 (subst Done a d) b.1)
   chain_one first (x ∷ xs) [] last end e f d c a b = absurd (none first x a.0 (subst Done b c) a.1)
-  chain_one first (x ∷ xs) (y ∷ ys) last end e f d c a b =
-      grind (arith, common_steps, or_parts, chain_one a.0 xs ys last end)
+  chain_one first (x ∷ xs) (y ∷ ys) last end e f d c a b = grind (arith, or_parts, chain_one a.0 xs ys last end)
 
 none_fails : (given : List GivenAnswer) → list_any (λ g. false) given ≡ false
 none_fails [] = refl
@@ -68,22 +67,18 @@ pub one_result : (first last other : Machine) (at seat : ℕ) (what : Step) (out
     → outcome.unshared ≡ false → IsStep first at seat what outcome given last → IsStep first at seat what outcome others other
     → (given ≡ others) × (last ≡ other)
 one_result first last other at seat what outcome given others shared a b =
-    let p = parts_of_sharing a.memory a.handed a.handed_then (sym a.unshared ∙ shared) in
-    let q = parts_of_sharing b.memory b.handed b.handed_then (sym b.unshared ∙ shared) in
+    let p : (is_share_refused a.memory ≡ false) × (has_refused_share a.handed ≡ false) × (has_refused_share a.handed_then ≡ false) =
+    grind (arith, common_steps, or_parts) in
+    let q : (is_share_refused b.memory ≡ false) × (has_refused_share b.handed ≡ false) × (has_refused_share b.handed_then ≡ false) =
+    grind (arith, common_steps, or_parts) in
     let memory : a.memory ≡ b.memory = grind (arith, common_steps) in
     let one = serves_one (forgetting (after_timers (at_moment at first))) a.handed a.ended b.handed b.ended a.before b.before p.1 q.1
     a.serves b.serves in
-    let act : acted a.memory a.before seat what ≡ acted b.memory b.before seat what =
-    ap (λ x. acted x a.before seat what) memory ∙ ap (λ (m : Machine). acted b.memory m seat what) one.last_same in
-    let after : a.after ≡ b.after = a.acts ∙ ap (λ (e : Effect). forgetting e.machine) act ∙ sym b.acts in
+    let act : acted a.memory a.before seat what ≡ acted b.memory b.before seat what = rw (memory, one.last_same) refl in
+    let after : a.after ≡ b.after = a.acts ∙ rw act (sym b.acts) in
     let two = serves_one a.after a.handed_then a.ended_then b.handed_then b.ended_then last other p.2 q.2 a.serves_then
     (rw after b.serves_then) in
     (a.answers_are ∙ rw (one.handed_same, one.ended_same, act, two.handed_same, two.ended_same) refl ∙ sym b.answers_are, two.last_same)
-  where
-    parts_of_sharing : (memory : Memory) (handed handed_then : List GivenAnswer)
-        → (is_share_refused memory || has_refused_share handed || has_refused_share handed_then) ≡ false
-        → (is_share_refused memory ≡ false) × (has_refused_share handed ≡ false) × (has_refused_share handed_then ≡ false)
-    parts_of_sharing memory handed handed_then e = grind (arith, common_steps, or_parts)
 
 pub computed_result : (first last : Machine) (at seat : ℕ) (what : Step) (given : List GivenAnswer)
     → IsStep first at seat what ample given last

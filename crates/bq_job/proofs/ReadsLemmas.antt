@@ -27,14 +27,7 @@ Reads-onto size text unit after rest r requests is u q more = grind (arith, appe
 
 reading_within-Reads : (n : ℕ) (size : ℕ) (text : List ℕ) → length text ≤ n
     → Reads size text (reading_within n size text).0 (reading_within n size text).1
-reading_within-Reads zero size [] short = record {
-  units = [];
-  text_is = refl;
-  are_units = refl;
-  last_quits = refl;
-  ended = inr (no_first_unit size [] refl);
-}
-reading_within-Reads zero size (b ∷ text) short = absurd (grind (arith, common_steps))
+reading_within-Reads zero size text short = grind (arith, common_steps)
 reading_within-Reads (suc n) size text short = go (reading_within-Reads n size) (first_unit size text) refl
   where
     read_on : ((after : List ℕ) → length after ≤ n → Reads size after (reading_within n size after).0 (reading_within n size after).1)
@@ -78,10 +71,8 @@ units_unique : (size : ℕ) (firsts seconds : List Request) (u v rest other : Li
     → AreUnits size u firsts → AreUnits size v seconds → IsTrue (quits_last firsts) → IsTrue (quits_last seconds)
     → IsEnded size firsts rest → IsEnded size seconds other → (rest ≡ other) × AreSameRequests firsts seconds
 units_unique size [] [] u v rest other e a b fq sq fe se = (cc, tt)
-units_unique size [] (s ∷ ss) u v rest other e a b fq sq (inl quit) se = cc
-units_unique size [] (s ∷ ss) u v rest other e a b fq sq (inr none) se = grind (arith, common_steps)
-units_unique size (r ∷ rs) [] u v rest other e a b fq sq fe (inl quit) = cc
-units_unique size (r ∷ rs) [] u v rest other e a b fq sq fe (inr none) = grind (arith, common_steps)
+units_unique size [] (s ∷ ss) u v rest other e a b fq sq fe se = grind (arith, common_steps)
+units_unique size (r ∷ rs) [] u v rest other e a b fq sq fe se = grind (arith, common_steps)
 units_unique size (r ∷ []) (s ∷ []) u v rest other e a b fq sq fe se =
     let same = first_same size r s [] [] u v rest other e a b in
     (cc, (same.1, tt))

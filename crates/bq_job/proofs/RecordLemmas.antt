@@ -1,13 +1,13 @@
 -- What is kept besides jobs through a step: counters stay within their limit, tube records stay
 -- ordered, and each seat watches at least one tube and none twice.
-use Rattle.std.proofs.Common.{ℕ, ◌≡◌, ◌≤◌, Bool, true, cond, List, [], ◌∷◌, map, refl, sym, subst, arith, rules}
+use Rattle.std.proofs.Common.{ℕ, ◌≡◌, ◌≤◌, Bool, true, List, [], ◌∷◌, map, refl, arith, rules}
 use Rattle.std.proofs.{lemmas.{Bool.{cases_Bool, cond_both, leb-true}, Grind.common_steps}, Math.Nat.min-le_right}
 use Rattle.std.specs.{Cmp.Lexicographic.bytes_decides, List.AllByRecursion as All, Prelude.{filter, nat_le}}
 use Rattle.bq_job.specs.machine.{DispatchTurn, Effect, GivenAnswer, Machine.Machine, Memory, SeatRecord, Serves}
 use Rattle.bq_job.specs.machine.{TubeRecord, WaitEndTurn, acted, after_close, after_timers, at_moment, empty_seat}
 use Rattle.bq_job.specs.{beside.{IsLawful, is_in_order, watches_once}, machine.{forgetting, greatest}}
 use Rattle.bq_job.specs.machine.{is_name_before, is_tube, with_end, with_record, with_seat}
-use Rattle.bq_job.specs.{reading.TubeName.is_same_name, Types.{Request, Step}}
+use Rattle.bq_job.specs.{Types.{Request, Step}}
 use Rattle.bq_job.proofs.Trace.{IsTrace, of_turns}
 use Rattle.bq_job.proofs.ListLemmas.{all_at, all_always, all_before_map, all_of_filter, all_of_map, all_pass, all_weaker, keys_of_map}
 use Rattle.bq_job.proofs.{CommandKinds.kind_of, EachEvent.each_acted, EffectKinds.Kind}
@@ -53,17 +53,7 @@ rest_records t tubes h = rest_in_order t.name (map (λ u. u.name) tubes) h
 ordered_filter : (p : TubeRecord → Bool) (tubes : List TubeRecord) → in_order tubes ≡ true → in_order (filter p tubes) ≡ true
 ordered_filter p [] h = refl
 ordered_filter p (t ∷ tubes) h =
-    grind (
-      arith,
-      common_steps,
-      rest_records,
-      cases_Bool,
-      with_first,
-      all_weaker,
-      all_of_filter,
-      first_record,
-      ordered_filter p tubes (rest_records t tubes h),
-    )
+    grind (arith, rest_records, with_first, all_weaker, all_of_filter, first_record, ordered_filter p tubes (rest_records t tubes h))
 
 -- a record is inserted in order
 first_with : (name : List ℕ) (t : TubeRecord) (tubes : List TubeRecord) → is_name_before name t.name ≡ true → IsFirst name tubes
@@ -74,12 +64,9 @@ first_with name t (u ∷ tubes) b h = grind (arith, common_steps, cond_both, fir
 ordered_with : (t : TubeRecord) (tubes : List TubeRecord) → in_order tubes ≡ true → in_order (with_record t tubes) ≡ true
 ordered_with t [] h = refl
 ordered_with t (u ∷ tubes) h =
-    cond_both (is_same_name t.name u.name) (t ∷ tubes) (cond (is_name_before t.name u.name) (t ∷ u ∷ tubes) (u ∷ with_record t tubes))
-    (λ xs. in_order xs ≡ true)
-    (λ e. subst (λ n. is_in_order (n ∷ map (λ v. v.name) tubes) ≡ true) (sym ((bytes_decides t.name u.name).0 e)) h)
-    (λ e. cond_both (is_name_before t.name u.name) (t ∷ u ∷ tubes) (u ∷ with_record t tubes) (λ xs. in_order xs ≡ true) (λ f. rw f h)
-    (λ f. with_first u (with_record t tubes) (first_with u.name t tubes (after t.name u.name e f) (first_record u tubes h))
-    (ordered_with t tubes (rest_records u tubes h))))
+    let more = ordered_with t tubes (rest_records u tubes h) in
+    let first = first_record u tubes h in
+    grind (arith, common_steps, cases_Bool, bytes_decides, with_first, first_with, after)
 
 -- the parts of a step
 pub booked_forgetting : (m : Machine) → Booked m → Booked (forgetting m)
@@ -106,22 +93,18 @@ booked_trace = record { none = λ m h. h; joins = λ a b c xs ys f g h. g (f h) 
 pub booked_served : (first : Machine) (handed ended : List GivenAnswer) (last : Machine) → Booked first
     → (s : Serves first handed ended last) → Booked s.ends_waits.end
 booked_served first handed ended last h s =
-    let d = s.dispatches in
-    let e = s.ends_waits in
-    let dispatched = of_turns DispatchTurn booked_trace (λ m g n turn b. booked_dispatch m g n b turn) first handed d.end d.turns h in
-    of_turns WaitEndTurn booked_trace (λ m g n turn b. booked_wait_end m g n b turn) s.between ended e.end e.turns
-    (subst Booked (sym d.forgets) (booked_forgetting d.end dispatched))
+    let d = of_turns DispatchTurn booked_trace (λ m g n turn b. booked_dispatch m g n b turn) in
+    let e = of_turns WaitEndTurn booked_trace (λ m g n turn b. booked_wait_end m g n b turn) in
+    grind (arith, booked_forgetting)
 
 pub booked_through : (first : Machine) (handed ended : List GivenAnswer) (last : Machine) → Booked first
     → (s : Serves first handed ended last) → Booked last
-booked_through first handed ended last h s =
-    subst Booked (sym s.ends_waits.forgets) (booked_forgetting s.ends_waits.end (booked_served first handed ended last h s))
+booked_through first handed ended last h s = grind (arith, booked_forgetting, booked_served first handed ended last h s)
 
 -- every kind of command
 booked_kind : (request : Request) (m : Machine) (s : SeatRecord) {e : Effect} → Kind m s request e → Booked m
     → watches_once s ≡ true → Booked e.machine
-booked_kind request m s k h w =
-    grind (arith, common_steps, cases_Bool, ordered_with, booked_seat)
+booked_kind request m s k h w = grind (arith, ordered_with, booked_seat)
 
 booked_close : (m : Machine) (seat : ℕ) → Booked m → Booked (after_close m seat)
 booked_close m seat h = booked_seat seat (λ s. empty_seat s.number) m h (λ s w. refl)

@@ -1,6 +1,6 @@
 -- A refused command changes nothing.
 use Rattle.std.proofs.Common.{◌∙◌, ◌≡◌, IsTrue, List, Some, ℕ, ap, append-nil, arith, refl}
-use Rattle.std.proofs.{Common.true, lemmas.{Bool.{cases_Bool}, Grind.common_steps}}
+use Rattle.std.proofs.{Common.true, lemmas.{Bool.cases_Bool, Grind.common_steps}}
 use Rattle.bq_job.specs.machine.{Effect, GivenAnswer, IsStep, Machine.Machine, Memory, Outcome, SeatRecord, acted, after_timers}
 use Rattle.bq_job.specs.{beside.{ChangesNothing, IsLawful, is_refusal}, machine.{at_moment, forgetting, silent}}
 use Rattle.bq_job.specs.{machine.telling, promise.parts_of, Types.{Answer, Request, Step}}

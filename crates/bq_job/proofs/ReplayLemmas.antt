@@ -1,6 +1,6 @@
 -- Replays: how one begins and goes on, and that a journal has at most one.
 use Rattle.std.proofs.Common.{◌++◌, ◌∙◌, ◌∷◌, ◌≡◌, List, [], ap, arith, flat_map, map, refl, sym}
-use Rattle.std.proofs.lemmas.{Grind.{common_steps}}
+use Rattle.std.proofs.lemmas.Grind.{common_steps}
 use Rattle.bq_job.specs.{beside.{entry_of, outcome_of, Replay.Replay}, declared.journal.Entry.Entry as JournalEntry}
 use Rattle.bq_job.specs.{machine.{GivenAnswer, IsStep, Settings, new_machine, Machine.Machine}}
 use Rattle.bq_job.specs.promise.{GoesBy, IsTransition, Transition}
@@ -21,13 +21,8 @@ pub replay_more : (settings : Settings) (journal : List JournalEntry) (entry : J
     → Replay settings (journal ++ entry ∷ []) (given ++ more) last
 replay_more settings journal entry given more next last r step =
     let t : Transition = taken_as next (entry_of entry) (outcome_of entry) more last step in
-    record {
-      taken = r.taken ++ t ∷ [];
-      goes = goes_more (new_machine settings) next last r.taken t r.goes refl (record { step = step; parts_are = refl }) refl;
-      history_is = grind (arith, common_steps);
-      outcomes_are = grind (arith, common_steps);
-      given_is = grind (arith, common_steps);
-    }
+    let goes = goes_more (new_machine settings) next last r.taken t r.goes refl (record { step = step; parts_are = refl }) refl in
+    grind (arith, common_steps)
 
 -- Two runs from one model over one journal give the same answers and end in the same model.
 one_run : (first last other : Machine) (journal : List JournalEntry) (taken others : List Transition)

@@ -1,11 +1,11 @@
 -- What the command's own effect gives to one client: the client that asks is answered or waits, and
 -- other seats stay as they were.
-use Rattle.std.proofs.Common.{ℕ, ◌≡◌, ◌+◌, Bool, true, false, not, cond, List, [], ◌∷◌}
-use Rattle.std.proofs.Common.{length, arith, refl, sym, ap, ◌∙◌, subst, Option, Some, None}
+use Rattle.std.proofs.Common.{ℕ, ◌≡◌, ◌+◌, Bool, true, false, List, [], ◌∷◌}
+use Rattle.std.proofs.Common.{length, arith, refl, ap, ◌∙◌, subst, Option, Some, None}
 use Rattle.std.proofs.lemmas.{Bool.{and_from, and_parts, cases_Bool}, Grind.common_steps}
 use Rattle.std.specs.{List.Contains, Prelude.{◌==◌, IsTrue, is_some}}
 use Rattle.bq_job.specs.machine.{Effect, Machine.Machine, Memory, SeatRecord, acted, addressed, after_close, after_connect}
-use Rattle.bq_job.specs.machine.{ask_effect, asked, at_found, effect, empty_seat, has_closed}
+use Rattle.bq_job.specs.machine.{effect, empty_seat, has_closed}
 use Rattle.bq_job.specs.machine.{is_closed_answer, is_possible, is_waiting, raised, reserve_effect}
 use Rattle.bq_job.specs.machine.{silent, telling, waiting_from, with_end, with_seat}
 use Rattle.bq_job.specs.{promise.{answers_to, answers_wanted, is_waiting_request}, Types.{Answer, Request, Step}}
@@ -74,15 +74,7 @@ pub replies_effect : (m : Machine) (seat : ℕ) (request : Request) (f : Found s
     → waits_in seat m.seats ≡ false → Replies seat (answers_wanted request) (is_waiting_request request) m.seats
     (effect m seat (steps.Ask request))
 replies_effect m seat request f c w =
-    let s = f.client in
-    let open_now : s.connected ≡ true = sym f.connected ∙ c in
-    let waits_not : is_waiting s ≡ false = sym f.waits ∙ w in
-    subst (λ o. Replies seat (answers_wanted request) (is_waiting_request request) m.seats
-    (at_found (ask_effect request) m o)) (sym f.found)
-    (subst (λ b. Replies seat (answers_wanted request) (is_waiting_request request) m.seats (cond b (asked request m s) (silent m)))
-    (sym (and_from s.connected (not (is_waiting s)) open_now (ap not waits_not)))
-    (subst (λ n. Replies n (answers_wanted request) (is_waiting_request request) m.seats (asked request m s)) f.number
-    (replies_kind request m s (kind_of request m s) f.there (subst (λ n. waits_in n m.seats ≡ false) (sym f.number) w))))
+    grind (arith, common_steps, replies_kind request m f.client (kind_of request m f.client) f.there, and_from)
 
 -- the same whether or not memory was lacking
 pub replies_acted : (memory : Memory) (m : Machine) (seat : ℕ) (request : Request) → waits_in seat m.seats ≡ false

@@ -1,6 +1,6 @@
 -- The laws of whole runs.
-use Rattle.std.proofs.Common.{◌<◌, ◌∷◌, ◌≡◌, ◌≤◌, Bool, List, [], ℕ, arith, false, inl, inr, refl, subst, sym, true}
-use Rattle.std.proofs.lemmas.{Bool.{both_ways, cases_Bool, eq-eqb, eqb-true}, Grind.common_steps}
+use Rattle.std.proofs.Common.{◌<◌, ◌∷◌, ◌≡◌, ◌≤◌, Bool, List, [], arith, false, inl, inr, refl, subst, sym, true}
+use Rattle.std.proofs.lemmas.{Bool.{cases_Bool, eq-eqb, eqb-true}, Grind.common_steps}
 use Rattle.std.specs.{List.{Contains, list_any}, Prelude.{◌==◌, count_by}}
 use Rattle.bq_job.specs.laws.{Happening, IsHandedOut, IsHandedOutBefore, IsPutBefore, IsUndisturbed, comes_first, disturbs, happenings}
 use Rattle.bq_job.specs.{declared.job.Job.Job, laws.{is_hand_out, is_put, parts_of_run, put}, machine.Settings}
@@ -42,14 +42,11 @@ in_order_by_moves settings happened last a b g ua ub pri tube first out_a out_b 
           subst (λ id. comes_first (is_hand_out a.id) (is_hand_out id) happened ≡ true) same
           (comes_itself (is_hand_out a.id) happened out_a)
       | inr e ↦
-          let less : a.id < b.id = less_when_other a.id b.id ids e in
+          let less : a.id < b.id = grind (arith, eq-eqb) in
           rw g.told at (handed_in_order a b m last g.parts g.moves ua.at_once ub.at_once pri tube less
           (rw g.told (still a happened ua)) (rw g.told (still b happened ub)) (unborn (put_above a m last g.parts g.moves put_a) put_a)
           (unborn (put_above b m last g.parts g.moves put_b) put_b) (rw g.told out_a) (rw g.told out_b))
     ]
-  where
-    less_when_other : (x y : ℕ) → x ≤ y → (x == y) ≡ false → x < y
-    less_when_other x y h e = let other : x ≡ y → ⊥ = (λ same. both_ways (x == y) e (eq-eqb x y same)) in omega arith
 
 pub in_order : (settings : Settings) (taken : List Transition) (last : Machine) (a b : Job) → GoesBy (new_machine settings) taken last
     → IsUndisturbed a (happenings (parts_of_run taken)) → IsUndisturbed b (happenings (parts_of_run taken))
@@ -57,6 +54,4 @@ pub in_order : (settings : Settings) (taken : List Transition) (last : Machine) 
     → IsPutBefore a.id b.id (happenings (parts_of_run taken)) → IsHandedOut a.id (happenings (parts_of_run taken))
     → IsHandedOut b.id (happenings (parts_of_run taken))
     → IsHandedOutBefore a.id b.id (happenings (parts_of_run taken))
-in_order settings taken last a b goes ua ub pri tube first out_a out_b =
-    in_order_by_moves settings (happenings (parts_of_run taken)) last a b
-    (run_goes settings taken last goes) ua ub pri tube first out_a out_b
+in_order settings taken last a b goes ua ub pri tube first out_a out_b = search (in_order_by_moves, run_goes)

@@ -40,10 +40,8 @@ run_from first next last e history outcome now more step (outcomes, r) = (
 -- a run of these steps
 pub run_of : (first last : Machine) (taken : List Transition) → GoesBy first taken last
     → Run first (map (λ t. t.entry) taken) (flat_map (λ t. t.given) taken) last
-run_of first last taken goes = (
-  map (λ t. t.outcome) taken,
-  record { taken = taken; goes = goes; history_is = refl; outcomes_are = refl; given_is = refl },
-)
+run_of first last taken goes =
+    (map (λ t. t.outcome) taken, record { taken = taken; goes = goes; history_is = refl; outcomes_are = refl; given_is = refl })
 
 pub run_of_none : (first last : Machine) (given : List GivenAnswer) → Run first [] given last → (given ≡ []) × (last ≡ first)
 run_of_none first last given (outcomes, r) = of_taken r.taken r.goes r.history_is r.given_is

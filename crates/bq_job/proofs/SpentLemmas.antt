@@ -1,10 +1,10 @@
 -- A job that is held or gone is not handed out again as long as nothing disturbs it.
 use Rattle.std.proofs.Common.{ℕ, ◌≡◌, ◌≤◌, ◌<◌, true, false, cond, List, [], ◌∷◌, ◌++◌}
-use Rattle.std.proofs.Common.{arith, refl, sym, ap, ◌∙◌, subst, inl, inr, Option, Some, None}
+use Rattle.std.proofs.Common.{arith, refl, ap, ◌∙◌, inl, inr, Option, Some, None}
 use Rattle.std.proofs.lemmas.Bool.{cases_Bool, or_parts, or_from, both_ways, cond_both, eqb-true, eq-eqb, false_from_ne_true}
 use Rattle.std.proofs.lemmas.{Grind.common_steps, List.{Folds.list_any-append, Sums.sum_by-append}}
 use Rattle.std.specs.{List.{AllByRecursion as All, list_any}, Prelude.{◌==◌, count_by, option_map}}
-use Rattle.bq_job.specs.laws.{Happening, Part, disturbs, handed_out, happenings, is_hand_out}
+use Rattle.bq_job.specs.laws.{Happening, Part, disturbs, happenings, is_hand_out}
 use Rattle.bq_job.specs.{machine.{is_reserved, job_with, reserved_by, Machine.Machine}, Types.Job}
 use Rattle.bq_job.proofs.JobMoves.{IsHandOutMove, IsPutMove, Move, Moves, handing, is_plain, putting, quiet}
 use Rattle.bq_job.proofs.{ListLemmas.{count_cons, none_in_parts}, LookupLemmas.{job_in_map, job_in_more}}
@@ -35,9 +35,7 @@ put_lookup id m n happened h less = grind (arith, common_steps, job_in_more, fal
 pub spent_after : (id : ℕ) (m n : Machine) (happened : List Happening) → Move m happened n → list_any (disturbs id) happened ≡ false
     → IsSpent id m → IsSpent id n
 spent_after id m n happened (quiet q) still spent = grind (arith, common_steps)
-spent_after id m n happened (putting p) still spent =
-    let less = spent.0 in
-    (omega arith, subst IsNotFree (sym (put_lookup id m n happened p less)) spent.1)
+spent_after id m n happened (putting p) still spent = grind (arith, put_lookup id m n happened p)
 spent_after id m n happened (handing h) still spent = grind (arith, handed_lookup id m n happened h)
 
 pub spent_not_handed : (id : ℕ) (m n : Machine) (happened : List Happening) → Move m happened n → IsSpent id m
@@ -48,18 +46,16 @@ spent_not_handed id m n happened (handing h) spent = grind (arith, common_steps,
 
 -- Its job is spent once it is handed out.
 pub spent_by_hand_out : (m n : Machine) (happened : List Happening) (h : IsHandOutMove m happened n) → IsSpent h.job.id n
-spent_by_hand_out m n happened h =
-    grind (arith, common_steps, handed_lookup h.job.id m n happened h, cond_both, both_ways, eq-eqb h.job.id h.job.id refl)
+spent_by_hand_out m n happened h = grind (arith, handed_lookup h.job.id m n happened h, cond_both, both_ways, eq-eqb h.job.id h.job.id refl)
 
 pub none_more : (id : ℕ) (m n : Machine) (parts : List Part) → Moves m parts n → list_any (disturbs id) (happenings parts) ≡ false
     → IsSpent id m → list_any (is_hand_out id) (happenings parts) ≡ false
 none_more id m n [] moves still spent = refl
 none_more id m n (p ∷ parts) moves still spent =
     let each = none_in_parts (disturbs id) p.happened (happenings parts) still in
-    list_any-append (is_hand_out id) p.happened (happenings parts)
-    ∙ or_from (list_any (is_hand_out id) p.happened) (list_any (is_hand_out id) (happenings parts))
-    (spent_not_handed id m p.machine p.happened moves.0 spent)
-    (none_more id p.machine n parts moves.1 each.1 (spent_after id m p.machine p.happened moves.0 each.0 spent))
+    let now = spent_not_handed id m p.machine p.happened moves.0 spent in
+    let after = spent_after id m p.machine p.happened moves.0 each.0 spent in
+    grind (arith, common_steps, list_any-append, none_more id p.machine n parts moves.1 each.1 after)
 
 none_counted : (id : ℕ) (happened : List Happening) → list_any (is_hand_out id) happened ≡ false → count_by (is_hand_out id) happened ≡ 0
 none_counted id [] h = refl
@@ -87,9 +83,6 @@ handed_once id m n (p ∷ parts) moves still =
           | inl e ↦
               let spent : IsSpent id p.machine = rw (eqb-true h.job.id id e) at (spent_by_hand_out m p.machine p.happened h) in
               let none = none_counted id (happenings parts) (none_more id p.machine n parts moves.1 more spent) in
-              let one : count_by (is_hand_out id) p.happened ≡ 1 =
-              ap (count_by (is_hand_out id)) h.happened_is ∙ count_cons (is_hand_out id) (handed_out h.job.id) [] ∙ rw e refl in
-              let a = sum_by-append (λ h. cond (is_hand_out id h) 1 0) p.happened (happenings parts) in
-              omega arith
+              grind (arith, common_steps, count_cons, sum_by-append (λ h. cond (is_hand_out id h) 1 0) p.happened)
           | inr e ↦ later (ap (list_any (is_hand_out id)) h.happened_is ∙ rw e refl) rest
         ]

@@ -1,14 +1,14 @@
 -- Each part of a step, as moves: timers, turns of dispatch, ends of waits, and the command's own effect.
 use Rattle.std.proofs.Common.{◌&&◌, ◌++◌, ◌∷◌, ◌≡◌, List, None, Option, Some, [], ℕ, ap, append-nil}
-use Rattle.std.proofs.Common.{arith, cond, false, inl, inr, map, refl, subst, sym, true}
+use Rattle.std.proofs.Common.{arith, cond, inl, inr, map, refl, subst, sym, true}
 use Rattle.std.proofs.lemmas.Bool.{cases_Bool, and_parts, and_from, or_left, or_right, both_ways, cond_both, eq-eqb}
 use Rattle.std.proofs.lemmas.Grind.{common_steps}
 use Rattle.std.specs.{List.{AllByRecursion as All, list_any}, Prelude.{◌==◌, option_map}}
 use Rattle.bq_job.specs.machine.{Chain, DispatchTurn, Dispatches, GivenAnswer, IsHandOut, Machine.Machine, SeatRecord}
-use Rattle.bq_job.specs.machine.{WaitEndTurn, acted, after_timers, at_moment, forgetting, is_due, is_expired, is_ready}
+use Rattle.bq_job.specs.machine.{WaitEndTurn, after_timers, at_moment, forgetting, is_expired}
 use Rattle.bq_job.specs.machine.{job_after_timers, job_with, next_job, next_seat, reserved_by}
 use Rattle.bq_job.specs.laws.{Happening, Part, changes, disturbs, expirations, hand_out, hand_outs, happenings, parts_in}
-use Rattle.bq_job.specs.{beside.{AreIdsWithin, IsLawful}, laws.parts_of_run, promise.{GoesBy, IsTransition, Parts}}
+use Rattle.bq_job.specs.{beside.IsLawful, laws.parts_of_run, promise.{GoesBy, IsTransition, Parts}}
 use Rattle.bq_job.specs.{promise.{Transition, parts_of}, Types.Job}
 use Rattle.bq_job.proofs.LawfulLemmas.{after_timers_is, end_of, kept_of_timers, leaves_acted, served, step_is_lawful, turns_of_dispatches}
 use Rattle.bq_job.proofs.{ActMoves.{Ids, after_acted}, LookupLemmas.{found_job, job_found, job_in_map}}
@@ -51,23 +51,8 @@ told_to_expire moment id (j ∷ jobs) h = grind (arith, common_steps, cases_Bool
 timed_fate : (moment id : ℕ) (jobs : List Job) (o : Option Job) → job_with id jobs ≡ o
     → Fate id (expirations moment jobs) o (option_map (job_after_timers moment) o)
 timed_fate moment id jobs None e = refl
-timed_fate moment id jobs (Some j) e = record {
-  same = after_timers_is moment j (λ k. k.id ≡ j.id) refl refl refl;
-  tube = after_timers_is moment j (λ k. k.tube ≡ j.tube) refl refl refl;
-  body = after_timers_is moment j (λ k. k.body ≡ j.body) refl refl refl;
-  ready = λ h still. after_timers_is moment j (λ k. (is_ready k ≡ true) × (k.pri ≡ j.pri)) (refl, refl) (refl, refl) (h, refl);
-  held = λ h still.
-      let due : is_due moment j.state ≡ false = grind (arith, common_steps, cases_Bool) in
-      elim (cases_Bool (is_expired moment j.state)) [
-        | inl f ↦
-            let found = found_job id jobs j e in
-            let told = told_to_expire moment id jobs
-            (list_any_with (λ k. is_expired moment k.state && k.id == id) jobs j found.1
-            (and_from (is_expired moment j.state) (j.id == id) f (eq-eqb j.id id found.0))) in
-            absurd (both_ways (list_any (disturbs id) (expirations moment jobs)) still told)
-        | inr f ↦ rw (due, f) h
-      ];
-}
+timed_fate moment id jobs (Some j) e =
+    grind (arith, common_steps, after_timers_is, found_job, told_to_expire moment id jobs, list_any_with, and_from, eq-eqb, both_ways)
 
 -- one turn of dispatch
 hand_out_move : (m n : Machine) (j : Job) (s : SeatRecord) (given : GivenAnswer) → Ids m → next_job m ≡ Some j → next_seat m j ≡ Some s
@@ -88,10 +73,7 @@ hand_out_move m n j s given ids e f (inl h) =
         ready = grind arith;
         least = λ k i ready tube. least.least k i (grind (arith, common_steps, and_parts, and_from));
       }),
-      subst (λ l. AreIdsWithin 1 l n.next_id) (sym jobs)
-          (subst (AreIdsWithin 1 (map (λ k. cond (k.id == j.id) (reserved_by m.moment s.number k) k) m.jobs)) (sym next)
-          (ids_of_map (λ k. cond (k.id == j.id) (reserved_by m.moment s.number k) k) 1 m.next_id m.jobs
-          (λ k. cond_both (k.id == j.id) (reserved_by m.moment s.number k) k (λ l. l.id ≡ k.id) (λ e. refl) (λ e. refl)) ids)),
+      grind (arith, common_steps, ids_of_map, cond_both),
     )
 hand_out_move m n j s given ids e f (inr h) = grind (arith, common_steps, still_move)
 
@@ -101,8 +83,7 @@ goes_by_turns m [] n ids chain = subst (λ l. Goes m [] l) (sym chain) (goes_now
 goes_by_turns m (g ∷ given) n ids chain =
     let t = turn_of m g chain.0 chain.1 in
     let one = hand_out_move m chain.0 t.job t.client g ids t.job_is t.client_is t.hands in
-    goes_then m chain.0 n (hand_out g.1) (hand_outs given) (goes_one m (hand_out g.1) chain.0 one.0)
-    (goes_by_turns chain.0 given n one.1 chain.2)
+    goes_then m chain.0 n (hand_out g.1) (hand_outs given) (search goes_one) (goes_by_turns chain.0 given n one.1 chain.2)
 
 goes_by_dispatch : (m : Machine) (given : List GivenAnswer) (n : Machine) → Ids m → Dispatches m given n → Goes m (hand_outs given) n
 goes_by_dispatch m given n ids d =
@@ -143,9 +124,8 @@ parts_gone t keeps is =
     let k4 = (turns_of_dispatches s.after s.handed_then s.serves_then.between k3 s.serves_then.dispatches).keeps in
     let k5 = (served s.after s.handed_then s.ended_then t.last k3 s.serves_then).keeps in
     let acts : Move s.before (changes t.entry.what s.before.jobs s.after.jobs) s.after =
-    subst (λ (l : Machine). Move s.before (changes t.entry.what s.before.jobs l.jobs) l) (sym s.acts)
-    (move_of_jobs t.entry.what s.before (forgetting (acted s.memory s.before t.entry.seat t.entry.what).machine) k2.ids
-    (after_acted s.memory s.before t.entry.seat t.entry.what k2.ids)) in
+    move_of_jobs t.entry.what s.before s.after k2.ids
+    (rw s.acts (after_acted s.memory s.before t.entry.seat t.entry.what k2.ids)) in
     let of_step : ArePartsGone m (parts_in (record t { parts = parts_of s })) t.last = (
       record { goes = grind (arith, common_steps, job_in_map, after_timers_is, goes_one, plain_expirations, timed_fate); keeps = k0 },
       (
@@ -172,11 +152,9 @@ pub run_gone : (first : Machine) (taken : List Transition) (last : Machine) → 
     → ArePartsGone first (parts_of_run taken) last
 run_gone first [] last lawful goes = goes
 run_gone first (t ∷ taken) last lawful goes =
-    let here : IsLawful t.first = subst IsLawful (sym goes.0) lawful in
+    let here : IsLawful t.first = rw goes.0 lawful in
     let then = step_is_lawful t.first t.last t.entry.moment t.entry.seat t.entry.what t.outcome t.given here goes.1.step in
-    subst (λ m. ArePartsGone m (parts_in t ++ parts_of_run taken) last) goes.0
-    (gone_then t.first t.last last (parts_in t) (parts_of_run taken) (parts_gone t (kept_of_lawful t.first here) goes.1)
-    (run_gone t.last taken last then goes.2))
+    grind (arith, gone_then, parts_gone t (kept_of_lawful t.first here) goes.1, run_gone t.last taken last then goes.2)
 
 -- all parts together
 pub parts_go : (m : Machine) (parts : List Part) (n : Machine) → ArePartsGone m parts n → Goes m (happenings parts) n

@@ -36,8 +36,7 @@ module _ {So : Machine → List GivenAnswer → Machine → Type 0} (s : IsServi
 
   pub of_serves : (first : Machine) (handed ended : List GivenAnswer) (last : Machine) → Serves first handed ended last
       → So first (handed ++ ended) last
-  of_serves first handed ended last v = s.trace.joins first v.between last handed ended (of_dispatches first handed v.between v.dispatches)
-      (of_ends v.between ended last v.ends_waits)
+  of_serves first handed ended last v = search (s.trace.joins, of_dispatches, of_ends)
 
 -- what serving the clients leaves as it was
 pub record IsSteady (m n : Machine) : Type 0 where

@@ -1,15 +1,15 @@
 -- The tubes that a seat watches, at least one and none twice, after a watch and an ignore.
+use Rattle.std.proofs.Common.{rules}
 use Rattle.std.proofs.lemmas.Bool.{and_parts, and_from, both_ways, cond_both, false_from_ne_true, or_from, or_parts}
-use Rattle.std.proofs.Common.{◌++◌, ◌∷◌, ◌≡◌, Bool, List, [], ℕ, arith, false, refl, sym, true}
+use Rattle.std.proofs.Common.{◌++◌, ◌∷◌, ◌≡◌, Bool, List, [], ℕ, arith, false, refl, true}
 use Rattle.std.proofs.lemmas.{Bool.not-true, Grind.common_steps, List.Folds.list_any-append}
-use Rattle.std.specs.{Cmp.Lexicographic.bytes_decides, List.list_any, Prelude.filter}
+use Rattle.std.specs.{List.list_any, Prelude.filter}
 use Rattle.bq_job.specs.{beside.{none_twice, watches_once}, machine.{SeatRecord, watched_with, watching}}
 use Rattle.bq_job.specs.reading.TubeName.{is_same_name}
 use Rattle.bq_job.proofs.ListLemmas.{all_of_filter, all_weaker, list_any_not, none_pass}
 
 pub same_other : (a b : List ℕ) → is_same_name a b ≡ false → is_same_name b a ≡ false
-same_other a b e = false_from_ne_true (is_same_name b a)
-    (λ t. both_ways (is_same_name a b) e ((bytes_decides a b).1 (sym ((bytes_decides b a).0 t))))
+same_other a b e = search (rules, false_from_ne_true, both_ways)
 
 pub none_twice_behind : (tube : List ℕ) (names : List (List ℕ)) → list_any (is_same_name tube) names ≡ false → none_twice names ≡ true
     → none_twice (names ++ tube ∷ []) ≡ true
