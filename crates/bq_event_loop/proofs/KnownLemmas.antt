@@ -1,8 +1,8 @@
 -- Seats that the turns of a loop let act before they sleep.
 use Rattle.std.proofs.lemmas.Grind.{common_steps}
-use Rattle.std.proofs.Common.{ℕ, zero, suc, ◌≡◌, ◌⊎◌, inl, inr, ◌+◌, ◌≤◌, ◌<◌, ◌==◌, nat_lt, Bool, true, false}
-use Rattle.std.proofs.Common.{List, [], ◌∷◌, ◌++◌, length, slice_set, slice_index_or, if◌then◌else◌, Option, Some, None, refl, sym, ap}
-use Rattle.std.proofs.Common.{◌∙◌, subst, arith}
+use Rattle.std.proofs.Common.{ℕ, zero, suc, ◌≡◌, ◌⊎◌, inr, ◌+◌, ◌≤◌, ◌<◌, ◌==◌, nat_lt, Bool, true, false}
+use Rattle.std.proofs.Common.{List, [], ◌∷◌, ◌++◌, length, slice_set, slice_index_or, if◌then◌else◌, Option, Some, None, refl, ap}
+use Rattle.std.proofs.Common.{◌∙◌, arith, rules}
 use Rattle.std.specs.Option.{option_to_list}
 use Rattle.std.specs.Prelude.{slice_get}
 use Rattle.std.proofs.lemmas.Bool.{eq-eqb, or_parts, or_right}
@@ -16,12 +16,11 @@ use Rattle.bq_event_loop.proofs.ListingLemmas.{falls_once}
 use Rattle.std.specs.List.{All}
 use Rattle.bq_host.proofs.MarkLemmas.{one_if, times_push}
 use Rattle.bq_event_loop.specs.Keeping.{Chooses, KeepsSeats}
-use Rattle.bq_event_loop.specs.Known.{AreIdle, AreKnown, ChangesOnly, ChangesOnlyIn, IsKnown}
+use Rattle.bq_event_loop.specs.Known.{AreIdle, AreKnown, ChangesOnly, ChangesOnlyIn}
 use Rattle.bq_event_loop.specs.Known.{IsListedIn, IsNextOf, IsTaken, KnowsAll, is_listed, is_on, is_trying, is_visited}
 use Rattle.bq_event_loop.specs.Meanings.{Line}
-use Rattle.bq_event_loop.specs.Listings.{Listing, all_free, enqueued, falling, freed, is_nowhere}
+use Rattle.bq_event_loop.specs.Listings.{Listing, all_free, enqueued, freed, is_nowhere}
 use Rattle.bq_host.specs.Marks.{times}
-use Rattle.bq_event_loop.specs.Still.{IsStill}
 use Rattle.bq_event_loop.specs.declared.order.Order.{Order}
 use Rattle.bq_event_loop.specs.declared.turns.Turn.{Turn}
 use Rattle.bq_event_loop.specs.declared.turns.Turn.TheVariants as turns
@@ -38,9 +37,6 @@ changed_phase seats i new a place below is = ap (λ z. z.phase) (get_or-set_same
 
 pub changed_then : {L : Type 0} {i : ℕ} {a b c : List (Attendant L)} → ChangesOnly i a b → ChangesOnly i b c → ChangesOnly i a c
 changed_then h k = grind arith
-
-some_on : (xs : List ℕ) (i : ℕ) → 0 < times i xs → is_on xs i ≡ true
-some_on xs i there = grind arith
 
 same_times : (l : Listing) (i t : ℕ) → i ≡ t → times i l.queue + times i l.free ≡ times t l.queue + times t l.free
 same_times l i t = ap (λ n. times n l.queue + times n l.free)
@@ -166,11 +162,8 @@ listed_self l i = or_right (is_on l.queue i) (i == i) (eq-eqb i i refl)
 
 -- Seats that all check for a client are known.
 pub all_known : (seats : ℕ) (l : Listing) → l ≡ all_free seats → KnowsAll seats l.seats (is_listed l None) (is_trying l)
-all_known seats l is = subst (λ z. KnowsAll seats z.seats (is_listed z None) (is_trying z)) (sym is) (record {
-  all = omega arith;
-  apart = λ t tries on. absurd cc;
-  each = λ t below. inr (some_on (falling seats) t (omega (arith, falls_once seats t below)));
-})
+all_known seats l is =
+    rw is (record { all = omega arith; apart = λ t tries on. absurd cc; each = λ t below. inr (grind (arith, falls_once seats t below)) })
 
 -- New seats are known by turns that know all seats.
 pub known_at_first : {L : Type 0} {line : Line L} {many seats : ℕ} {listed tries : ℕ → Bool} {all : List (Attendant L)}
@@ -179,33 +172,8 @@ pub known_at_first : {L : Type 0} {line : Line L} {many seats : ℕ} {listed tri
 known_at_first same knows new = grind arith
 
 module _ {L : Type 0} {line : Line L} {many : ℕ} {listed tries : ℕ → Bool} where
-  known_woken : {seats : List (Attendant L)} {mails later : List (List Answer)} {old new : WakeList} → length seats ≤ old.seats
-      → Wakes mails later old new
-      → AreKnown line many listed tries old.waiting seats mails → AreKnown line many listed tries new.waiting seats later
-  known_woken {seats} {mails} {later} {old} {new} within wakes k = record {
-    all = k.all;
-    apart = k.apart;
-    trying = k.trying;
-    known = λ t below a. at t below a (k.known t below a);
-  }
-    where
-      at : (t : ℕ) → t < length seats → (a : Attendant L)
-          → IsKnown (listed t) (tries t) (times t old.waiting) (IsStill line (slice_index_or seats t a) (slice_index_or mails t []))
-          → IsKnown (listed t) (tries t) (times t new.waiting) (IsStill line (slice_index_or seats t a) (slice_index_or later t []))
-      at t below a (inl acts) = inl acts
-      at t below a (inr (inl checks)) = inr (inl checks)
-      at t below a (inr (inr (inl waits))) = inr (inr (inl (omega (arith, waits, wakes.kept t))))
-      at t below a (inr (inr (inr still))) = grind arith
-
-  -- A turn was taken. Each seat that got mail is to be woken.
-  known_turned : (turn : Turn) (woken : List ℕ) (seats later : List (Attendant L)) (mails : List (List Answer))
-      → IsListedIn listed turn → ChangesOnlyIn turn seats later
-      → AreKnown line many listed tries woken seats mails → AreKnown line many listed tries woken later mails
-  known_turned (turns.Serve i task) woken seats later mails acts only k = grind arith
-  known_turned _ woken seats later mails acts only k = subst (λ z. AreKnown line many listed tries woken z mails) (sym only) k
-
   pub known_after : (turn : Turn) {seats later : List (Attendant L)} {mails after : List (List Answer)} {old new : WakeList}
       → old ≡ none_waits (length mails) → length later ≤ length mails → Wakes mails after old new
       → IsListedIn listed turn → ChangesOnlyIn turn seats later
       → AreKnown line many listed tries [] seats mails → AreKnown line many listed tries new.waiting later after
-  known_after turn {seats} {later} {mails} none within wakes acts only k = grind (arith, known_woken, known_turned turn)
+  known_after turn {seats} {later} {mails} none within wakes acts only k = search rules

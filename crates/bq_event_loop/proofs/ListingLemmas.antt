@@ -1,6 +1,6 @@
 -- Seats that enter and leave the lists of an event loop.
-use Rattle.std.proofs.Common.{ℕ, zero, suc, ◌≡◌, ◌⊎◌, inl, inr, ◌+◌, ◌-◌, ◌≤◌, ◌<◌, true, List, [], ◌∷◌, ◌++◌, length}
-use Rattle.std.proofs.Common.{nat_lt, replicate, slice_set, slice_index_or, refl, sym, ap, ◌∙◌, arith, subst, append_assoc, append-nil}
+use Rattle.std.proofs.Common.{ℕ, zero, suc, ◌≡◌, ◌+◌, ◌-◌, ◌≤◌, ◌<◌, true, List, [], ◌∷◌, ◌++◌, length}
+use Rattle.std.proofs.Common.{nat_lt, replicate, slice_set, slice_index_or, refl, ap, ◌∙◌, arith, append_assoc, append-nil}
 use Rattle.std.specs.List.{count_by}
 use Rattle.std.proofs.lemmas.Grind.{common_steps}
 use Rattle.std.proofs.lemmas.List.{get_or-replicate, get_or-set_same, get_or_past, length-replicate}
@@ -13,63 +13,34 @@ use Rattle.bq_host.specs.Marks.{HasMarks, times}
 use Rattle.bq_event_loop.specs.declared.seat_queue.Listed.{Listed}
 use Rattle.bq_event_loop.specs.declared.seat_queue.Listed.TheVariants as lists
 
-queued_is : (y : Listed) → is_queued y ≡ true → y ≡ lists.Queued
-queued_is y h1 = grind arith
-
 free_is : (y : Listed) → is_free y ≡ true → y ≡ lists.Free
 free_is y h1 = grind arith
 
 -- The first of the queue leaves.
 pub left_queue : {s : ℕ} {before queue free : List ℕ} {marks : List Listed} → before ≡ s ∷ queue → AreMarked before free marks
     → (s < length marks) × AreMarked queue free (slice_set marks s lists.Nowhere)
-left_queue {s} {before} {queue} {free} {marks} first are = (
-  below,
-  (
-    left is_queued lists.Nowhere [] queue marks s lists.Nowhere has below refl,
-    stayed is_free lists.Nowhere free marks s lists.Nowhere are.1 below (ap is_free mark),
-  ),
-)
-  where
-    has : HasMarks is_queued lists.Nowhere (s ∷ queue) marks
-    has = subst (λ xs. HasMarks is_queued lists.Nowhere xs marks) first are.0
-
-    below : s < length marks
-    below = within is_queued lists.Nowhere [] queue marks s refl has
-
-    mark : slice_index_or marks s lists.Nowhere ≡ lists.Queued
-    mark = queued_is _ (marked is_queued lists.Nowhere [] queue marks s has)
+left_queue {s} {before} {queue} {free} {marks} first are =
+    let mark = marked is_queued lists.Nowhere [] queue marks s (rw first at are.0) in
+    grind (arith, common_steps, left, stayed, within)
 
 -- The last of the free seats leaves, and is free no more.
 pub left_free : {s : ℕ} {before queue free : List ℕ} {marks : List Listed} → before ≡ free ++ s ∷ [] → AreMarked queue before marks
     → (s < length marks) × AreMarked queue free (slice_set marks s lists.Nowhere) × (times s free ≡ 0)
-left_free {s} {before} {queue} {free} {marks} last are = (
-  below,
-  (stayed is_queued lists.Nowhere queue marks s lists.Nowhere are.0 below (ap is_queued mark), less),
-  less.each s ∙ ap (λ z. one_if (is_free z)) (get_or-set_same marks s lists.Nowhere lists.Nowhere below),
-)
-  where
-    has : HasMarks is_free lists.Nowhere (free ++ s ∷ []) marks
-    has = subst (λ xs. HasMarks is_free lists.Nowhere xs marks) last are.1
-
-    below : s < length marks
-    below = within is_free lists.Nowhere free [] marks s refl has
-
-    mark : slice_index_or marks s lists.Nowhere ≡ lists.Free
-    mark = free_is _ (marked is_free lists.Nowhere free [] marks s has)
-
-    less : HasMarks is_free lists.Nowhere free (slice_set marks s lists.Nowhere)
-    less =
-        subst (λ xs. HasMarks is_free lists.Nowhere xs (slice_set marks s lists.Nowhere)) (append-nil free)
-        (left is_free lists.Nowhere free [] marks s lists.Nowhere has below refl)
+left_free {s} {before} {queue} {free} {marks} last are =
+    let has = rw last at are.1 in
+    let below = within is_free lists.Nowhere free [] marks s refl has in
+    let mark = free_is _ (marked is_free lists.Nowhere free [] marks s has) in
+    let less : HasMarks is_free lists.Nowhere free (slice_set marks s lists.Nowhere) =
+    rw append-nil at (left is_free lists.Nowhere free [] marks s lists.Nowhere has below refl) in
+    let kept = stayed is_queued lists.Nowhere queue marks s lists.Nowhere are.0 below (ap is_queued mark) in
+    (below, (kept, less), grind (arith, get_or-set_same, less.each s))
 
 -- No seat is in both lists, or twice in one.
 pub disjoint : (queue free : List ℕ) (marks : List Listed) (round at : ℕ) → AreMarked queue free marks
     → IsDisjoint (record { seats = length marks; queue = queue; free = free; round = round; at = at })
 disjoint queue free marks round at are = record { once = once; within = beyond } where
   most : (y : Listed) → one_if (is_queued y) + one_if (is_free y) ≤ 1
-  most lists.Nowhere = omega arith
-  most lists.Queued = omega arith
-  most lists.Free = omega arith
+  most y = grind arith
 
   once : (seat : ℕ) → times seat queue + times seat free ≤ 1
   once seat = omega (arith, are.0.each seat, are.1.each seat, most (slice_index_or marks seat lists.Nowhere))
@@ -102,19 +73,8 @@ falls_once n t below = falls n t ∙ ap one_if (lt-ltb t n below)
 -- All seats are free at first.
 all_marked : (n : ℕ) → AreMarked [] (falling n) (replicate n lists.Free)
 all_marked n = (none_marked is_queued lists.Nowhere n lists.Free refl refl, record { each = each; many = many }) where
-  at : (t : ℕ) → (t < n) ⊎ (n ≤ t) → times t (falling n) ≡ has_mark is_free lists.Nowhere (replicate n lists.Free) t
-  at t (inl below) =
-      falls_once n t below ∙ sym (ap (λ z. one_if (is_free z)) (get_or-replicate n t lists.Free lists.Nowhere below))
-  at t (inr past) =
-      falls n t ∙ above past
-      ∙ sym (ap (λ z. one_if (is_free z)) (get_or_past (replicate n lists.Free) t lists.Nowhere
-      (omega (arith, past, length-replicate n lists.Free))))
-    where
-      above : n ≤ t → one_if (nat_lt t n) ≡ 0
-      above past = grind (arith, nat_tests)
-
   each : (t : ℕ) → times t (falling n) ≡ has_mark is_free lists.Nowhere (replicate n lists.Free) t
-  each t = at t (cases_lt t n)
+  each t = let below = cases_lt t n in grind (arith, nat_tests, falls n t, get_or-replicate, get_or_past, length-replicate)
 
   many : length (falling n) ≡ count_by is_free (replicate n lists.Free)
   many = length_falling n ∙ grind (arith, common_steps, sum_by-replicate (λ x. one_if (is_free x)) n lists.Free)

@@ -48,8 +48,7 @@ same_selves same self (d ∷ doors) = (self d, same_selves same self doors)
 pub same_set : {D : Type 0} (same : D → D → Type 0) (handed_in doors : List D) (i : ℕ) (d later : D)
     → ((first : D) → same first (slice_index_or doors i d) → same first later)
     → AreSame same handed_in doors → AreSame same handed_in (slice_set doors i later)
-same_set same [] [] i d later on h = h
-same_set same [] (y ∷ doors) i d later on h = absurd h
+same_set same [] doors i d later on h = grind arith
 same_set same (x ∷ handed_in) [] i d later on h = absurd h
 same_set same (x ∷ handed_in) (y ∷ doors) zero d later on h = (on x h.0, h.1)
 same_set same (x ∷ handed_in) (y ∷ doors) (suc i) d later on h = (h.0, same_set same handed_in doors i d later on h.1)
@@ -131,19 +130,15 @@ module _ {L D : Type 0} {l : Line L} {d : Door D L} {seats : List (Attendant L)}
       → AllRested l d first.seats.items first.doors.items (slice_set seats i new) doors)
   keeps_seat {a} {new} below all is tends =
       let there : i < length doors = omega (arith, all.doored, below) in
-      let x = slice_index_or doors i (some_one doors i there) in
-      subst (λ (ds : List D). AllTended l d (slice_set seats i new) ds
-      × ((first : Row L D) → AllRested l d first.seats.items first.doors.items seats doors
-      → AllRested l d first.seats.items first.doors.items (slice_set seats i new) ds)) (set-get_or doors i (some_one doors i there))
-      (keeps_set below all is (get_or_default doors i (some_one doors i there) x there) (tends (door_seen d x))
-      (λ first h. h))
+      let y = some_one doors i there in
+      let x = slice_index_or doors i y in
+      let same = set-get_or doors i y in
+      rw same at (keeps_set below all is (get_or_default doors i y x there) (tends (door_seen d x)) (λ first h. h))
 
   -- A seat and a door that were looked up are placed together.
   pub placed_there : {a : Attendant L} {x : D} → i < length seats
       → AllTended l d seats doors → a ≡ slice_index_or seats i a → x ≡ slice_index_or doors i x → IsPlaced a.phase (door_seen d x)
-  placed_there {a} {x} below all a_is x_is =
-      looked_up (λ (u : Attendant L) (v : D). IsPlaced u.phase (door_seen d v)) seats doors i a a x x below all.doored a_is x_is
-      (let t = all.each i below a x in t.tended.placed)
+  placed_there {a} {x} below all a_is x_is = rw (a_is, x_is) (all.each i below a x).tended.placed
 
 module _ {L D : Type 0} (l : Line L) (d : Door D L) where
   -- Nothing was done with a row.

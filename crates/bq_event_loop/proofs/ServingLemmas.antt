@@ -157,13 +157,9 @@ module _ {C K L D : Type 0} {k : Core K} {c : Clock C} {l : Line L} {d : Door D 
   -- A seat rested.
   pub acted_rested : {seat : ℕ} {core : Hub C K} {row later : Row L D} → IsInOrder (state_of k core) → KeepsRow l d row later
       → ChangesOnly seat row.seats.items later.seats.items → SeatActed k c l d seat core row core later
-  acted_rested {seat} {core} {row} order keeps only = record {
-    order = order;
-    tended = keeps.0;
-    serves = serves_rested (keeps.1 row (rested_none l d row.seats.items row.doors.items));
-    only = only;
-    wakes = wakes_none core.mails.items core.wake_queue;
-  }
+  acted_rested {seat} {core} {row} order keeps only =
+      let rested = keeps.1 row (rested_none l d row.seats.items row.doors.items) in
+      grind (arith, serves_rested, wakes_none)
 
   -- A seat did one thing after another.
   pub acted_then : {seat : ℕ} {old core new : Hub C K} {row mid later : Row L D} → SeatActed k c l d seat old row core mid
@@ -182,11 +178,9 @@ module _ {C K L D : Type 0} {k : Core K} {c : Clock C} {l : Line L} {d : Door D 
   serves_control {old} {new} {row} seat more is trace =
       let w = trace.0.2 in
       serves_by trace.0.0 w.history w.took trace.0.1 w.trace refl refl
-      (λ t below a x. tends_none l (slice_index_or row.seats.items t a) (door_seen d (slice_index_or row.doors.items t x))
-      (steps_at t w.history)
-      (w.took t) (w.others_still t (λ e. omega (arith, is, below, e))) (w.others_took t (λ e. omega (arith, is, below, e))))
-      (ap (λ n. steps_at n w.history) (sym is) ∙ w.submitted_is)
-      (λ t above. w.others_still t (λ e. omega (arith, is, above, e))) (λ handed_in h. h)
+      (λ t below a x. tends_none l _ _ _ _ (w.others_still t (λ e. omega (arith, is, below, e)))
+      (w.others_took t (λ e. omega (arith, is, below, e))))
+      (rw (← is) w.submitted_is) (λ t above. w.others_still t (λ e. omega (arith, is, above, e))) (λ handed_in h. h)
 
   -- A tick was taken, or answers moved to another place.
   pub serves_time : {old new : Hub C K} {row : Row L D} (i : ℕ) → HubTrace k c i old [] [] new
@@ -194,10 +188,8 @@ module _ {C K L D : Type 0} {k : Core K} {c : Clock C} {l : Line L} {d : Door D 
   serves_time {old} {new} {row} i trace =
       let w = trace.0.2 in
       let none = none_acted i (state_of k old) (state_of k new) trace.0.0 w in
-      serves_by trace.0.0 w.history w.took trace.0.1 w.trace refl refl
-      (λ t below a x. tends_none l (slice_index_or row.seats.items t a) (door_seen d (slice_index_or row.doors.items t x))
-      (steps_at t w.history)
-      (w.took t) (none t).0 (none t).1) (none (length row.seats.items)).0 (λ t above. (none t).0) (λ handed_in h. h)
+      serves_by trace.0.0 w.history w.took trace.0.1 w.trace refl refl (λ t below a x. tends_none l _ _ _ _ (none t).0 (none t).1)
+      (none _).0 (λ t above. (none t).0) (λ handed_in h. h)
 
   -- A seat acted, with its door, which were looked up.
   pub serves_acted : {old new : Hub C K} {row later : Row L D} (i : ℕ) (a next : Attendant L) (x door : D) → i < length row.seats.items
@@ -207,17 +199,13 @@ module _ {C K L D : Type 0} {k : Core K} {c : Clock C} {l : Line L} {d : Door D 
       → later.seats.items ≡ slice_set row.seats.items i next → later.doors.items ≡ slice_set row.doors.items i door
       → ServesOn k c l d old row [] new later
   serves_acted {old} {new} {row} {later} i a next x door below doored a_is x_is goes on seats_are doors_are =
-      serves_by trace.0.0 w.history w.took trace.0.1 w.trace (ap length seats_are ∙ length-set seats i next)
-      (ap length doors_are ∙ length-set doors i door)
+      serves_by trace.0.0 w.history w.took trace.0.1 w.trace (grind (arith, length-set)) (grind (arith, length-set))
       (λ t here y z. rw (seats_are, doors_are)
       (set_each (λ (n : ℕ) (u : Attendant L) (v : D). Tends l.seen (slice_index_or seats n y) (door_seen d (slice_index_or doors n z))
       (steps_at n w.history) (w.took n) u (door_seen d v)) seats doors i next door y z below doored (own y z)
-      (λ n differs there. tends_none l (slice_index_or seats n y) (door_seen d (slice_index_or doors n z)) (steps_at n w.history) (w.took n)
-      (w.others_still n differs) (w.others_took n differs)) t here))
-      (w.others_still (length row.seats.items) (λ e. omega (arith, below, e)))
-      (λ t above. w.others_still t (λ e. omega (arith, below, above, e)))
-      (λ handed_in h. rw doors_are
-      (same_set d.same handed_in doors i x door (subst (λ (v : D). (first : D) → d.same first v → d.same first door) x_is on) h))
+      (λ n differs there. tends_none l _ _ _ _ (w.others_still n differs) (w.others_took n differs)) t here))
+      (grind arith) (λ t above. grind arith)
+      (λ handed_in h. rw doors_are (same_set d.same handed_in doors i x door (rw (← x_is) on) h))
     where
       seats : List (Attendant L)
       seats = row.seats.items

@@ -1,7 +1,7 @@
 -- A run, which is over or not: what was served so far, in the terms of the promise.
 use Rattle.std.proofs.lemmas.Grind.{common_steps}
 use Rattle.std.proofs.Common.{◌≡◌, ℕ, suc, ◌+◌, ◌<◌, ◌≤◌, Bool, true, false, List, [], ◌∷◌, ◌++◌, Option}
-use Rattle.std.proofs.Common.{map, length, replicate, refl, sym, ap, ◌∙◌, arith, subst, inl, inr, add-zero, append-nil}
+use Rattle.std.proofs.Common.{map, length, replicate, refl, sym, ap, ◌∙◌, arith, subst, inl, inr, append-nil}
 use Rattle.std.proofs.Common.{append_assoc, slice_index_or}
 use Rattle.std.proofs.lemmas.List.{length-map, replicate-append-replicate}
 use Rattle.std.specs.List.{All}
@@ -11,7 +11,7 @@ use Rattle.bq_job.specs.declared.answer.Answer.{Answer}
 use Rattle.bq_job.specs.declared.step.Step.{Step}
 use Rattle.bq_job.specs.declared.step.Step.TheVariants.{Drain, Gone}
 use Rattle.bq_job.specs.beside.Ties.{AreTied}
-use Rattle.bq_job.specs.machine.Machine.{Machine, new_machine}
+use Rattle.bq_job.specs.machine.Machine.{new_machine}
 use Rattle.bq_job.specs.promise.CoreDid.{IsRun}
 use Rattle.bq_job.specs.promise.ControlDid.{drains, drains_from, one_if}
 use Rattle.bq_job.specs.promise.Headline.{AreSeatsUpTo, IsHistoryOf}
@@ -103,10 +103,6 @@ module _ {L : Type 0} (seen : L → LineSeen) where
   out_at size machine phases.Leaving submitted taken more at = inl at.0
   out_at size machine phases.Done submitted taken more at = inr at.0
 
-  -- the answers of the connections that have ended, and then those of the open connection
-  got_first : (got getting more taken : List Answer) → taken ≡ got ++ getting → taken ++ more ≡ got ++ (getting ++ more)
-  got_first got getting more taken is = ap (λ (xs : List Answer). xs ++ more) is ∙ append_assoc got getting more
-
   out_so_far : (size : ℕ) (a : Attendant L) (door : DoorSeen) (submitted : List Step) (taken more : List Answer)
       → (t : IsTended seen size a door submitted taken)
       → AreLinesOwed size door.lines_over t.before t.got
@@ -117,11 +113,9 @@ module _ {L : Type 0} (seen : L → LineSeen) where
 module _ {L D : Type 0} (l : Line L) (d : Door D L) where
   many_doors : (seats : List (Attendant L)) (doors : List D) → length doors ≡ length seats
       → length (doors_so_far l.seen d.lines_over d.is_out seats doors) ≡ length seats
-  many_doors [] [] e = refl
-  many_doors [] (x ∷ doors) e = refl
+  many_doors [] doors e = grind arith
   many_doors (a ∷ seats) [] e = e
-  many_doors (a ∷ seats) (x ∷ doors) e =
-      ap suc (many_doors seats doors (let f : suc (length doors) ≡ suc (length seats) = e in omega arith))
+  many_doors (a ∷ seats) (x ∷ doors) e = grind (arith, many_doors seats doors)
 
 -- ---- a run
 
@@ -186,18 +180,14 @@ module _ {L D C I K : Type 0} {k : Core K} {c : Clock C} {l : Line L} {d : Door 
   -- Along it, the core stayed within its bounds.
   within_bounds : AreCompared (new_machine begun.settings) s.served.history s.served.trace.given (k.machine core.timed.core) 0
       (k.comparisons core.timed.core)
-  within_bounds =
-      subst (λ (m : Machine). AreCompared m s.served.history s.served.trace.given (k.machine core.timed.core) 0
-      (k.comparisons core.timed.core)) s.is_new.core
-      (compared_all s.first (state_of k core) s.served.history s.served.trace.given s.is_new.unknown s.is_new.none_compared
-      s.served.trace.compared)
+  within_bounds = grind (arith, compared_all s.first (state_of k core))
 
   -- Its steps are those of the seats, and of the control line after them.
   control_steps : steps_at begun.settings.seats s.served.history ≡ s.told
-  control_steps = ap (λ n. steps_at n s.served.history) (sym s.many) ∙ s.served.control_is
+  control_steps = grind arith
 
   no_others : AreSeatsUpTo begun.settings.seats s.served.history
-  no_others = up_to begun.settings.seats s.served.history (λ n above. s.served.nobody_else n (let e = s.many in omega arith))
+  no_others = grind (arith, up_to)
 
   -- The core's settings are those that it began with.
   pub serving_settings : StepsKeepSettings → (k.machine core.timed.core).settings ≡ begun.settings
@@ -223,26 +213,20 @@ module _ {L D C I K : Type 0} {k : Core K} {c : Clock C} {l : Line L} {d : Door 
       let did = g.tended in
       let owed = seat_owed_so_far begun.settings begun.settings.max_job_size t (d.lines_over x) did.before did.now did.got
       (did.getting ++ waiting t (state_of k core)) s.served.history s.served.trace.given (k.machine core.timed.core) g.within ran.runs
-      did.submitted_is
-      (g.answers_are ∙ got_first l.seen did.got did.getting (waiting t (state_of k core)) (s.served.took t) did.taken_is)
-      (got_few l.seen begun.settings.max_job_size a (door_seen d x) (steps_at t s.served.history) (s.served.took t) g.tended g.few)
-      did.of_lines in
+      did.submitted_is (grind (arith, append_assoc)) (got_few l.seen _ _ _ _ _ g.tended g.few) did.of_lines in
       search (out_so_far, g.answers_are, g.tended)
 
   -- the doors from this seat on
   doors_begun : (n : ℕ) (seats : List (Attendant L)) (doors : List D)
-      → ((j : ℕ) → j < length seats → (a : Attendant L) (x : D)
-      → IsSeatSoFar (n + j) (slice_index_or seats j a) (door_seen d (slice_index_or doors j x)))
+      → ((j t : ℕ) → t ≡ n + j → j < length seats → (a : Attendant L) (x : D)
+      → IsSeatSoFar t (slice_index_or seats j a) (door_seen d (slice_index_or doors j x)))
       → AreDoorsOwedSoFar begun.settings.max_job_size n
       (doors_so_far l.seen d.lines_over d.is_out seats doors) s.served.history s.served.trace.given
-  doors_begun n [] [] h = tt
-  doors_begun n [] (x ∷ doors) h = tt
+  doors_begun n [] doors h = grind arith
   doors_begun n (a ∷ seats) [] h = tt
   doors_begun n (a ∷ seats) (x ∷ doors) h = (
-    seat_so_far n a x (subst (λ (t : ℕ). IsSeatSoFar t a (door_seen d x)) (add-zero n) (h 0 (omega arith) a x)),
-    doors_begun (suc n) seats doors (λ j below b y.
-        subst (λ (t : ℕ). IsSeatSoFar t (slice_index_or seats j b) (door_seen d (slice_index_or doors j y)))
-        (let e : n + suc j ≡ suc n + j = omega arith in e) (h (suc j) (omega (arith, below)) b y)),
+    seat_so_far n a x (h 0 n (omega arith) (omega arith) a x),
+    doors_begun (suc n) seats doors (λ j t is below. h (suc j) t (omega arith) (omega arith)),
   )
 
   -- The promise so far.
@@ -260,9 +244,8 @@ module _ {L D C I K : Type 0} {k : Core K} {c : Clock C} {l : Line L} {d : Door 
           given = s.served.trace.given;
           run = ran;
           many = many_doors l d row.seats.items row.doors.items s.served.doored ∙ s.many;
-          of_doors = doors_begun 0 row.seats.items row.doors.items (λ j below a x.
-              subst (λ (n : ℕ). IsSeatSoFar n (slice_index_or row.seats.items j a) (door_seen d (slice_index_or row.doors.items j x)))
-              (let e : j ≡ 0 + j = omega arith in e) (seat_served j below a x));
+          of_doors = doors_begun 0 row.seats.items row.doors.items (λ j t is below a x.
+              rw (let e : t ≡ j = omega (arith, is) in e) (seat_served j below a x));
           of_control = grind arith;
           of_nobody_else = no_others;
         };
@@ -285,20 +268,13 @@ module _ {L D C I K : Type 0} {k : Core K} {c : Clock C} {l : Line L} {d : Door 
 
     -- the doors from this seat on
     doors_tied : (n : ℕ) (rest : List D)
-        → ((j : ℕ) → j < length rest → (x : D) → IsDoorDone (n + j) (door_seen d (slice_index_or rest j x)))
+        → ((j t : ℕ) → t ≡ n + j → j < length rest → (x : D) → IsDoorDone t (door_seen d (slice_index_or rest j x)))
         → AreTied begun.settings.max_job_size n (map d.lines_over rest) (λ t. steps_at t s.served.history) s.served.took
         (λ t. waiting t (state_of k core)) s.served.history s.served.trace.given
     doors_tied n [] h = tt
     doors_tied n (x ∷ rest) h =
-        let more = doors_tied (suc n) rest (λ j below y.
-        subst (λ (t : ℕ). IsDoorDone t (door_seen d (slice_index_or rest j y)))
-        (let e : n + suc j ≡ suc n + j = omega arith in e) (h (suc j) (omega (arith, below)) y)) in
-        let here : IsDoorDone n (door_seen d x) = subst (λ (t : ℕ). IsDoorDone t (door_seen d x)) (add-zero n) (h 0 (omega arith) x) in (
-          refl,
-          here.answers_are,
-          here.served.done,
-          more,
-        )
+        let here = h 0 n (omega arith) (omega arith) x in
+        (refl, here.answers_are, here.served.done, doors_tied (suc n) rest (λ j t is below. h (suc j) t (omega arith) (omega arith)))
 
     -- The promise of a run that is over.
     pub record IsLoopOver : Type 0 where
@@ -323,9 +299,7 @@ module _ {L D C I K : Type 0} {k : Core K} {c : Clock C} {l : Line L} {d : Door 
             of_doors = doors_owed begun.settings begun.settings.max_job_size 0 (map d.lines_over row.doors.items)
                 (λ n. steps_at n s.served.history) s.served.took (λ n. waiting n (state_of k core)) s.served.history s.served.trace.given
                 (k.machine core.timed.core) (omega (arith, many)) ran.runs
-                (doors_tied 0 row.doors.items (λ j below x.
-                subst (λ (n : ℕ). IsDoorDone n (door_seen d (slice_index_or row.doors.items j x)))
-                (let e : j ≡ 0 + j = omega arith in e) (door_done j below x)));
+                (doors_tied 0 row.doors.items (λ j t is below x. rw (let e : t ≡ j = omega (arith, is) in e) (door_done j below x)));
             of_control = control_steps ∙ t.done;
             of_nobody_else = no_others;
           };
