@@ -1,6 +1,6 @@
 -- What the threads of a run did, combined along the core's history.
 use Rattle.std.proofs.Common.{◌≡◌, ℕ, zero, suc, ◌+◌, ◌<◌, Bool, true, List, [], ◌∷◌, ◌++◌, Option, map, filter, length}
-use Rattle.std.proofs.Common.{refl, sym, ap, ◌∙◌, arith, subst, append-nil, add-zero, slice_index_or, not, nat_le}
+use Rattle.std.proofs.Common.{refl, sym, ap, ◌∙◌, arith, append-nil, slice_index_or, not, nat_le}
 use Rattle.std.specs.Prelude.{◌==◌}
 use Rattle.std.specs.List.{list_all}
 use Rattle.std.proofs.lemmas.List.{get_or_append_left, length-append, length-map}
@@ -57,30 +57,24 @@ seats_below : (seats : ℕ) (entries : List Entry) → AreBelow (seats + 1) (pai
 seats_below seats [] h = refl
 seats_below seats (e ∷ entries) h = grind (arith, le-leb, seats_below seats entries h.1)
 
--- the answers that the end at a place took, and those that wait for it
-taken_at : List SeatState → ℕ → List Answer
-taken_at [] place = []
-taken_at (e ∷ ends) zero = e.taken
-taken_at (e ∷ ends) (suc place) = taken_at ends place
+-- the answers of the end at a place
+answers_at : (SeatState → List Answer) → List SeatState → ℕ → List Answer
+answers_at of [] place = []
+answers_at of (e ∷ ends) zero = of e
+answers_at of (e ∷ ends) (suc place) = answers_at of ends place
 
-waiting_at : List SeatState → ℕ → List Answer
-waiting_at [] place = []
-waiting_at (e ∷ ends) zero = e.waiting
-waiting_at (e ∷ ends) (suc place) = waiting_at ends place
+answers_there : (of : SeatState → List Answer) (ends : List SeatState) (place : ℕ) (d : SeatState) → place < length ends
+    → answers_at of ends place ≡ of (slice_index_or ends place d)
+unfolding answers_at
+answers_there of [] place d h = absurd (omega (arith, h))
+answers_there of (e ∷ ends) zero d h = refl
+answers_there of (e ∷ ends) (suc place) d h = answers_there of ends place d (omega (arith, h))
 
-taken_there : (ends : List SeatState) (place : ℕ) (d : SeatState) → place < length ends
-    → taken_at ends place ≡ (slice_index_or ends place d).taken
-unfolding taken_at
-taken_there [] place d h = absurd (omega (arith, h))
-taken_there (e ∷ ends) zero d h = refl
-taken_there (e ∷ ends) (suc place) d h = taken_there ends place d (omega (arith, h))
+abbrev taken_at : List SeatState → ℕ → List Answer
+taken_at = answers_at (λ e. e.taken)
 
-waiting_there : (ends : List SeatState) (place : ℕ) (d : SeatState) → place < length ends
-    → waiting_at ends place ≡ (slice_index_or ends place d).waiting
-unfolding waiting_at
-waiting_there [] place d h = absurd (omega (arith, h))
-waiting_there (e ∷ ends) zero d h = refl
-waiting_there (e ∷ ends) (suc place) d h = waiting_there ends place d (omega (arith, h))
+abbrev waiting_at : List SeatState → ℕ → List Answer
+waiting_at = answers_at (λ e. e.waiting)
 
 -- a list with an element at this place has one
 some_of : {X : Type 0} (xs : List X) (place : ℕ) → place < length xs → X
@@ -156,30 +150,28 @@ module _ {D : Type 0} (at : D → DoorSeen) (settings : Settings) (readings : Li
       let e : SeatState = some_of ends place here in
       let s = a.served place d e below in
       let of = end_of place e here in
-      let took = taken_there ends place e here in
+      let took = answers_there (λ x. x.taken) ends place e here in
       record {
         done = rw (of.submitted_is, took) s.done;
-        answers_are = rw (took, waiting_there ends place e here) (of.given_is ∙ of.sent_is);
+        answers_are = rw (took, answers_there (λ x. x.waiting) ends place e here) (of.given_is ∙ of.sent_is);
       }
 
   abbrev lines_of : D → List LineOver
   lines_of d = (at d).lines_over
 
   -- the doors from this place on
-  doors_tied : (from : ℕ) (rest : List D) → ((j : ℕ) → j < length rest → (d : D) → IsDoorTied (from + j) (at (slice_index_or rest j d)))
+  doors_tied : (from : ℕ) (rest : List D)
+      → ((j t : ℕ) → t ≡ from + j → j < length rest → (d : D) → IsDoorTied t (at (slice_index_or rest j d)))
       → AreTied settings.max_job_size from (map lines_of rest) (λ place. steps_at place history) (taken_at ends)
       (waiting_at ends) history given
   doors_tied from [] h = tt
   doors_tied from (d ∷ rest) h =
-      let more = doors_tied (suc from) rest (λ j below e.
-      rw (let e : from + suc j ≡ suc from + j = omega arith in e) at (h (suc j) (omega (arith, below)) e)) in
-      let here : IsDoorTied from (at d) = subst (λ (n : ℕ). IsDoorTied n (at d)) (add-zero from) (h 0 (omega arith) d) in
-      (refl, here.answers_are, here.done, more)
+      let here = h 0 from (omega arith) (omega arith) d in
+      (refl, here.answers_are, here.done, doors_tied (suc from) rest (λ j t is below. h (suc j) t (omega arith) (omega arith)))
 
   all_tied : AreTied settings.max_job_size 0 (map lines_of doors) (λ place. steps_at place history) (taken_at ends)
       (waiting_at ends) history given
-  all_tied = doors_tied 0 doors (λ j below d.
-      subst (λ (n : ℕ). IsDoorTied n (at (slice_index_or doors j d))) (let e : j ≡ 0 + j = omega arith in e) (door_tied j below d))
+  all_tied = doors_tied 0 doors (λ j t is below d. rw (let e : t ≡ j = omega (arith, is) in e) (door_tied j below d))
 
   control_tied : IsControlDone text failed (steps_at settings.seats history)
   control_tied =
@@ -257,17 +249,6 @@ all_done at gives left may_fail settings doors core core_back core_last firsts l
           ap (λ (n : ℕ). slice_index_or (lasts ++ last ∷ []) n e) (sym many) ∙ last_at lasts last e in
           rw ((kept.each settings.seats e within).1, is) k.done;
     }
-
--- The parts of what the threads returned, at the values that they began with.
-pub core_over_of : {C : Type 0} (gives : C → List (Option ℕ) → C → Type 0) (settings from : Settings) (core begun : CoreState)
-    (clock first : C) (last : CoreState) (machine : Machine) (to : ℕ) (after : C)
-    → from ≡ settings → begun ≡ core → first ≡ clock → IsCoreOver gives from begun first last machine to after
-    → IsCoreOver gives settings core clock last machine to after
-core_over_of {C} gives settings from core begun clock first last machine to after a b d o = rw (a, b, d) at o
-
-pub served_of : {D : Type 0} (at : D → DoorSeen) (size limit : ℕ) (firsts lasts : List SeatState) (doors : List D) → limit ≡ size
-    → AreServed at limit firsts lasts doors → AreServed at size firsts lasts doors
-served_of at size limit firsts lasts doors e s = rw e at s
 
 -- There is still a door for each seat.
 pub still_doored : {D : Type 0} (at : D → DoorSeen) (size seats : ℕ) (all firsts lasts : List SeatState)

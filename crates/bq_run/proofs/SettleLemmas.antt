@@ -1,8 +1,8 @@
 -- Ends are compared with the core's one after another.
-use Rattle.std.proofs.Common.{◌≡◌, ◌≢◌, ℕ, zero, suc, ◌+◌, ◌<◌, List, [], ◌∷◌, length, refl, arith, inl, inr, slice_set, slice_index_or}
+use Rattle.std.proofs.Common.{◌≡◌, ◌≢◌, ℕ, ◌+◌, ◌<◌, List, length, arith, inl, inr, slice_set, slice_index_or}
 use Rattle.std.specs.Prelude.{◌==◌}
 use Rattle.std.proofs.lemmas.Bool.{cases_Bool, eqb-false, eqb-true}
-use Rattle.std.proofs.lemmas.List.{get_or-set_other, get_or-set_same, length-set}
+use Rattle.std.proofs.lemmas.List.{get_or-set_other, get_or-set_same, get_or_default, length-set}
 use Rattle.bq_link.specs.EndStates.{CoreState, IsPair, SeatState}
 use Rattle.bq_run.specs.Linked.{ArePaired, AreStill, IsCoreStill, IsEndStill, IsSettled}
 use Rattle.bq_run.specs.declared.run.Run.{Run}
@@ -10,11 +10,6 @@ use Rattle.bq_run.specs.declared.run.posts.Ended.{Ended}
 
 pub core_still_on : (first next last : CoreState) → IsCoreStill first next → IsCoreStill next last → IsCoreStill first last
 core_still_on first next last a b = grind arith
-
-there : (ends : List SeatState) (i : ℕ) (x d : SeatState) → i < length ends → slice_index_or ends i x ≡ slice_index_or ends i d
-there [] i x d below = absurd (omega (arith, below))
-there (e ∷ ends) zero x d below = refl
-there (e ∷ ends) (suc i) x d below = there ends i x d (omega (arith, below))
 
 -- An end that was compared stays settled.
 settled_on : (core later : CoreState) (place : ℕ) (seat : SeatState) → IsCoreStill core later → IsSettled core place seat
@@ -31,7 +26,7 @@ pair_at core later first ends i x paired c s below = grind arith
 pub still_set : (first ends : List SeatState) (i : ℕ) (x new : SeatState) → i < length ends → AreStill first ends
     → IsEndStill (slice_index_or ends i x) new → AreStill first (slice_set ends i new)
 still_set first ends i x new below s e =
-    grind (arith, length-set, cases_Bool, eqb-true, get_or-set_same, there, get_or-set_other, eqb-false)
+    grind (arith, length-set, cases_Bool, eqb-true, get_or-set_same, get_or_default, get_or-set_other, eqb-false)
 
 pub settled_more : (core later : CoreState) (ends : List SeatState) (i : ℕ) (new : SeatState) → i < length ends → IsCoreStill core later
     → ((place : ℕ) (d : SeatState) → place < i → IsSettled core place (slice_index_or ends place d)) → IsSettled later i new

@@ -4,7 +4,7 @@ use Rattle.bq_line.specs.Tending.{door_seen}
 use Rattle.bq_host.specs.declared.fault.RunFault.TheVariants.{BadConfiguration}
 use Rattle.bq_link.specs.EndStates.{CoreState, IsSameCore, SeatState}
 use Rattle.bq_run.specs.ThreadRuns.{IsRunOf}
-use Rattle.bq_run.proofs.LinkedLemmas.{all_done, core_over_of, run_joined, run_keeps_settings, served_of, still_doored}
+use Rattle.bq_run.proofs.LinkedLemmas.{all_done, run_joined, run_keeps_settings, still_doored}
 use Rattle.bq_run.proofs.SettleLemmas.{same_run}
 use Rattle.bq_run.proofs.ThreadLemmas.{all_at_end, back_paired, no_fault, other_fault, well_configured}
 use Rattle.bq_run.proofs.run.run_sessions.Goals as goal
@@ -56,10 +56,8 @@ returns-clause-served g c =
     let all = c.in-Ok.ends.items in
     let firsts : List SeatState = map (λ q. q.end) posts.seats.items in
     let lasts = ended.ends.items in
-    let o = core_over_of g.C.Clock.given config _ c.in-Ok.core_end _ c.args.clock _ ended.core_end (g.K.QueueCore.machine ended.core)
-    (g.K.QueueCore.comparisons ended.core) ended.clock is p.core p.clock v.core in
-    let s = served_of at config.max_job_size _ firsts lasts ended.doors.items
-    (ap (λ (s : Settings). s.max_job_size) is) v.served in
+    let o = rw (is, p.core, p.clock) at v.core in
+    let s = rw (ap (λ (s : Settings). s.max_job_size) is) at v.served in
     let k = rw p.control at v.control in
     let doored = still_doored at config.max_job_size config.seats all firsts lasts ended.doors.items posts.control.end p.ends
     c.in-Ok.ensures.seats.0 s in
