@@ -3,14 +3,13 @@ use Rattle.std.proofs.Common.{◌≡◌, ℕ, zero, suc, ◌+◌, ◌<◌, Bool,
 use Rattle.std.proofs.Common.{length, replicate, refl, sym, ap, ◌∙◌, ◌⊎◌, inl, inr, append-nil, append_assoc, arith}
 use Rattle.std.specs.Prelude.{◌==◌, slice_index_or}
 use Rattle.std.proofs.lemmas.{Bool.{cases_Bool, eqb-true}, Grind.common_steps}
-use Rattle.bq_job.specs.declared.answer.Answer.{Answer}
 use Rattle.bq_job.specs.declared.settings.Settings.{Settings}
 use Rattle.bq_job.specs.declared.step.Step.{Step}
 use Rattle.bq_job.specs.declared.step.Step.TheVariants.{Gone}
 use Rattle.bq_job.specs.machine.Dispatch.{GivenAnswer}
 use Rattle.bq_job.specs.promise.Runs.{Entry, answers_to}
 use Rattle.bq_job.proofs.OneClientLemmas.{answers_append}
-use Rattle.bq_link.specs.EndStates.{CoreState, sent_to}
+use Rattle.bq_link.specs.EndStates.{sent_to}
 use Rattle.bq_link.specs.NewEnds.{IsNewCore}
 use Rattle.bq_link.specs.Submissions.{AreBelow, steps_of}
 use Rattle.bq_link.proofs.SubmissionLemmas.{below_push, of_other, of_own}
@@ -60,19 +59,9 @@ worked_on : (settings : Settings) (from : ℕ) (readings reads : List (Option �
     → ((t : ℕ) → t < length o.end.rings → sent_to o.end t ++ answers_to t (o.pending ++ given) ≡ sent_to n.end t ++ answers_to t n.pending)
     → ((t : ℕ) → slice_index_or n.gone t false ≡ true → HasGone (steps_of t n.end.taken))
     → HasWorked settings from (readings ++ reads) n
-worked_on settings from readings reads o n history given w ran rings taken below sent marked = record {
-  history = w.history ++ history;
-  given = w.given ++ given;
-  ran = ran_then (new_timed settings from) o.timed n.timed readings reads w.history history w.given given w.ran ran;
-  taken_is = made_more w.history history ∙ ap (λ (all : List (ℕ × Step)). all ++ steps_made history) w.taken_is ∙ sym taken;
-  numbers = below;
-  sent_is = grind (arith, common_steps);
-  marked = marked;
-}
-  where
-    given_on : (t : ℕ) (given now pending : List GivenAnswer) (sent : List Answer) → answers_to t given ≡ sent ++ answers_to t pending
-        → answers_to t (given ++ now) ≡ sent ++ answers_to t (pending ++ now)
-    given_on t given now pending sent h = grind (arith, common_steps, answers_append, append_assoc)
+worked_on settings from readings reads o n history given w ran rings taken below sent marked =
+    let ran = ran_then (new_timed settings from) o.timed n.timed readings reads w.history history w.given given w.ran ran in
+    grind (arith, common_steps, made_more, answers_append, append_assoc)
 
 -- The core took a step that arrived at its end.
 pub worked_step : (settings : Settings) (from : ℕ) (readings reads : List (Option ℕ)) (o n : DriverState) (at seat : ℕ) (what : Step)
@@ -82,27 +71,15 @@ pub worked_step : (settings : Settings) (from : ℕ) (readings reads : List (Opt
     → n.end ≡ record o.end { taken = o.end.taken ++ (seat, what) ∷ [] } → n.pending ≡ o.pending ++ now
     → n.gone ≡ gone_after seat what o.gone → HasWorked settings from (readings ++ reads) n
 worked_step settings from readings reads o n at seat what now below w ran end pending marked =
-    worked_on settings from readings reads o n (entry_of at seat what ∷ []) now w ran (ap (λ (c : CoreState). c.rings) end)
-    (rw (end, made_one at seat what) (no_ticks_more o.end.taken ((seat, what) ∷ [])))
-    (rw end (below_push (length o.end.rings) o.end.taken (seat, what) w.numbers below)) (λ t within. rw (end, pending) refl)
-    (rw end (marks seat what o.gone n.gone o.end.taken marked w.marked))
-
--- The core did this without a step that arrived: it took a tick, or none. Answers may have been sent.
-worked_alone : (settings : Settings) (from : ℕ) (readings reads : List (Option ℕ)) (o n : DriverState) (history : List Entry)
-    (now : List GivenAnswer) → HasWorked settings from readings o → HasRun o.timed reads history now n.timed → steps_made history ≡ []
-    → n.end.rings ≡ o.end.rings → n.end.taken ≡ o.end.taken
-    → ((t : ℕ) → t < length o.end.rings → sent_to o.end t ++ answers_to t (o.pending ++ now) ≡ sent_to n.end t ++ answers_to t n.pending)
-    → n.gone ≡ o.gone → HasWorked settings from (readings ++ reads) n
-worked_alone settings from readings reads o n history now w ran none rings taken sent gone =
-    grind (arith, worked_on settings from readings reads o n history now w ran rings, append-nil (no_ticks o.end.taken))
+    let set = marks seat what o.gone n.gone o.end.taken marked w.marked in
+    grind (arith, worked_on settings from readings reads o n (entry_of at seat what ∷ []) now w ran, made_one, no_ticks_more, below_push)
 
 -- The core did this by itself, and no answer was sent: it took a tick, or none.
 pub worked_inside : (settings : Settings) (from : ℕ) (readings reads : List (Option ℕ)) (o n : DriverState) (history : List Entry)
     (now : List GivenAnswer) → HasWorked settings from readings o → HasRun o.timed reads history now n.timed → steps_made history ≡ []
     → n.end ≡ o.end → n.pending ≡ o.pending ++ now → n.gone ≡ o.gone → HasWorked settings from (readings ++ reads) n
 worked_inside settings from readings reads o n history now w ran none end pending gone =
-    worked_alone settings from readings reads o n history now w ran none (ap (λ (c : CoreState). c.rings) end)
-    (ap (λ (c : CoreState). c.taken) end) (λ t within. rw (end, pending) refl) gone
+    grind (arith, worked_on settings from readings reads o n history now w ran, append-nil)
 
 -- if all elements are equal, so is the default for places beyond the end
 all_same : {X : Type 0} (n t : ℕ) (x : X) → slice_index_or (replicate n x) t x ≡ x
