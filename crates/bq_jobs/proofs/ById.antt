@@ -1,7 +1,7 @@
 -- The jobs by their ids.
 use Rattle.std.proofs.lemmas.Grind.{common_steps}
-use Rattle.std.proofs.Common.{◌≡◌, ℕ, suc, true, false, cond, List, [], ◌∷◌, Some, None, map, arith, refl, ap, inl, inr}
-use Rattle.std.specs.Prelude.{◌==◌, nat_lt}
+use Rattle.std.proofs.Common.{◌≡◌, ℕ, suc, cond, List, [], ◌∷◌, Some, None, map, arith, refl, ap, inl, inr}
+use Rattle.std.specs.Prelude.{◌==◌}
 use Rattle.std.specs.Ordering.{is_eq, nat_cmp}
 use Rattle.std.specs.Map.{lookup, remove_entry, set_value}
 use Rattle.std.specs.BTreeMap.{is_at, insert_entry}
@@ -30,19 +30,7 @@ lookup_by_id id (j ∷ jobs) = rw (is_eq_nat id j.id) (ap (λ o. cond (j.id == i
 pub insert_by_id : (j : Job) (jobs : List Job) → job_with j.id jobs ≡ None
     → insert_entry nat_cmp (map with_id jobs) j.id j ≡ map with_id (with_added j jobs)
 insert_by_id j [] free = refl
-insert_by_id j (k ∷ jobs) free =
-    elim (cases_Bool (k.id == j.id)) [
-      | inl same ↦ absurd (let g = rw same at free in cc)
-      | inr other ↦
-          let rest : job_with j.id jobs ≡ None = rw other at free in
-          elim (cases_Bool (nat_lt j.id k.id)) [
-            | inl before ↦ grind arith
-            | inr e ↦
-                let apart : (j.id == k.id) ≡ false = grind (arith, nat_tests) in
-                let above : nat_lt k.id j.id ≡ true = grind (arith, nat_tests) in
-                rw (e, apart, above) (ap (λ es. with_id k ∷ es) (insert_by_id j jobs rest))
-          ]
-    ]
+insert_by_id j (k ∷ jobs) free = grind (arith, nat_tests, insert_by_id j jobs)
 
 pub remove_by_id : (low next id : ℕ) (jobs : List Job) → AreIdsWithin low jobs next
     → remove_entry (is_at (nat_cmp id)) (map with_id jobs) ≡ map with_id (without id jobs)

@@ -1,7 +1,7 @@
 -- Additions to and removals from lists of jobs in the order of their ids.
 use Rattle.std.proofs.lemmas.Grind.{common_steps}
 use Rattle.std.proofs.Common.{◌≡◌, ℕ, suc, ◌+◌, ◌<◌, ◌≤◌, Bool, true, false, cond, List, [], ◌∷◌}
-use Rattle.std.proofs.Common.{◌++◌, Some, None, map, length, arith, refl, ap, ◌∙◌, inl, inr}
+use Rattle.std.proofs.Common.{◌++◌, Some, None, map, length, arith, refl, ap, ◌∙◌}
 use Rattle.std.specs.Prelude.{◌==◌, nat_lt, count_by, if◌then◌else◌, not}
 use Rattle.std.specs.List.{AllByRecursion as All, Contains}
 use Rattle.std.proofs.lemmas.Bool.{cases_Bool}
@@ -116,19 +116,12 @@ count_without p low next id j (k ∷ jobs) h found =
 
 pub length_without : (low next id : ℕ) (j : Job) (jobs : List Job) → AreIdsWithin low jobs next → job_with id jobs ≡ Some j
     → suc (length (without id jobs)) ≡ length jobs
-length_without low next id j jobs h found =
-    let left : 1 + count_by (λ k. true) (without id jobs) ≡ count_by (λ k. true) jobs =
-    count_without (λ k. true) low next id j jobs h found in
-    omega (arith, left, count_all (without id jobs), count_all jobs)
+length_without low next id j jobs h found = grind (arith, count_without (λ k. true) low next id j jobs h found, count_all)
 
 -- an id that finds no job is that of none
 pub none_has : (id : ℕ) (jobs : List Job) → job_with id jobs ≡ None → All (λ j. (j.id == id) ≡ false) jobs
 none_has id [] h = tt
-none_has id (k ∷ jobs) h =
-    elim (cases_Bool (k.id == id)) [
-      | inl out ↦ absurd (let g = rw out at h in cc)
-      | inr kept ↦ (kept, none_has id jobs (rw kept at h))
-    ]
+none_has id (k ∷ jobs) h = grind (arith, none_has id jobs)
 
 pub without_none : (id : ℕ) (jobs : List Job) → job_with id jobs ≡ None → without id jobs ≡ jobs
 without_none id jobs h = all_kept id jobs (none_has id jobs h)
@@ -138,8 +131,7 @@ pub changed : (low next id : ℕ) (f : Job → Job) (j : Job) (jobs : List Job) 
     → (f j).id ≡ id → with_added (f j) (without id jobs) ≡ map (λ k. if k.id == id then f k else k) jobs
 changed low next id f j [] h found same = absurd cc
 changed low next id f j (k ∷ jobs) h found same =
-    let rest = changed (suc k.id) next id f j jobs h.1 in
-    grind (arith, cases_Bool, all_kept, added_first, none_changed, others_above, not_found, all_from_low, nat_tests, rest)
+    grind (arith, all_kept, added_first, none_changed, others_above, nat_tests, changed (suc k.id) next id f j jobs h.1)
 
 -- after its removal, an id finds no job
 pub not_there : (id : ℕ) (jobs : List Job) → job_with id (without id jobs) ≡ None

@@ -1,6 +1,6 @@
 -- Entries in the order of their keys: lookups after a change, and the first entry from a key on.
 use Rattle.std.proofs.lemmas.Grind.{common_steps}
-use Rattle.std.proofs.Common.{◌≡◌, ℕ, true, false, cond, List, [], ◌∷◌, Some, None, arith, refl, sym, ap, ◌∙◌, inl, inr}
+use Rattle.std.proofs.Common.{◌≡◌, ℕ, true, false, cond, List, [], ◌∷◌, Some, None, arith, refl, sym, ap, ◌∙◌}
 use Rattle.std.specs.Prelude.{is_some}
 use Rattle.std.specs.declared.cmp.Ordering.{Ordering}
 use Rattle.std.specs.declared.cmp.Ordering.TheVariants.{Less, Equal}
@@ -10,7 +10,7 @@ use Rattle.std.specs.List.{AllByRecursion as All}
 use Rattle.std.specs.List.Sorted.{IsStrictlySortedBy}
 use Rattle.std.specs.Map.{keys_of, lookup, remove_entry}
 use Rattle.std.specs.BTreeMap.{is_at, insert_entry}
-use Rattle.std.proofs.lemmas.Bool.{and_parts, cases_Bool, eqb-true}
+use Rattle.std.proofs.lemmas.Bool.{and_parts, eqb-true}
 use Rattle.std.proofs.lemmas.Cmp.{alike_right}
 use Rattle.std.proofs.lemmas.Map.{lookup-remove_entry}
 use Rattle.std.proofs.lemmas.Map.Keys.{IsDistinct-from_sorted}
@@ -53,55 +53,26 @@ module _ {K V : Type 0} {R : K → K → Ordering} (o : IsTotalOrder R) where
   found_above : (x q : K) (es : List (K × V)) → All (λ k. R x k ≡ Less) (keys_of es)
       → is_some (lookup (is_at (R q)) es) ≡ true → R x q ≡ Less
   found_above x q [] a h = absurd cc
-  found_above x q (e ∷ es) a h =
-      elim (cases_Bool (is_eq (R q e.0))) [
-        | inl t ↦ alike_right o q e.0 x (equal_from (R q e.0) t) ∙ a.0
-        | inr t ↦ found_above x q es a.1 (rw t at h)
-      ]
+  found_above x q (e ∷ es) a h = grind (arith, alike_right o q e.0 x, equal_from, found_above x q es a.1)
 
   -- if there is no entry from f on, every key that is found is below f
   pub found_below : (f q : K) (es : List (K × V)) → entry_from (R f) es ≡ None → is_some (lookup (is_at (R q)) es) ≡ true
       → is_gt (R f q) ≡ true
   found_below f q [] n h = absurd cc
-  found_below f q (e ∷ es) n h =
-      elim (cases_Bool (is_gt (R f e.0))) [
-        | inr g ↦ absurd (let m = rw g at n in cc)
-        | inl g ↦ elim (cases_Bool (is_eq (R q e.0))) [
-          | inl t ↦ ap is_gt (alike_right o q e.0 f (equal_from (R q e.0) t)) ∙ g
-          | inr t ↦ found_below f q es (rw g at n) (rw t at h)
-        ]
-      ]
+  found_below f q (e ∷ es) n h = grind (arith, alike_right o q e.0 f, equal_from, found_below f q es)
 
   -- The first entry from f on is not below f, it is found, and no key from f on that is found is
   -- below it.
   pub from_not_below : (f : K) (e : K × V) (es : List (K × V)) → entry_from (R f) es ≡ Some e → is_gt (R f e.0) ≡ false
   from_not_below f e [] h = absurd cc
-  from_not_below f e (x ∷ es) h =
-      elim (cases_Bool (is_gt (R f x.0))) [
-        | inl g ↦ from_not_below f e es (rw g at h)
-        | inr g ↦ grind arith
-      ]
+  from_not_below f e (x ∷ es) h = grind (arith, from_not_below f e es)
 
   pub from_found : (f : K) (e : K × V) (es : List (K × V)) → entry_from (R f) es ≡ Some e → is_some (lookup (is_at (R e.0)) es) ≡ true
   from_found f e [] h = absurd cc
-  from_found f e (x ∷ es) h =
-      elim (cases_Bool (is_gt (R f x.0))) [
-        | inl g ↦ elim (cases_Bool (is_eq (R e.0 x.0))) [
-          | inl t ↦ rw t refl
-          | inr t ↦ rw t (from_found f e es (rw g at h))
-        ]
-        | inr g ↦ grind arith
-      ]
+  from_found f e (x ∷ es) h = grind (arith, from_found f e es)
 
   pub from_least : (f q : K) (e : K × V) (es : List (K × V)) → InOrder R es → entry_from (R f) es ≡ Some e
       → is_some (lookup (is_at (R q)) es) ≡ true → is_gt (R f q) ≡ false → is_gt (R e.0 q) ≡ false
   unfolding IsStrictlySortedBy
   from_least f q e [] s n h l = absurd cc
-  from_least f q e (x ∷ es) s n h l =
-      elim (cases_Bool (is_gt (R f x.0))) [
-        | inl g ↦ elim (cases_Bool (is_eq (R q x.0))) [
-          | inl t ↦ absurd (let same = ap is_gt (alike_right o q x.0 f (equal_from (R q x.0) t)) ∙ g in cc)
-          | inr t ↦ from_least f q e es s.1 (rw g at n) (rw t at h) l
-        ]
-        | inr g ↦ grind (arith, found_above)
-      ]
+  from_least f q e (x ∷ es) s n h l = grind (arith, found_above, alike_right o q x.0 f, equal_from, from_least f q e es s.1)

@@ -62,13 +62,13 @@ module _ {G : Type 0} {C : G → G → Ordering} (o : IsTotalOrder C) (g : G) wh
       id : place.id ≡ j.id
 
     placed_in : (j : Job) (place : Option (ShelfPlace G)) → place_of j ≡ place → passes j ≡ true → Placed j
-    placed_in j None e h = absurd (let i = sym (grouped j) ∙ h in let k = ap (in_group C g) e in cc)
+    placed_in j None e h = grind (arith, grouped j)
     placed_in j (Some p) e h = record {
       place = p;
       is = e;
-      group = sym (ap (in_group C g) e) ∙ sym (grouped j) ∙ h;
+      group = grind (arith, grouped j);
       at = numbered j p e h;
-      id = subst (λ z. IfSome z (λ p. p.id ≡ j.id)) e (own j);
+      id = grind (arith, own j);
     }
 
     placed : (j : Job) → passes j ≡ true → Placed j
@@ -121,7 +121,7 @@ module _ {G : Type 0} {C : G → G → Ordering} (o : IsTotalOrder C) (g : G) wh
       pri_and_state q t = search (rules, pri_and_state_at)
 
       tied_group : (k q : ShelfPlace G) → is_eq (C g k.group) ≡ true → is_eq (C g q.group) ≡ true → C k.group q.group ≡ Equal
-      tied_group k q a b = sym (o.congr g k.group q.group (equal_from (C g k.group) a)) ∙ equal_from (C g q.group) b
+      tied_group k q a b = grind (arith, o.congr g k.group q.group, equal_from)
 
       same_job : (x y : Job) → job_with x.id jobs ≡ Some x → Contains jobs y → before x y ≡ false → before y x ≡ false → y ≡ x
       same_job x y found i a b = grind (arith, nat_tests, found_by_id)

@@ -1,10 +1,10 @@
 -- How the chain of the free numbers changes.
 use Rattle.std.proofs.lemmas.Grind.{common_steps}
 use Rattle.std.proofs.Common.{◌≡◌, ◌≤◌, ◌<◌, ℕ, suc, zero, true, false, List, [], ◌∷◌, length, get_or, set, rules}
-use Rattle.std.proofs.Common.{Option, Some, None, is_some, arith, map, refl, sym, ap, ◌∙◌, subst, inl, inr}
+use Rattle.std.proofs.Common.{Option, Some, None, arith, map, refl, sym, ap, ◌∙◌}
 use Rattle.std.specs.Prelude.{◌==◌, ◌++◌, IfOk, OnErr, OnOk, Result, option_map, slice_get}
 use Rattle.bq_jobs.specs.Table.{changed_at, put_value}
-use Rattle.std.proofs.lemmas.Bool.{cases_Bool, eq-eqb, eqb-true}
+use Rattle.std.proofs.lemmas.Bool.{eq-eqb, eqb-true}
 use Rattle.std.proofs.lemmas.Bool.Decides.{nat_tests}
 use Rattle.std.proofs.lemmas.List.{get_or_past, get_or-set_other, get_or-set_same, length-map, map-set}
 use Rattle.bq_job.specs.declared.NoMemory.{NoMemory}
@@ -15,20 +15,14 @@ use Rattle.bq_jobs.proofs.NumberingLemmas.{flip, length_put, put_at_end, put_is_
 apart : (a b : ℕ) → (a == b) ≡ false → a ≡ b → ⊥
 apart a b e is = let t = eq-eqb a b is in cc
 
--- a number that is not in a chain is none of its numbers
-not_first : (m n : ℕ) (chain : List ℕ) → is_in m (n ∷ chain) ≡ false → ((m == n) ≡ false) × (is_in m chain ≡ false)
-not_first m n chain out = grind arith
-
+-- a number of a chain that is not its first one
 later : (m n : ℕ) (chain : List ℕ) → is_in m (n ∷ chain) ≡ true → (m == n) ≡ false → is_in m chain ≡ true
 later m n chain is e = rw e at is
 
 module _ (names : List (Option (List ℕ))) (nexts : List ℕ) where
   member_free : (chain : List ℕ) (head n : ℕ) → IsChain names nexts head chain → is_in n chain ≡ true → get_or names n None ≡ None
   member_free [] head n linked is = absurd (let e : false ≡ true = is in cc)
-  member_free (m ∷ chain) head n linked is = elim (cases_Bool (n == m)) [
-    | inl e ↦ ap (λ i. get_or names i None) (eqb-true n m e) ∙ linked.2
-    | inr e ↦ member_free chain (get_or nexts m 0) n linked.4 (later n m chain is e)
-  ]
+  member_free (m ∷ chain) head n linked is = grind (arith, eqb-true n m, member_free chain (get_or nexts m 0) n linked.4)
 
 -- A change at another number keeps a chain.
 module _ (names last : List (Option (List ℕ))) (nexts after : List ℕ) (m : ℕ) (many : length names ≤ length last)
@@ -36,14 +30,7 @@ module _ (names last : List (Option (List ℕ))) (nexts after : List ℕ) (m : �
     (nexts_stay : (n : ℕ) → (m == n) ≡ false → get_or after n 0 ≡ get_or nexts n 0) where
   chain_kept : (chain : List ℕ) (head : ℕ) → is_in m chain ≡ false → IsChain names nexts head chain → IsChain last after head chain
   chain_kept [] head out linked = tt
-  chain_kept (n ∷ chain) head out linked =
-      let other = not_first m n chain out in (
-        linked.0,
-        omega (arith, linked.1, many),
-        names_stay n other.0 ∙ linked.2,
-        linked.3,
-        subst (λ (i : ℕ). IsChain last after i chain) (sym (nexts_stay n other.0)) (chain_kept chain (get_or nexts n 0) other.1 linked.4),
-      )
+  chain_kept (n ∷ chain) head out linked = grind (arith, names_stay n, nexts_stay n, chain_kept chain (get_or nexts n 0))
 
 module _ (names : List (Option (List ℕ))) (nexts : List ℕ) (head : ℕ) (c : AreChained names nexts head) where
   -- If the first number is not free, none is.
@@ -53,11 +40,7 @@ module _ (names : List (Option (List ℕ))) (nexts : List ℕ) (head : ℕ) (c :
       of : (chain : List ℕ) → IsChain names nexts head chain
           → ((n : ℕ) → n < length names → get_or names n None ≡ None → is_in n chain ≡ true)
           → AreAllUsed names
-      of [] linked whole n less = some (get_or names n None) refl
-        where
-          some : (o : Option (List ℕ)) → get_or names n None ≡ o → is_some o ≡ true
-          some None is = absurd (let e : false ≡ true = whole n less is in cc)
-          some (Some name) is = refl
+      of [] linked whole n less = grind (arith, whole n less)
       of (m ∷ chain) linked whole n less = absurd (used (rw linked.0 linked.1) (rw linked.0 linked.2))
 
   -- The first number was given to a tube.
@@ -65,26 +48,27 @@ module _ (names : List (Option (List ℕ))) (nexts : List ℕ) (head : ℕ) (c :
       → AreChained (put_at names head (Some name)) (set nexts head y) (get_or nexts head 0)
   first_given name y within free = of c.chain c.linked c.whole
     where
-      same : length (put_at names head (Some name)) ≡ length names
-      same = length_put (Some name) names head within
-
       of : (chain : List ℕ) → IsChain names nexts head chain
           → ((n : ℕ) → n < length names → get_or names n None ≡ None → is_in n chain ≡ true)
           → AreChained (put_at names head (Some name)) (set nexts head y) (get_or nexts head 0)
-      of [] linked whole = absurd (let e : false ≡ true = whole head within free in cc)
+      of [] linked whole = grind (arith, whole head within free)
       of (m ∷ chain) linked whole = record {
         chain = chain;
-        linked = chain_kept names (put_at names head (Some name)) nexts (set nexts head y) head (omega (arith, same))
+        linked = chain_kept names (put_at names head (Some name)) nexts (set nexts head y) head
+            (grind (arith, length_put (Some name) names head within))
             (λ n e. put_other (Some name) names head n e)
             (λ n e. get_or-set_other nexts head n y 0 (λ is. apart head n e (sym is)))
-            chain (get_or nexts head 0) (ap (λ (i : ℕ). is_in i chain) linked.0 ∙ linked.3)
-            (subst (λ (i : ℕ). IsChain names nexts (get_or nexts i 0) chain) (sym linked.0) linked.4);
-        whole = λ n less none. elim (cases_Bool (n == head)) [
-          | inl e ↦ grind (arith, put_same)
-          | inr e ↦
-              let was : get_or names n None ≡ None = sym (put_other (Some name) names head n (flip n head e)) ∙ none in
-              later n m chain (whole n (omega (arith, less, same)) was) (ap (λ (i : ℕ). n == i) (sym linked.0) ∙ e)
-        ];
+            chain (get_or nexts head 0) (rw linked.0 linked.3) (rw linked.0 linked.4);
+        whole = λ n less none. grind (
+          arith,
+          put_same (Some name) names head,
+          put_other (Some name) names head n,
+          flip n head,
+          nat_tests,
+          length_put (Some name) names head within,
+          whole n,
+          linked.0,
+        );
       }
 
   -- A number is free again, and is the first now.
@@ -94,25 +78,18 @@ module _ (names : List (Option (List ℕ))) (nexts : List ℕ) (head : ℕ) (c :
     chain = m ∷ c.chain;
     linked = (
       refl,
-      omega (arith, same, within),
+      grind (arith, length_put None names m within),
       put_same None names m,
       out,
-      subst (λ (i : ℕ). IsChain (put_at names m None) (set nexts m head) i c.chain)
-          (sym (get_or-set_same nexts m head 0 (omega (arith, within, as_many))))
-          (chain_kept names (put_at names m None) nexts (set nexts m head) m (omega (arith, same))
+      rw (get_or-set_same nexts m head 0 (omega (arith, within, as_many)))
+          (chain_kept names (put_at names m None) nexts (set nexts m head) m (grind (arith, length_put None names m within))
           (λ n e. put_other None names m n e)
           (λ n e. get_or-set_other nexts m n head 0 (λ is. apart m n e (sym is)))
           c.chain head out c.linked),
     );
-    whole = λ n less none. elim (cases_Bool (n == m)) [
-      | inl e ↦ rw e refl
-      | inr e ↦ rw e (c.whole n (omega (arith, less, same)) (sym (put_other None names m n (flip n m e)) ∙ none))
-    ];
+    whole = λ n less none. grind (arith, put_other None names m n, flip n m, length_put None names m within, c.whole n);
   }
     where
-      same : length (put_at names m None) ≡ length names
-      same = length_put None names m within
-
       out : is_in m c.chain ≡ false
       out = grind (arith, member_free)
 

@@ -2,7 +2,6 @@
 use Rattle.std.proofs.Common.{◌≡◌, ℕ, List, [], ◌∷◌, Option, Some, None, arith, refl, rules}
 use Rattle.std.specs.Prelude.{if◌then◌else◌}
 use Rattle.std.specs.declared.cmp.Ordering.{Ordering}
-use Rattle.std.specs.Ordering.{match_ordering}
 use Rattle.std.specs.Map.{remove_entry}
 use Rattle.std.specs.BTreeMap.{is_at, insert_entry}
 use Rattle.std.proofs.lemmas.Bool.{cases_Bool}
@@ -34,18 +33,10 @@ first = first_rank timer_cmp Lease
 lease_first : (at id : ℕ) (es : List (ShelfPlace Timer × Unit {0})) → first ((place Lease at id, tt) ∷ es) ≡ Some (at, id)
 lease_first at id es = grind arith
 
--- an addition before, at or after a place
-entered_beside : (t u : Timer) (a i b j : ℕ) (es : List (ShelfPlace Timer × Unit {0})) (o : Ordering)
-    → compare (place t a i) (place u b j) ≡ o
-    → first (insert_entry compare es (place t a i) tt) ≡ first_with t (a, i) (first es)
-    → first (match_ordering o ((place t a i, tt) ∷ (place u b j, tt) ∷ es) ((place u b j, tt) ∷ es)
-    ((place u b j, tt) ∷ insert_entry compare es (place t a i) tt)) ≡ first_with t (a, i) (first ((place u b j, tt) ∷ es))
-entered_beside t u a i b j es o h k = search (rules, cases_Bool, lease_first)
-
 first_entered : (p : ShelfPlace Timer) (es : List (ShelfPlace Timer × Unit {0}))
     → first (insert_entry compare es p tt) ≡ first_with p.group (rank_of p) (first es)
 first_entered p [] = grind arith
-first_entered p (e ∷ es) = entered_beside p.group e.0.group p.at p.id e.0.at e.0.id es (compare p e.0) refl (first_entered p es)
+first_entered p (e ∷ es) = search (rules, cases_Bool, lease_first, first_entered p es)
 
 pub lease_entered : (lease : FirstLease) (p : ShelfPlace Timer) (es : List (ShelfPlace Timer × Unit {0})) → IsFirstLease timer_cmp lease es
     → IsFirstLease timer_cmp (lease_with p.group (rank_of p) lease) (insert_entry compare es p tt)
@@ -57,16 +48,10 @@ delay_left a i [] = refl
 delay_left a i (e ∷ es) = grind (arith, delay_left a i es)
 
 -- nor does a removed lease that was not the first one
-other_beside : (a i : ℕ) (u : Timer) (b j : ℕ) (es : List (ShelfPlace Timer × Unit {0}))
-    → (first ((place u b j, tt) ∷ es) ≡ Some (a, i) → ⊥)
-    → ((first es ≡ Some (a, i) → ⊥) → first (remove_entry (is_at (compare (place Lease a i))) es) ≡ first es)
-    → first (remove_entry (is_at (compare (place Lease a i))) ((place u b j, tt) ∷ es)) ≡ first ((place u b j, tt) ∷ es)
-other_beside a i u b j es m k = search (rules, cases_Bool, lease_first)
-
 other_left : (a i : ℕ) (es : List (ShelfPlace Timer × Unit {0})) → (first es ≡ Some (a, i) → ⊥)
     → first (remove_entry (is_at (compare (place Lease a i))) es) ≡ first es
 other_left a i [] n = refl
-other_left a i (e ∷ es) n = other_beside a i e.0.group e.0.at e.0.id es n (other_left a i es)
+other_left a i (e ∷ es) n = search (rules, cases_Bool, lease_first, other_left a i es)
 
 left_at : (t : Timer) (a i : ℕ) (lease : FirstLease) (es : List (ShelfPlace Timer × Unit {0})) → IsFirstLease timer_cmp lease es
     → IsFirstLease timer_cmp (lease_without t (a, i) lease) (remove_entry (is_at (compare (place t a i))) es)

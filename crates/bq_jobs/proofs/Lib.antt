@@ -17,5 +17,4 @@ pub mod TableLemmas
 pub mod TableViews
 pub mod TableWalks
 pub mod TestedRemovals
-pub mod ThreeShelves
 pub mod Told

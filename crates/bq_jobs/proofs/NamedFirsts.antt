@@ -1,5 +1,5 @@
 -- The first job by names of tubes is the first record by numbers.
-use Rattle.std.proofs.Common.{◌≡◌, ℕ, Bool, false, List, [], ◌∷◌, Option, Some, None, map, refl, ap, ◌∙◌, arith}
+use Rattle.std.proofs.Common.{◌≡◌, ℕ, Bool, false, List, [], ◌∷◌, Option, Some, None, map, refl, ap, arith}
 use Rattle.std.specs.Prelude.{fold}
 use Rattle.std.specs.List.{AllByRecursion as All}
 use Rattle.std.specs.Option.{option_map}
@@ -31,17 +31,12 @@ module _ (f : Job → Job) (passes test : Job → Bool) (before : Job → Job �
 -- Its number and its id are the same, if they do not depend on the name,
 module _ (k : Numbering) (passes test : Job → Bool) (number : Job → ℕ) (same : (j : Job) → number (named k j) ≡ number j) where
   alike : (a b : Job) → is_pair_before (number (named k a)) a.id (number (named k b)) b.id ≡ is_pair_before (number a) a.id (number b) b.id
-  alike a b = ap (λ n. is_pair_before n a.id (number (named k b)) b.id) (same a) ∙ ap (λ n. is_pair_before (number a) a.id n b.id) (same b)
+  alike a b = grind (arith, same)
 
   first_told : (rows : List Job) → All (λ j. passes (named k j) ≡ test j) rows
       → option_map (ranked number) (first_by passes number (map (named k) rows)) ≡ option_map (ranked number) (first_by test number rows)
   first_told rows all =
-      ap (option_map (ranked number)) (first_named (named k) passes test
-      (λ a b. is_pair_before (number a) a.id (number b) b.id) alike rows all) ∙ of (first_by test number rows)
-    where
-      of : (o : Option Job) → option_map (ranked number) (option_map (named k) o) ≡ option_map (ranked number) o
-      of None = refl
-      of (Some j) = ap (λ n. Some (n, j.id)) (same j)
+      grind (arith, first_named (named k) passes test (λ a b. is_pair_before (number a) a.id (number b) b.id) alike rows all, same)
 
 -- as in a list of a registered tube,
 listed_by : (k : Numbering) (h : IsPaired k) (name : List ℕ) (n : ℕ) → number_of name k ≡ Some n → (list : JobList) (rows : List Job)

@@ -206,13 +206,7 @@ module _ {A B : Type 0} (k : Numbering) (id : ℕ) (rows new old : JobsSeen) (ro
 
 pub no_name : (k : Numbering) (id : ℕ) (rows : List Job) → AreRegistered k rows → (n : List ℕ)
     → true ≡ is_some (job_with id rows) → IsTubeOf (job_with id rows) n → name_of (number_in n) k ≡ None → ⊥
-no_name k id rows h n some is none = of (job_with id rows) refl some is
-  where
-    of : (o : Option Job) → job_with id rows ≡ o → true ≡ is_some o → IsTubeOf o n → ⊥
-    of None there e is = absurd cc
-    of (Some j) there e is =
-        let has : is_some (name_of (number_in j.tube) k) ≡ true = (numbered_there k id rows j h.numbered there).1 in
-        grind arith
+no_name k id rows h n some is none = grind (arith, numbered_found k id rows h.numbered)
 
 pub tube_is : (k : Numbering) (id : ℕ) (rows : List Job) (n tube : List ℕ) → IsTubeOf (job_with id rows) n
     → name_of (number_in n) k ≡ Some tube → IsTubeOf (job_with id (map (named k) rows)) tube
@@ -220,8 +214,7 @@ tube_is k id rows n tube is its j e = grind (arith, job_named)
 
 pub body_told : {E : Type 0} (k : Numbering) (id : ℕ) (rows : List Job) (r : Result (List ℕ) E) → IfOk r (IsBodyOf (job_with id rows))
     → IfOk r (IsBodyOf (job_with id (map (named k) rows)))
-body_told k id rows (Ok body) is = grind (arith, job_named)
-body_told k id rows (Err e) is = tt
+body_told k id rows r is = grind (arith, job_named)
 
 -- A change of a record that also returns its body is the same change of its job.
 module _ (k : Numbering) (id : ℕ) (f : Job → Job) (ignores : IgnoresTube f) (rows new old : JobsSeen) (is : seen_named rows k ≡ old)
@@ -253,9 +246,7 @@ pub shared_has_name : {E : Type 0} (k : Numbering) (f : Job → Job) (id : ℕ) 
     × List ℕ) E))
     → AreRegistered k rows.jobs → SharesAndChanges (λ m. Some m ≡ option_map (numbered_move f) (job_with id rows.jobs)) id f r rows new
     → IsNamedIf k r
-shared_has_name k f id rows new None h c = tt
-shared_has_name k f id rows new (Some (Err e)) h c = tt
-shared_has_name k f id rows new (Some (Ok s)) h c = grind (arith, moved_has_name k f id rows.jobs h)
+shared_has_name k f id rows new r h c = grind (arith, moved_has_name k f id rows.jobs h)
 
 -- what the search takes for an addition, a change and another reference to a body
 pub ruleset additions = (ids_named, none_named, row_registered, row_added)

@@ -1,7 +1,7 @@
 -- Consequences of the numbering of tubes.
 use Rattle.std.proofs.lemmas.Grind.{common_steps}
 use Rattle.std.proofs.Common.{◌≡◌, ◌≤◌, ◌<◌, ◌^◌, ℕ, zero, suc, true, false, cond, List, [], ◌∷◌, length, get_or, set}
-use Rattle.std.proofs.Common.{Option, Some, None, is_some, arith, refl, sym, ap, ◌∙◌, inl, inr, ◌++◌}
+use Rattle.std.proofs.Common.{Option, Some, None, is_some, arith, refl, sym, ap, ◌∙◌, ◌++◌}
 use Rattle.std.specs.Prelude.{IfSome, ◌==◌}
 use Rattle.std.specs.BTreeMap.{is_at, insert_entry}
 use Rattle.std.specs.Cmp.{unsigned_tied}
@@ -82,34 +82,18 @@ module _ (k : Numbering) (h : IsPaired k) (name : List ℕ) where
     name_then n = grind (arith, cases_Bool, put_same, put_other, is_eq_nat)
 
     added_is_paired : length (put_at k.names at (Some name)) ≤ 2 ^ 30 → IsPaired (paired_with at name k)
-    added_is_paired few = record {
-      few = few;
-      by_name = order_insert nat_list_cmp_total name at k.numbers h.by_name;
-      there = λ q n own. elim (cases_Bool (is_eq (slice_cmp nat_cmp q name))) [
-        | inl e ↦
-            let is : q ≡ name = tied_names q name e in
-            let next : Some at ≡ Some n = rw e at (sym (number_then q) ∙ own) in
-            let tie : is_eq (nat_cmp n at) ≡ true = tie_numbers n at (sym (some_is at n next)) in
-            name_then n ∙ rw tie (ap (λ (s : List ℕ). Some s) (sym is))
-        | inr e ↦ grind (arith, number_then, name_then)
-      ];
-      back = λ n q its. elim (cases_Bool (is_eq (nat_cmp n at))) [
-        | inl e ↦
-            let is : n ≡ at = tied_numbers n at e in
-            let own : Some name ≡ Some q = rw e at (sym (name_then n) ∙ its) in
-            let same : name ≡ q = some_is name q own in
-            let tie : is_eq (slice_cmp nat_cmp q name) ≡ true = sym (texts_ties q name) ∙ (bytes_decides q name).1 (sym same) in
-            number_then q ∙ rw tie (ap (λ (i : ℕ). Some i) (sym is))
-        | inr e ↦
-            let was : name_of n k ≡ Some q = rw e at (sym (name_then n) ∙ its) in
-            let own = h.back n q was in
-            elim (cases_Bool (is_eq (slice_cmp nat_cmp q name))) [
-              | inl t ↦ absurd (let same = tied_names q name t in
-                  let none : number_of q k ≡ None = ap (λ s. number_of s k) same ∙ absent in cc)
-              | inr t ↦ number_then q ∙ rw t own
-            ]
-      ];
-    }
+    added_is_paired few =
+        grind (
+          arith,
+          order_insert nat_list_cmp_total name at k.numbers,
+          number_then,
+          name_then,
+          tied_names,
+          tie_numbers,
+          tied_numbers,
+          tie_names,
+          some_is,
+        )
 
   removed_then : (q : List ℕ) → lookup (is_at (slice_cmp nat_cmp q)) (remove_entry (is_at (slice_cmp nat_cmp name)) k.numbers) ≡ cond
       (is_eq (slice_cmp nat_cmp name q)) None (number_of q k)
@@ -120,38 +104,23 @@ module _ (k : Numbering) (h : IsPaired k) (name : List ℕ) where
 
   removed_by : (o : Option ℕ) → number_of name k ≡ o
       → IsPaired (record k { numbers = remove_entry (is_at (slice_cmp nat_cmp name)) k.numbers; names = names_without o k.names })
-  removed_by None none = record {
-    by_name = order_remove (slice_cmp nat_cmp) (is_at (slice_cmp nat_cmp name)) k.numbers h.by_name;
-    there = grind (arith, removed_then);
-    back = λ n q its. elim (cases_Bool (is_eq (slice_cmp nat_cmp name q))) [
-      | inl e ↦ absurd (let same = tied_names name q e in
-          let some : number_of name k ≡ Some n = ap (λ s. number_of s k) same ∙ h.back n q its in
-          let two : None ≡ Some n = sym none ∙ some in cc)
-      | inr e ↦ removed_then q ∙ rw e (h.back n q its)
-    ];
-    few = h.few;
-  }
-  removed_by (Some m) its_own = record {
-    by_name = order_remove (slice_cmp nat_cmp) (is_at (slice_cmp nat_cmp name)) k.numbers h.by_name;
-    there = λ q n own. elim (cases_Bool (is_eq (slice_cmp nat_cmp name q))) [
-      | inl e ↦ absurd (let gone : None ≡ Some n = rw e at (sym (removed_then q) ∙ own) in cc)
-      | inr e ↦ grind (arith, removed_then, cases_Bool, tie_names, some_is, taken_then)
-    ];
-    back = λ n q its. elim (cases_Bool (is_eq (nat_cmp m n))) [
-      | inl t ↦ absurd (let gone : None ≡ Some q = rw t at (sym (taken_then m n) ∙ its) in cc)
-      | inr t ↦
-          let was : name_of n k ≡ Some q = rw t at (sym (taken_then m n) ∙ its) in
-          let own : number_of q k ≡ Some n = h.back n q was in
-          elim (cases_Bool (is_eq (slice_cmp nat_cmp name q))) [
-            | inl e ↦ absurd (
-                let two : Some m ≡ Some n = sym its_own ∙ ap (λ s. number_of s k) (tied_names name q e) ∙ own in
-                let same = tie_numbers m n (some_is m n two) in
-                cc)
-            | inr e ↦ removed_then q ∙ rw e own
-          ]
-    ];
-    few = let l = length_put None k.names m (has_slot k m name (h.there name m its_own)) in omega (arith, l, h.few);
-  }
+  removed_by None none =
+      grind (arith, order_remove (slice_cmp nat_cmp) (is_at (slice_cmp nat_cmp name)) k.numbers, removed_then, tied_names name)
+  removed_by (Some m) its_own =
+      grind (
+        arith,
+        order_remove (slice_cmp nat_cmp) (is_at (slice_cmp nat_cmp name)) k.numbers,
+        removed_then,
+        taken_then m,
+        tied_names name,
+        tie_names,
+        tie_numbers m,
+        tied_numbers m,
+        some_is,
+        length_put None k.names m,
+        has_slot k m name,
+        h.there name m its_own,
+      )
 
 -- the same for any value with these lists
 pub paired_to : (k new : Numbering) (name : List ℕ) (n : ℕ) → IsPaired k → number_of name k ≡ None → IsGiven n name k.names new.names

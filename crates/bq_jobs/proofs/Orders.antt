@@ -1,7 +1,7 @@
 -- What additions and removals of jobs do to an order of places.
 use Rattle.std.proofs.lemmas.Grind.{common_steps}
-use Rattle.std.proofs.Common.{◌≡◌, ℕ, ◌+◌, ◌<◌, ◌≤◌, Bool, true, false, cond, List}
-use Rattle.std.proofs.Common.{Option, Some, None, length, arith, refl, sym, ap, ◌∙◌, subst, inl, inr}
+use Rattle.std.proofs.Common.{◌≡◌, ℕ, ◌+◌, ◌<◌, ◌≤◌, true, cond, List}
+use Rattle.std.proofs.Common.{Option, Some, None, length, arith, refl, sym, ap, ◌∙◌, subst}
 use Rattle.std.specs.Prelude.{is_some, ◌==◌}
 use Rattle.std.specs.declared.cmp.Ordering.{Ordering}
 use Rattle.std.specs.Cmp.{IsTotalOrder}
@@ -59,16 +59,13 @@ module _ {G : Type 0} {C : G → G → Ordering} (o : IsTotalOrder C) where
         (cond (j.id == q.id) (Some j) (job_with q.id jobs))
     added_places j None jobs room order e own h free q = grind arith
     added_places j (Some p) jobs room order e own h free q =
-        let gone = absent_place j jobs room order h free p own in
-        let after = ap is_some (lookup_inserted (place_total o) q p tt order.entries gone) in
-        elim (cases_Bool (j.id == q.id)) [
-          | inl here ↦ grind (arith, common_steps)
-          | inr other ↦ grind arith
-        ]
-      where
-        here_only : (b : Bool) (u : Option (Unit {0})) → is_some u ≡ false → is_some (cond b (Some tt) u) ≡ b
-        here_only true u h = refl
-        here_only false u h = h
+        grind (
+          arith,
+          common_steps,
+          lookup_inserted (place_total o) q p tt order.entries,
+          absent_place j jobs room order h free p own,
+          cases_Bool (j.id == q.id),
+        )
 
     added_length : (j : Job) (place : Option (ShelfPlace G)) (jobs : List Job) (room : ℕ) (order : Order G)
         → IfSome place (λ p. p.id ≡ j.id) → IsOrderOf C place_of jobs room order → job_with j.id jobs ≡ None
@@ -112,16 +109,16 @@ module _ {G : Type 0} {C : G → G → Ordering} (o : IsTotalOrder C) where
         → new.entries ≡ without_place C (place_of j) order.entries → new.spare ≡ order.spare + cond (is_some (place_of j)) 1 0
         → IsOrderOf C place_of (without id jobs) more new
     order_removed low next id j jobs room more order new h ids found m entries spare =
-        let long = removed_length id j (place_of j) jobs room order refl h found in
-        let now = ap length entries in
-        record {
-          places = λ q. ap (λ es. is_some (holds_place C q es)) entries
-              ∙ removed_places id j (place_of j) jobs room order refl (own j) h found h.sorted q
-              ∙ sym (ap (has_place C place_of q) (found_without q.id id jobs));
-          counted = omega (arith, long, now, h.counted, count_without (λ k. is_some (place_of k)) low next id j jobs ids found);
-          roomy = omega (arith, long, now, spare, h.roomy, length_without low next id j jobs ids found, m);
-          sorted = subst (InOrder (place_cmp C)) (sym entries) (sorted_without (place_of j) order.entries h.sorted);
-        }
+        grind (
+          arith,
+          removed_length id j (place_of j) jobs room order,
+          removed_places id j (place_of j) jobs room order,
+          found_without,
+          count_without (λ k. is_some (place_of k)) low next,
+          length_without low next,
+          sorted_without,
+          own j,
+        )
 
     -- a job moves from its place to that of k, which has the same id
     module _ (low next id : ℕ) (j k : Job) (jobs : List Job) (room : ℕ) (order : Order G) (h : IsOrderOf C place_of jobs room order)
@@ -148,11 +145,7 @@ module _ {G : Type 0} {C : G → G → Ordering} (o : IsTotalOrder C) where
 
       -- so the job can move
       pub can_move : (from to : Option (ShelfPlace G)) → from ≡ place_of j → to ≡ place_of k → CanMove C from to order
-      can_move from to left entered = record {
-        held = λ p e. held_place id j jobs room order h found p (sym left ∙ e);
-        spare = λ p e. let some = ap (λ q. order.spare + cond (is_some q) 1 0) left in omega (arith, some, has_spare_then);
-        absent = λ p e. ap (λ q. holds_place C p (without_place C q order.entries)) left ∙ absent_then p (sym entered ∙ e);
-      }
+      can_move from to left entered = grind (arith, held_place id j jobs room order h found, has_spare_then, absent_then)
 
       pub order_moved : (new : Order G) → new.entries ≡ with_place C (place_of k) (without_place C (place_of j) order.entries)
           → new.spare + cond (is_some (place_of k)) 1 0 ≡ order.spare + cond (is_some (place_of j)) 1 0

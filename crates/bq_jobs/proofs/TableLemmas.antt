@@ -1,7 +1,7 @@
 -- A value for each registered tube: what a look-up and a change of it are.
 use Rattle.std.proofs.lemmas.Grind.{common_steps}
-use Rattle.std.proofs.Common.{◌≡◌, ◌≤◌, ◌<◌, ℕ, zero, suc, Bool, true, false, cond, List, [], ◌∷◌, length, get_or}
-use Rattle.std.proofs.Common.{Option, Some, None, arith, refl, sym, ap, ◌∙◌, inl, inr}
+use Rattle.std.proofs.Common.{◌≡◌, ◌≤◌, ◌<◌, ℕ, zero, suc, Bool, true, false, List, [], ◌∷◌, length, get_or}
+use Rattle.std.proofs.Common.{Option, Some, None, arith, refl, ap, ◌∙◌}
 use Rattle.std.specs.Prelude.{◌==◌, slice_get, option_and_then}
 use Rattle.std.specs.BTreeMap.{is_at, insert_entry}
 use Rattle.std.specs.Cmp.Lexicographic.{slice_cmp}
@@ -17,7 +17,7 @@ use Rattle.bq_index.specs.Edited.{edited_at}
 use Rattle.bq_index.specs.Order.{InOrder}
 use Rattle.bq_jobs.specs.Numbering.{IsPaired, Numbering, name_of}
 use Rattle.bq_jobs.specs.Table.{changed_at, entries_at, put_value, with_value}
-use Rattle.bq_jobs.proofs.NumberingLemmas.{flip, lower, some_is, tie_names, tied_names}
+use Rattle.bq_jobs.proofs.NumberingLemmas.{flip, lower, tie_names, tied_names}
 
 -- each number has a value
 abbrev pub AreValued : ℕ → List (List ℕ × ℕ) → Type 0
@@ -48,11 +48,8 @@ module _ (names : List (Option (List ℕ))) where
   unfolding IsStrictlySortedBy
   there_by [] order there = tt
   there_by (p ∷ ps) order there = (
-    there p.0 p.1 (ap (λ b. cond b (Some p.1) (lookup (is_at (slice_cmp nat_cmp p.0)) ps)) (tie_names p.0 p.0 refl)),
-    there_by ps order.1 (λ q n own. elim (cases_Bool (is_eq (slice_cmp nat_cmp q p.0))) [
-      | inl t ↦ absurd (let none = above_none p.0 q ps order.0 t in cc)
-      | inr t ↦ there q n (ap (λ b. cond b (Some p.1) (lookup (is_at (slice_cmp nat_cmp q)) ps)) t ∙ own)
-    ]),
+    grind (arith, there p.0 p.1, tie_names p.0 p.0 refl),
+    there_by ps order.1 (λ q n own. grind (arith, above_none p.0 q ps order.0, there q n)),
   )
 
   valued_by : (ps : List (List ℕ × ℕ)) → AreThere names ps → AreValued (length names) ps
@@ -90,10 +87,7 @@ module _ (k : Numbering) (h : IsPaired k) where
 -- what a test finds is none that all lack
 found_lacks : (test : List ℕ → Bool) (m n : ℕ) (ps : List (List ℕ × ℕ)) → Lack m ps → lookup test ps ≡ Some n → (m == n) ≡ false
 found_lacks test m n [] lack own = absurd cc
-found_lacks test m n (p ∷ ps) lack own = elim (cases_Bool (test p.0)) [
-  | inl t ↦ let same : p.1 ≡ n = some_is p.1 n (rw t at own) in ap (λ i. m == i) (sym same) ∙ lack.0
-  | inr t ↦ found_lacks test m n ps lack.1 (rw t at own)
-]
+found_lacks test m n (p ∷ ps) lack own = grind (arith, found_lacks test m n ps lack.1)
 
 module _ {V : Type 0} where
   -- a number below the length has a value

@@ -13,23 +13,26 @@ use Rattle.bq_jobs.specs.Numbering.{AreRegistered, HasNumber, IsNumbered, Number
 use Rattle.bq_jobs.specs.Names.{number_in}
 use Rattle.bq_jobs.specs.Room.{RemovesIf}
 use Rattle.bq_jobs.specs.Told.{removed_told}
-use Rattle.bq_jobs.specs.declared.numbered_jobs.NumberedJobs.TheInside.{Inside as Parts}
-use Rattle.bq_jobs.specs.Inside.{jobs_of}
+use Rattle.bq_jobs.specs.declared.places.Holder.{Holder}
+use Rattle.bq_jobs.specs.declared.places.Timer.{Timer}
+use Rattle.bq_jobs.specs.Inside.{ById, IsShelved, Order, jobs_of}
 use Rattle.bq_jobs.proofs.NamedJobs.{counted_as, job_named, number_removed, numbered_found, numbered_without, without_named}
-use Rattle.bq_jobs.proofs.Shelved.{AreShelved, found_in, found_own}
+use Rattle.bq_jobs.proofs.Firsts.{group_cmp, timer_cmp}
+use Rattle.bq_jobs.proofs.Shelved.{found_in, found_own}
 
 -- the job that an id finds, if it passes
-module _ (p : Job → Bool) (id : ℕ) (s : Parts) (h : AreShelved s) where
-  pub passing_in : passing p (entry_at id s.by_id.entries) ≡ passing p (job_with id (jobs_of s.by_id.entries))
-  passing_in = ap (passing p) (found_in id s h)
+module _ (p : Job → Bool) (id : ℕ) (by_id : ById) (groups : Order Holder) (timers : Order Timer)
+    (h : IsShelved group_cmp timer_cmp by_id groups timers) where
+  pub passing_in : passing p (entry_at id by_id.entries) ≡ passing p (job_with id (jobs_of by_id.entries))
+  passing_in = ap (passing p) (found_in by_id groups timers h id)
 
   -- it is there,
-  pub passing_there : (j : Job) → passing p (entry_at id s.by_id.entries) ≡ Some j → job_with id (jobs_of s.by_id.entries) ≡ Some j
-  passing_there j e = sym (found_in id s h) ∙ sym (value_there p (entry_at id s.by_id.entries) j (sym e))
+  pub passing_there : (j : Job) → passing p (entry_at id by_id.entries) ≡ Some j → job_with id (jobs_of by_id.entries) ≡ Some j
+  passing_there j e = sym (found_in by_id groups timers h id) ∙ sym (value_there p (entry_at id by_id.entries) j (sym e))
 
   -- and has this id
-  pub passing_own : (j : Job) → passing p (entry_at id s.by_id.entries) ≡ Some j → j.id ≡ id
-  passing_own j e = found_own id s h j (sym (value_there p (entry_at id s.by_id.entries) j (sym e)))
+  pub passing_own : (j : Job) → passing p (entry_at id by_id.entries) ≡ Some j → j.id ≡ id
+  passing_own j e = found_own by_id groups timers h id j (sym (value_there p (entry_at id by_id.entries) j (sym e)))
 
 passing_numbered : (k : Numbering) (p : Job → Bool) (o : Option Job) → IfSome o (IsNumbered k) → IfSome (passing p o) (IsNumbered k)
 passing_numbered k p o is = grind arith

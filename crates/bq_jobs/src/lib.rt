@@ -31,11 +31,11 @@ pub use tube::Tube;
 pub use tube_number::TubeNumber;
 
 mod ghost_name;
-mod groups;
 mod laws;
 mod named_group;
 mod named_jobs;
 mod numbered_jobs;
+mod place_shelf;
 mod places;
 mod slots;
 mod table;

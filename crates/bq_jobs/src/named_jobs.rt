@@ -15,7 +15,8 @@ ghost use Rattle.bq_jobs.specs.Room.{MakesRoom, Removes};
 ghost use Rattle.bq_jobs.specs.Searching.{Searches};
 
 use super::named_group::{self, NamedGroup};
-use super::places::{self, JobList, ShelfPlace, Timer};
+use super::place_shelf::{self, PlaceShelf};
+use super::places::{JobList, ShelfPlace, Timer};
 use bq_index::{BoxSource, Shelf};
 use bq_job::{Job, JobId, Moment, NoMemory, Seat, TubeName};
 use std::alloc::Global;
@@ -104,8 +105,8 @@ impl Jobs {
         let Some(places) = self.by_id.len().checked_add(1) else {
             return Err(NoMemory);
         };
-        places::make_room(&mut self.groups, source, places)?;
-        places::make_room(&mut self.timers, source, places)?;
+        self.groups.make_room(source, places)?;
+        self.timers.make_room(source, places)?;
         match self.by_id.reserve_from(source, 1) {
             Ok(()) => Ok(()),
             Err(_) => Err(NoMemory),
@@ -113,7 +114,7 @@ impl Jobs {
     }
 
     /// Adds a job, which uses the room of one.
-    #[tactic(auto, using(crate::proofs::ThreeShelves::additions))]
+    #[tactic(auto, using(crate::proofs::Shelved::additions))]
     pub fn add(&mut self, job: Job)
         requires room { 0 < self.old.room }
         requires absent { job_with job.id self.old.jobs ≡ None }
@@ -122,26 +123,26 @@ impl Jobs {
         ensures room { self.new.room + 1 ≡ self.old.room }
         ensures comparisons { ComparesAtMost 4 self.old self.new }
     {
-        places::enter(&mut self.groups, named_group::place_of(&job));
-        places::enter(&mut self.timers, named_group::timer_place_of(&job));
+        place_shelf::enter(&mut self.groups, named_group::place_of(&job));
+        place_shelf::enter(&mut self.timers, named_group::timer_place_of(&job));
         self.by_id.insert(named_group::id_of(&job), job);
     }
 
     /// Removes the job with this id and returns it, if there is one. Its room is free again.
-    #[tactic(auto, using(crate::proofs::ThreeShelves::found_in))]
+    #[tactic(auto, using(crate::proofs::Shelved::found_in))]
     pub fn remove(&mut self, id: JobId) -> Option<Job>
         ensures job { result ≡ job_with id self.old.jobs }
         ensures id { IfSome result (λ job. job.id ≡ id) }
         ensures left { Removes id result self.old self.new }
     {
         let job = self.by_id.remove(&id)?;
-        places::leave(&mut self.groups, named_group::place_of(&job));
-        places::leave(&mut self.timers, named_group::timer_place_of(&job));
+        place_shelf::leave(&mut self.groups, named_group::place_of(&job));
+        place_shelf::leave(&mut self.timers, named_group::timer_place_of(&job));
         Some(job)
     }
 
     /// Returns the job with this id.
-    #[tactic(auto, using(crate::proofs::ThreeShelves::found_in, crate::proofs::ThreeShelves::id_searched))]
+    #[tactic(auto, using(crate::proofs::Shelved::found_in, crate::proofs::Shelved::id_searched))]
     pub fn get(&mut self, id: JobId) -> Option<&Job>
         ensures* after { sem 𝓛 (LeavesJobs self.entry) }
         ensures job { option_map (λ j. j.now) result ≡ job_with id self.old.jobs }
@@ -216,22 +217,22 @@ impl Jobs {
     }
 
     // Returns the number and the id of the first job of a holder: by that number, then by id.
-    #[tactic(auto, using(crate::proofs::ThreeShelves::first_in_group, crate::proofs::ThreeShelves::groups_searched))]
+    #[tactic(auto, using(crate::proofs::Shelved::first_in_group, crate::proofs::Shelved::groups_searched))]
     fn first_of_group(&mut self, group: NamedGroup) -> Option<(u64, JobId)>
         ensures rank { result ≡ first_held group self.old.jobs }
         ensures kept { Searches 1 self.old self.new }
     {
-        places::first_rank(&mut self.groups, group)
+        place_shelf::first_rank(&mut self.groups, group)
     }
 
     // Returns the moment and the id of the first delay or of the first lease: by moment, then by
     // id.
-    #[tactic(auto, using(crate::proofs::ThreeShelves::first_in_timers, crate::proofs::ThreeShelves::timers_searched))]
+    #[tactic(auto, using(crate::proofs::Shelved::first_in_timers, crate::proofs::Shelved::timers_searched))]
     fn first_of_timer(&mut self, timer: Timer) -> Option<(Moment, JobId)>
         ensures rank { result ≡ first_timed timer self.old.jobs }
         ensures kept { Searches 1 self.old self.new }
     {
-        places::first_rank(&mut self.timers, timer)
+        place_shelf::first_rank(&mut self.timers, timer)
     }
 }
 

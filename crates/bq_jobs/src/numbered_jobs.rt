@@ -2,15 +2,11 @@
 //! The names of the tubes are in a table outside, one for the whole core.
 ghost use Rattle.std.specs.Option.{option_map};
 ghost use Rattle.std.specs.Prelude.{◌≡◌, ◌+◌, ◌-◌, ◌<◌, ◌^◌, if◌then◌else◌, []};
-ghost use Rattle.std.specs.Prelude.{nat_lt, length, is_some, IfOk, IfSome, None, Some};
+ghost use Rattle.std.specs.Prelude.{nat_lt, length, IfOk, IfSome, None, Some};
 ghost use Rattle.bq_job.specs.machine.Changes.{job_with};
 ghost use Rattle.bq_job.specs.beside.Lawful.{AreIdsWithin};
-ghost use Rattle.std.specs.BTreeMap.{is_at};
-ghost use Rattle.std.specs.Ordering.{nat_cmp};
-ghost use Rattle.bq_index.specs.Edited.{MayReturn, edited_by};
-ghost use Rattle.bq_index.specs.Removed.{passing, removed_if};
-ghost use Rattle.bq_index.specs.Shelf.{ComparesFew};
-ghost use Rattle.bq_jobs.specs.Changed.{IgnoresTube, KeepsId, entry_at, numbered_move, numbered_removal, pri_and_state, with_changed, with_edited};
+ghost use Rattle.bq_index.specs.Removed.{passing};
+ghost use Rattle.bq_jobs.specs.Changed.{IgnoresTube, KeepsId, numbered_move, numbered_removal, pri_and_state, with_changed};
 ghost use Rattle.bq_jobs.specs.JobsSeen.{ComparesAtMost, with_added};
 ghost use Rattle.bq_jobs.specs.Moves.{CanMove, CanMoveIf, Moves, MovesIf, group_at, timer_at};
 ghost use Rattle.bq_jobs.specs.Ranks.{first_held, first_timed};
@@ -21,11 +17,11 @@ ghost use Rattle.bq_jobs.specs.Sharing.{MayShare, SharesAndChanges, if_shared};
 ghost use Rattle.bq_jobs.specs.Stages.{state_of};
 
 use super::ghost_name::GhostName;
-use super::groups::Groups;
+use super::place_shelf::{self, GROUPS, Groups, PlaceShelf};
 use super::places::{self, Group, Timer};
 use super::timers::Timers;
 use super::tube_number::TubeNumber;
-use bq_index::{BoxSource, Edit, Shelf, Test, TryEdit};
+use bq_index::{BoxSource, Edit, Shelf, Shelves, Test, TryEdit};
 use bq_job::{Body, Counts, Job, JobId, JobState, Moment, NoMemory, NumberedBody, Pri, Seat};
 use std::alloc::Global;
 use std::marker::Model;
@@ -270,7 +266,9 @@ impl NumberedJobs {
         ensures { IfOk result
             (λ rows. rows ≡ record { jobs = []; room = 0; comparisons = 0; tubes = [] }) }
     {
-        let groups = Groups::new(alloc)?;
+        let Ok(groups) = Shelves::new(alloc, GROUPS) else {
+            return Err(NoMemory);
+        };
         Ok(NumberedJobs {
             by_id: Shelf::new(),
             groups,
@@ -338,7 +336,7 @@ impl NumberedJobs {
     }
 
     /// Adds the job with this id, which uses the room of one.
-    #[tactic(auto, using(crate::proofs::ThreeShelves::additions))]
+    #[tactic(auto, using(crate::proofs::Shelved::additions))]
     pub fn add(&mut self, id: JobId, job: PackedJob)
         requires id { job.id ≡ id }
         requires room { 0 < self.old.room }
@@ -348,8 +346,8 @@ impl NumberedJobs {
         ensures room { self.new.room + 1 ≡ self.old.room }
         ensures comparisons { ComparesAtMost 4 self.old self.new }
     {
-        self.groups.enter(places::group_place(id, &job));
-        self.timers.enter(places::timer_place(id, &job));
+        place_shelf::enter(&mut self.groups, places::group_place(id, &job));
+        place_shelf::enter(&mut self.timers, places::timer_place(id, &job));
         self.by_id.insert(id, job);
     }
 
@@ -361,9 +359,9 @@ impl NumberedJobs {
         ensures id { IfSome result (λ job. job.id ≡ id) }
         ensures left { RemovesIf id result self.old self.new }
     {
-        let job = remove_at(&mut self.by_id, id, test)?;
-        self.groups.leave(places::group_place(id, &job));
-        self.timers.leave(places::timer_place(id, &job));
+        let job = self.by_id.remove_if(&id, &Asked { test })?;
+        place_shelf::leave(&mut self.groups, places::group_place(id, &job));
+        place_shelf::leave(&mut self.timers, places::timer_place(id, &job));
         Some(job)
     }
 
@@ -384,7 +382,7 @@ impl NumberedJobs {
 
     /// Changes the job with this id, if there is one, and moves it to its new place in each order.
     /// The record itself does not move, and nothing is allocated.
-    #[tactic(auto, using(crate::proofs::ThreeShelves::moves))]
+    #[tactic(auto, using(crate::proofs::Told::moves))]
     pub fn change<E: JobEdit>(&mut self, id: JobId, edit: &E) -> Option<NumberedMove>
         requires id { KeepsId (E.edited edit.now) }
         requires tube { IgnoresTube (E.edited edit.now) }
@@ -395,7 +393,7 @@ impl NumberedJobs {
         ensures room { self.new.room ≡ self.old.room }
         ensures comparisons { ComparesAtMost 7 self.old self.new }
     {
-        let moved = edit_at(&mut self.by_id, id, edit)?;
+        let moved = self.by_id.edit(&id, &Reported { edit })?;
         let (from, to) = (moved.from, moved.to);
         shift_places(&mut self.groups, &mut self.timers, id, moved.tube, from, to);
         Some(moved)
@@ -403,7 +401,6 @@ impl NumberedJobs {
 
     /// Does the same, and also returns another reference to the job's body, or `NoMemory` if `Arc`
     /// refuses one. In that case nothing is changed. The record is searched once.
-    #[tactic(auto, using(crate::proofs::Told::can_move_if))]
     pub fn share_and_change<E: JobEdit>(
         &mut self,
         id: JobId,
@@ -415,13 +412,13 @@ impl NumberedJobs {
             (λ moved. Some moved ≡ option_map (numbered_move (E.edited edit.now)) (job_with id self.old.jobs))
             id (E.edited edit.now) result self.old self.new }
     {
-        let shared = share_at(&mut self.by_id, id, edit);
+        let shared = self.by_id.try_edit(&id, &Shared { edit });
         shift_if_shared(&mut self.groups, &mut self.timers, id, &shared);
         shared
     }
 
     /// Returns the record of the job with this id.
-    #[tactic(auto, using(crate::proofs::ThreeShelves::found_in, crate::proofs::ThreeShelves::id_searched))]
+    #[tactic(auto, using(crate::proofs::Shelved::found_in, crate::proofs::Shelved::id_searched))]
     pub fn get(&mut self, id: JobId) -> Option<&PackedJob>
         ensures* after { sem 𝓛 (LeavesNumbered self.entry) }
         ensures job { option_map (λ j. j.now) result ≡ job_with id self.old.jobs }
@@ -465,17 +462,17 @@ impl NumberedJobs {
     }
 
     /// Returns the number and the id of the first job of a holder: by that number, then by id.
-    #[tactic(auto, using(crate::proofs::ThreeShelves::first_in_group, crate::proofs::ThreeShelves::groups_searched))]
+    #[tactic(auto, using(crate::proofs::Shelved::first_in_group, crate::proofs::Shelved::groups_searched))]
     pub fn first_of_group(&mut self, group: Group) -> Option<(u64, JobId)>
         ensures rank { result ≡ first_held group self.old.jobs }
         ensures kept { Searches 1 self.old self.new }
     {
-        self.groups.first_rank(group)
+        place_shelf::first_of_group(&mut self.groups, group)
     }
 
     /// Returns the moment and the id of the first delay or of the first lease: by moment, then by
     /// id.
-    #[tactic(auto, using(crate::proofs::ThreeShelves::first_in_timers, crate::proofs::ThreeShelves::timers_searched))]
+    #[tactic(auto, using(crate::proofs::Shelved::first_in_timers, crate::proofs::Shelved::timers_searched))]
     pub fn first_of_timer(&mut self, timer: Timer) -> Option<(Moment, JobId)>
         ensures rank { result ≡ first_timed timer self.old.jobs }
         ensures kept { Searches 1 self.old self.new }
@@ -533,39 +530,6 @@ impl<'e, E: JobEdit> TryEdit<PackedJob, Result<(NumberedMove, Body), NoMemory>> 
     }
 }
 
-// Changes the job with this id in place, if there is one.
-fn edit_at<E: JobEdit>(
-    by_id: &mut Shelf<JobId, PackedJob>,
-    id: JobId,
-    edit: &E,
-) -> Option<NumberedMove>
-    ensures moved { result
-        ≡ option_map (numbered_move (E.edited edit.now)) (entry_at id by_id.old.entries) }
-    ensures entries { by_id.new.entries
-        ≡ with_edited id (E.edited edit.now) (entry_at id by_id.old.entries) by_id.old.entries }
-    ensures spare { by_id.new.spare ≡ by_id.old.spare }
-    ensures comparisons { ComparesFew by_id.old by_id.new }
-{
-    by_id.edit(&id, &Reported { edit })
-}
-
-// Changes the job with this id in place, if there is one, and returns another reference to its body.
-// If that is refused, the job is unchanged.
-fn share_at<E: JobEdit>(
-    by_id: &mut Shelf<JobId, PackedJob>,
-    id: JobId,
-    edit: &E,
-) -> Option<Result<(NumberedMove, Body), NoMemory>>
-    ensures shared { MayReturn (MayShare (E.edited edit.now)) (entry_at id by_id.old.entries) result }
-    ensures entries { by_id.new.entries
-        ≡ with_edited id (edited_by (if_shared (E.edited edit.now)) result)
-        (entry_at id by_id.old.entries) by_id.old.entries }
-    ensures spare { by_id.new.spare ≡ by_id.old.spare }
-    ensures comparisons { ComparesFew by_id.old by_id.new }
-{
-    by_id.try_edit(&id, &Shared { edit })
-}
-
 // Moves a job to its new place in each order.
 #[inline(always)]
 fn shift_places(
@@ -585,11 +549,12 @@ fn shift_places(
         places::place_in_groups(id, tube, from),
         places::place_in_groups(id, tube, to),
     );
-    groups.shift(left, entered);
-    timers.shift(
+    place_shelf::shift(groups, left, entered);
+    let (left, entered) = (
         places::place_in_timers(id, from),
         places::place_in_timers(id, to),
     );
+    place_shelf::shift(timers, left, entered);
 }
 
 // Does the same for a job that was changed, unless the reference to its body was refused.
@@ -621,18 +586,4 @@ impl<'t, T: PackedTest> Test<JobId, PackedJob> for Asked<'t, T> {
     fn passes(&self, _id: &JobId, job: &PackedJob) -> bool {
         self.test.passes(job)
     }
-}
-
-// Removes the entry with this id, if there is one and its record passes a test.
-fn remove_at<T: PackedTest>(
-    by_id: &mut Shelf<JobId, PackedJob>,
-    id: JobId,
-    test: &T,
-) -> Option<PackedJob>
-    ensures job { result ≡ passing (T.passed test.now) (entry_at id by_id.old.entries) }
-    ensures entries { by_id.new.entries ≡ removed_if (is_at (nat_cmp id)) result by_id.old.entries }
-    ensures spare { by_id.new.spare ≡ by_id.old.spare + (if is_some result then 1 else 0) }
-    ensures comparisons { ComparesFew by_id.old by_id.new }
-{
-    by_id.remove_if(&id, &Asked { test })
 }

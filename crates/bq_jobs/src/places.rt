@@ -1,18 +1,15 @@
-//! The places of jobs in their orders, and the shelves that keep these places.
+//! The places of jobs in their orders.
 ghost use Rattle.std.specs.Cmp as Cmp;
 ghost use Rattle.bq_jobs.specs.Groups.{group_at, group_cmp, group_number, group_total, list_number};
 ghost use Rattle.std.proofs.Common.{refl};
 ghost use Rattle.std.specs.Ordering.{as_partial_cmp, eq_by_cmp, is_gt, is_lt};
-ghost use Rattle.std.specs.Prelude.{◌≡◌, ◌+◌, ◌<◌, ◌≤◌, length, is_some, if◌then◌else◌, IsSome, OnOk, None};
+ghost use Rattle.std.specs.Prelude.{◌≡◌};
 ghost use Rattle.bq_jobs.specs.Places.{group_place, in_groups_at, in_timers_at, timer_place};
-ghost use Rattle.bq_index.specs.Shelf.{ComparesFew};
-ghost use Rattle.bq_jobs.specs.PlaceOrder.{first_rank, holds_place, with_place, without_place};
-ghost use Rattle.std.specs.Option.{ForSome};
 
 use super::numbered_jobs::{PackedJob, PriAndState};
 use super::tube_number::TubeNumber;
-use bq_index::{BoxSource, Parted, Shelf};
-use bq_job::{JobId, JobState, NoMemory, Seat};
+use bq_index::Parted;
+use bq_job::{JobId, JobState, Seat};
 use std::cmp::Ordering;
 use std::marker::Model;
 
@@ -364,73 +361,5 @@ pub(crate) fn place_in_timers(id: JobId, at: PriAndState) -> Option<ShelfPlace<T
         JobState::Delayed(due) => Some(ShelfPlace::of(Timer::Delay, due, id)),
         JobState::Reserved(_, deadline) => Some(ShelfPlace::of(Timer::Lease, deadline, id)),
         JobState::Ready | JobState::Buried(_) => None,
-    }
-}
-
-/// Allocates boxes for a number of places, which includes those in use.
-pub(crate) fn make_room<G: Ord + Drop, S: BoxSource>(
-    order: &mut Shelf<ShelfPlace<G>, ()>,
-    source: &mut S,
-    places: usize,
-) -> Result<(), NoMemory>
-    ensures ok { OnOk result (places ≤ length order.new.entries + order.new.spare) }
-    ensures entries { order.new.entries ≡ order.old.entries }
-    ensures not_fewer { order.old.spare ≤ order.new.spare }
-    ensures comparisons { order.new.comparisons ≡ order.old.comparisons }
-{
-    let more = places.saturating_sub(order.len());
-    match order.reserve_from(source, more) {
-        Ok(()) => Ok(()),
-        Err(_) => Err(NoMemory),
-    }
-}
-
-/// Adds a place, if there is one.
-pub(crate) fn enter<G: Ord + Drop>(
-    order: &mut Shelf<ShelfPlace<G>, ()>,
-    place: Option<ShelfPlace<G>>,
-)
-    requires spare { ForSome place (λ _. 0 < order.old.spare) }
-    requires absent { ForSome place (λ p. holds_place G.cmp p order.old.entries ≡ None) }
-    ensures entries { order.new.entries ≡ with_place G.cmp place order.old.entries }
-    ensures spare { order.new.spare + (if is_some place then 1 else 0) ≡ order.old.spare }
-    ensures comparisons { ComparesFew order.old order.new }
-{
-    if let Some(place) = place {
-        order.insert(place, ());
-    }
-}
-
-/// Removes a place, if there is one.
-pub(crate) fn leave<G: Ord + Drop>(
-    order: &mut Shelf<ShelfPlace<G>, ()>,
-    place: Option<ShelfPlace<G>>,
-)
-    requires held { ForSome place (λ p. IsSome (holds_place G.cmp p order.old.entries)) }
-    ensures entries { order.new.entries ≡ without_place G.cmp place order.old.entries }
-    ensures spare { order.new.spare ≡ order.old.spare + (if is_some place then 1 else 0) }
-    ensures comparisons { ComparesFew order.old order.new }
-{
-    if let Some(place) = place {
-        let _held = order.remove(&place);
-    }
-}
-
-/// Returns the number and the id at the first place of a group.
-pub(crate) fn first_rank<G: Ord + Drop + Copy>(
-    order: &mut Shelf<ShelfPlace<G>, ()>,
-    group: G,
-) -> Option<(u64, JobId)>
-    ensures rank { result ≡ first_rank G.cmp group order.old.entries }
-    ensures entries { order.new.entries ≡ order.old.entries }
-    ensures spare { order.new.spare ≡ order.old.spare }
-    ensures comparisons { ComparesFew order.old order.new }
-{
-    let front = ShelfPlace::of(group, 0, 0);
-    let (place, ()) = order.next_from(&front)?;
-    if group.cmp(&place.group).is_eq() {
-        Some(place.rank())
-    } else {
-        None
     }
 }

@@ -1,13 +1,13 @@
 //! The places of jobs among all delays and leases.
-ghost use Rattle.std.specs.Prelude.{◌≡◌, ◌==◌, ◌&&◌, ◌+◌, ◌-◌, ◌<◌, ◌≤◌, [], length, is_some, if◌then◌else◌, IsSome, OnOk, None, Some};
-ghost use Rattle.std.specs.Option.{ForSome};
+ghost use Rattle.std.specs.Prelude.{◌≡◌, ◌==◌, ◌&&◌, ◌-◌, []};
 ghost use Rattle.bq_index.specs.Shelf.{ComparesFew};
 ghost use Rattle.bq_job.specs.machine.Changes.{is_pair_before};
 ghost use Rattle.bq_jobs.specs.FirstLeases.{is_known_first, is_new_first, lease_with, lease_without};
-ghost use Rattle.bq_jobs.specs.PlaceOrder.{ComparesTwice, first_rank, holds_place, rank_of, with_place, without_place};
+ghost use Rattle.bq_jobs.specs.PlaceOrder.{first_rank, rank_of};
 ghost use Rattle.bq_jobs.specs.declared.places.Timer.TheVariants.{Lease};
 
-use super::places::{self, ShelfPlace, Timer};
+use super::place_shelf::{self, PlaceShelf};
+use super::places::{ShelfPlace, Timer};
 use bq_index::{BoxSource, Shelf};
 use bq_job::{JobId, Moment, NoMemory};
 use std::marker::Model;
@@ -67,100 +67,6 @@ impl Timers {
         self.places.give_back();
     }
 
-    /// Allocates boxes for a number of places, which includes those in use.
-    pub(crate) fn make_room<S: BoxSource>(
-        &mut self,
-        source: &mut S,
-        places: usize,
-    ) -> Result<(), NoMemory>
-        ensures ok { OnOk result (places ≤ length self.new.entries + self.new.spare) }
-        ensures entries { self.new.entries ≡ self.old.entries }
-        ensures not_fewer { self.old.spare ≤ self.new.spare }
-        ensures comparisons { self.new.comparisons ≡ self.old.comparisons }
-    {
-        places::make_room(&mut self.places, source, places)
-    }
-
-    /// Adds a place, if there is one. Most jobs that are put have none, so the test is made where it is
-    /// called.
-    #[inline(always)]
-    pub(crate) fn enter(&mut self, place: Option<ShelfPlace<Timer>>)
-        requires spare { ForSome place (λ _. 0 < self.old.spare) }
-        requires absent { ForSome place
-            (λ p. holds_place ⟦<Timer as Ord>⟧.cmp p self.old.entries ≡ None) }
-        ensures entries { self.new.entries
-            ≡ with_place ⟦<Timer as Ord>⟧.cmp place self.old.entries }
-        ensures spare { self.new.spare + (if is_some place then 1 else 0) ≡ self.old.spare }
-        ensures comparisons { ComparesFew self.old self.new }
-    {
-        if let Some(place) = place {
-            self.add(place);
-        }
-    }
-
-    /// Removes a place, if there is one.
-    #[inline(always)]
-    pub(crate) fn leave(&mut self, place: Option<ShelfPlace<Timer>>)
-        requires held { ForSome place
-            (λ p. IsSome (holds_place ⟦<Timer as Ord>⟧.cmp p self.old.entries)) }
-        ensures entries { self.new.entries
-            ≡ without_place ⟦<Timer as Ord>⟧.cmp place self.old.entries }
-        ensures spare { self.new.spare ≡ self.old.spare + (if is_some place then 1 else 0) }
-        ensures comparisons { ComparesFew self.old self.new }
-    {
-        if let Some(place) = place {
-            self.take(place);
-        }
-    }
-
-    // Adds a place.
-    #[inline(never)]
-    #[tactic(auto, using(crate::proofs::LeaseLemmas::lease_entered))]
-    fn add(&mut self, place: ShelfPlace<Timer>)
-        requires spare { 0 < self.old.spare }
-        requires absent { holds_place ⟦<Timer as Ord>⟧.cmp place self.old.entries ≡ None }
-        ensures entries { self.new.entries
-            ≡ with_place ⟦<Timer as Ord>⟧.cmp (Some place) self.old.entries }
-        ensures spare { self.new.spare + 1 ≡ self.old.spare }
-        ensures comparisons { ComparesFew self.old self.new }
-    {
-        note_added(&mut self.lease, &place);
-        self.places.insert(place, ());
-    }
-
-    // Removes a place.
-    #[inline(never)]
-    #[tactic(auto, using(crate::proofs::LeaseLemmas::lease_left))]
-    fn take(&mut self, place: ShelfPlace<Timer>)
-        requires held { IsSome (holds_place ⟦<Timer as Ord>⟧.cmp place self.old.entries) }
-        ensures entries { self.new.entries
-            ≡ without_place ⟦<Timer as Ord>⟧.cmp (Some place) self.old.entries }
-        ensures spare { self.new.spare ≡ self.old.spare + 1 }
-        ensures comparisons { ComparesFew self.old self.new }
-    {
-        note_removed(&mut self.lease, &place);
-        let _held = self.places.remove(&place);
-    }
-
-    /// Removes one place, if there is one, and adds another, if there is one.
-    #[tactic(auto, using(bq_index::proofs::Bound::digits_grow, crate::proofs::Orders::fewer_places))]
-    pub(crate) fn shift(&mut self, from: Option<ShelfPlace<Timer>>, to: Option<ShelfPlace<Timer>>)
-        requires held { ForSome from
-            (λ p. IsSome (holds_place ⟦<Timer as Ord>⟧.cmp p self.old.entries)) }
-        requires spare { ForSome to
-            (λ _. 0 < self.old.spare + (if is_some from then 1 else 0)) }
-        requires absent { ForSome to
-            (λ p. holds_place ⟦<Timer as Ord>⟧.cmp p (without_place ⟦<Timer as Ord>⟧.cmp from self.old.entries) ≡ None) }
-        ensures entries { self.new.entries
-            ≡ with_place ⟦<Timer as Ord>⟧.cmp to (without_place ⟦<Timer as Ord>⟧.cmp from self.old.entries) }
-        ensures spare { self.new.spare + (if is_some to then 1 else 0)
-            ≡ self.old.spare + (if is_some from then 1 else 0) }
-        ensures comparisons { ComparesTwice self.old self.new }
-    {
-        self.leave(from);
-        self.enter(to);
-    }
-
     /// Returns the moment and the id of the first delay or of the first lease.
     pub(crate) fn first(&mut self, timer: Timer) -> Option<(Moment, JobId)>
         ensures rank { result ≡ first_rank ⟦<Timer as Ord>⟧.cmp timer self.old.entries }
@@ -169,7 +75,7 @@ impl Timers {
         ensures comparisons { ComparesFew self.old self.new }
     {
         match timer {
-            Timer::Delay => places::first_rank(&mut self.places, Timer::Delay),
+            Timer::Delay => place_shelf::first_rank(&mut self.places, Timer::Delay),
             Timer::Lease => self.first_lease(),
         }
     }
@@ -183,9 +89,33 @@ impl Timers {
         if let FirstLease::Known(first) = &self.lease {
             return *first;
         }
-        let first = places::first_rank(&mut self.places, Timer::Lease);
+        let first = place_shelf::first_rank(&mut self.places, Timer::Lease);
         self.lease = FirstLease::Known(first);
         first
+    }
+}
+
+type TimerPlace = ShelfPlace<Timer>;
+
+impl PlaceShelf<TimerPlace> for Timers {
+    ghost seen = { λ t. t };
+
+    fn make_room<S: BoxSource>(&mut self, source: &mut S, places: usize) -> Result<(), NoMemory> {
+        self.places.make_room(source, places)
+    }
+
+    #[inline(never)]
+    #[tactic(auto, using(crate::proofs::LeaseLemmas::lease_entered))]
+    fn add(&mut self, place: TimerPlace) {
+        note_added(&mut self.lease, &place);
+        self.places.insert(place, ());
+    }
+
+    #[inline(never)]
+    #[tactic(auto, using(crate::proofs::LeaseLemmas::lease_left))]
+    fn take(&mut self, place: TimerPlace) {
+        note_removed(&mut self.lease, &place);
+        let _held = self.places.remove(&place);
     }
 }
 
@@ -237,14 +167,7 @@ fn is_known_first(lease: &FirstLease, place: &ShelfPlace<Timer>) -> bool
         Timer::Delay => false,
         Timer::Lease => match lease {
             FirstLease::Unknown | FirstLease::Known(None) => false,
-            FirstLease::Known(Some(first)) => is_same(place.rank(), *first),
+            FirstLease::Known(Some(first)) => *first == place.rank(),
         },
     }
-}
-
-// Returns true if two leases are the same.
-fn is_same(lease: (Moment, JobId), other: (Moment, JobId)) -> bool
-    ensures { result ≡ (other.0 == lease.0 && other.1 == lease.1) }
-{
-    other.0 == lease.0 && other.1 == lease.1
 }

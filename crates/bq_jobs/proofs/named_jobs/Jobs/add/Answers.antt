@@ -1,4 +1,4 @@
-use Rattle.bq_jobs.proofs.ThreeShelves.{shelved_with}
+use Rattle.bq_jobs.proofs.Shelved.{shelved_with}
 use Rattle.bq_jobs.proofs.named_jobs.Jobs.add.Goals as goal
 
 pub invariant_of-self : goal.invariant_of-self

@@ -1,5 +1,5 @@
 use Rattle.std.proofs.Common.{arith, sym, ◌∙◌, rules}
-use Rattle.bq_jobs.proofs.ThreeShelves.{found_in, found_own, held_in_groups, held_in_timers, removal, shelved_same, shelved_without}
+use Rattle.bq_jobs.proofs.Shelved.{found_in, found_own, held_in_groups, held_in_timers, removal, shelved_same, shelved_without}
 use Rattle.bq_jobs.proofs.named_jobs.Jobs.remove.Goals as goal
 
 pub invariant_of-self : goal.invariant_of-self

@@ -1,5 +1,5 @@
 use Rattle.std.proofs.Common.{arith, sym}
-use Rattle.bq_jobs.proofs.ThreeShelves.{shelved_with}
+use Rattle.bq_jobs.proofs.Shelved.{shelved_with}
 use Rattle.bq_jobs.proofs.numbered_jobs.NumberedJobs.add.Goals as goal
 
 pub invariant_of-self : goal.invariant_of-self
