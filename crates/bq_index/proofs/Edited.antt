@@ -1,20 +1,19 @@
 -- A box with a value changed in place.
-use Rattle.std.proofs.Common.{◌≡◌, Bool, List, [], ◌∷◌, ◌++◌, Option, Some, length, refl, sym, ap, ◌∙◌, arith}
+use Rattle.std.proofs.Common.{◌≡◌, Bool, List, [], ◌∷◌, ◌++◌, length, refl, arith}
 use Rattle.std.specs.declared.cmp.Ordering.{Ordering}
 use Rattle.std.specs.declared.cmp.Ordering.TheVariants.{Less, Equal, Greater}
 use Rattle.std.specs.Cmp.{IsTotalOrder}
 use Rattle.std.specs.Ordering.{match_ordering}
 use Rattle.std.specs.Map.{keys_of, lookup, set_value}
 use Rattle.std.specs.BTreeMap.{is_at}
-use Rattle.std.proofs.lemmas.Map.{keys-set_value, length-set_value, none_passes_from_lookup}
+use Rattle.std.proofs.lemmas.Map.{keys-set_value, length-set_value}
 use Rattle.bq_index.specs.declared.tree.Tree.{Tree}
 use Rattle.bq_index.specs.declared.tree.Node.{Node}
 use Rattle.bq_index.specs.declared.tree.Node.TheVariants.{Spare, SpareBefore', Alone, OnLeft', OnRight', Both'}
-use Rattle.bq_index.specs.Edited.{edited_at, edited_if, edited_in, put_value, value_in}
+use Rattle.bq_index.specs.Edited.{edited_at, edited_in, put_value, value_in}
 use Rattle.bq_index.specs.Order.{InOrder}
 use Rattle.bq_index.specs.Tree.{entries, entries_in, height_in, IsBalanced, IsLevel}
-use Rattle.bq_index.proofs.Order.{lookup_less, lookup_greater, lookup_equal, order_left, order_right}
-use Rattle.bq_index.proofs.Order.{set_less, set_greater, set_equal, set_none}
+use Rattle.bq_index.proofs.Order.{lookup_by, order_left, order_right, set_by}
 
 -- what holds for each of three values
 by_order : {X : Type 0} (P : X → Type 0) (a : Ordering) {x y z : X} → (a ≡ Less → P x) → (a ≡ Equal → P y) → (a ≡ Greater → P z)
@@ -43,51 +42,41 @@ module _ {K V : Type 0} {R : K → K → Ordering} (o : IsTotalOrder R) (k : K) 
   abbrev changed : List (K × V) → List (K × V)
   changed es = edited_at (is_at (R k)) f es
 
-  module _ (l : List (K × V)) (e : K × V) (r : List (K × V)) (s : InOrder R (l ++ e ∷ r)) where
-    abbrev all : List (K × V)
-    all = l ++ e ∷ r
-
-    changed_here : R k e.0 ≡ Equal → l ++ (e.0, f e.1) ∷ r ≡ changed all
-    changed_here h = sym (ap (edited_if f (set_value (is_at (R k)) all) all) (lookup_equal o k l e r s h) ∙ set_equal o k l e r s (f e.1) h)
-
-    box_entries : (x y z : Node K V) → entries_in x ≡ changed l ++ e ∷ r → entries_in y ≡ l ++ (e.0, f e.1) ∷ r
-        → entries_in z ≡ l ++ e ∷ changed r → entries_in (match_ordering (R k e.0) x y z) ≡ changed all
-    box_entries x y z a b c = grind (arith, by_order, lookup_less, set_less, changed_here, lookup_greater, set_greater)
+  changed_by : (l : List (K × V)) (e : K × V) (r : List (K × V)) → InOrder R (l ++ e ∷ r)
+      → changed (l ++ e ∷ r) ≡ match_ordering (R k e.0) (changed l ++ e ∷ r) (l ++ (e.0, f e.1) ∷ r) (l ++ e ∷ changed r)
+  changed_by l e r s = grind (arith, lookup_by, set_by)
 
   pub edited_entries : (n : Node K V) → IsLevel n → InOrder R (entries_in n) → entries_in (edited_in (R k) f n) ≡ changed (entries_in n)
   edited_entries Spare b s = absurd b
   edited_entries (SpareBefore' p n) b s = absurd b
-  edited_entries (Alone j v) b s = box_entries [] (j, v) [] s _ _ _ refl refl refl
-  edited_entries (OnLeft' j p l v) b s = box_entries (entries_in l) (j, v) [] s _ _ _
-      (ap (λ es. es ++ (j, v) ∷ []) (edited_entries l b.1 (order_left R (entries_in l) ((j, v) ∷ []) s))) refl refl
-  edited_entries (OnRight' j p r v) b s = box_entries [] (j, v) (entries_in r) s _ _ _ refl refl
-      (ap (λ es. (j, v) ∷ es) (edited_entries r b.1 (order_right R [] (j, v) (entries_in r) s)))
-  edited_entries (Both' h j p l q r v) b s = box_entries (entries_in l) (j, v) (entries_in r) s _ _ _
-      (ap (λ es. es ++ (j, v) ∷ entries_in r) (edited_entries l b.2 (order_left R (entries_in l) ((j, v) ∷ entries_in r) s))) refl
-      (ap (λ es. entries_in l ++ (j, v) ∷ es) (edited_entries r b.3 (order_right R (entries_in l) (j, v) (entries_in r) s)))
+  edited_entries (Alone j v) b s = grind (arith, changed_by [] (j, v) [] s)
+  edited_entries (OnLeft' j p l v) b s =
+      let i = edited_entries l b.1 (order_left R (entries_in l) (j, v) [] s) in grind (arith, changed_by (entries_in l) (j, v) [] s)
+  edited_entries (OnRight' j p r v) b s =
+      let i = edited_entries r b.1 (order_right R [] (j, v) (entries_in r) s) in grind (arith, changed_by [] (j, v) (entries_in r) s)
+  edited_entries (Both' h j p l q r v) b s =
+      let i = edited_entries l b.2 (order_left R (entries_in l) (j, v) (entries_in r) s) in
+      let i2 = edited_entries r b.3 (order_right R (entries_in l) (j, v) (entries_in r) s) in
+      grind (arith, changed_by (entries_in l) (j, v) (entries_in r) s)
 
 module _ {K V : Type 0} {R : K → K → Ordering} (o : IsTotalOrder R) (k : K) where
-  box_value : (l : List (K × V)) (e : K × V) (r : List (K × V)) → InOrder R (l ++ e ∷ r) → {x z : Option V}
-      → x ≡ lookup (is_at (R k)) l → z ≡ lookup (is_at (R k)) r
-      → match_ordering (R k e.0) x (Some e.1) z ≡ lookup (is_at (R k)) (l ++ e ∷ r)
-  box_value l e r s a c = grind (arith, lookup_less, lookup_equal, lookup_greater)
-
   pub value_looked_up : (n : Node K V) → IsLevel n → InOrder R (entries_in n) → value_in (R k) n ≡ lookup (is_at (R k)) (entries_in n)
   value_looked_up Spare b s = absurd b
   value_looked_up (SpareBefore' p n) b s = absurd b
-  value_looked_up (Alone j v) b s = box_value [] (j, v) [] s refl refl
+  value_looked_up (Alone j v) b s = grind arith
   value_looked_up (OnLeft' j p l v) b s =
-      box_value (entries_in l) (j, v) [] s (value_looked_up l b.1 (order_left R (entries_in l) ((j, v) ∷ []) s)) refl
+      let i = value_looked_up l b.1 (order_left R (entries_in l) (j, v) [] s) in grind (arith, lookup_by o k (entries_in l) (j, v) [] s)
   value_looked_up (OnRight' j p r v) b s =
-      box_value [] (j, v) (entries_in r) s refl (value_looked_up r b.1 (order_right R [] (j, v) (entries_in r) s))
-  value_looked_up (Both' h j p l q r v) b s = box_value (entries_in l) (j, v) (entries_in r) s
-      (value_looked_up l b.2 (order_left R (entries_in l) ((j, v) ∷ entries_in r) s))
-      (value_looked_up r b.3 (order_right R (entries_in l) (j, v) (entries_in r) s))
+      let i = value_looked_up r b.1 (order_right R [] (j, v) (entries_in r) s) in grind (arith, lookup_by o k [] (j, v) (entries_in r) s)
+  value_looked_up (Both' h j p l q r v) b s =
+      let i = value_looked_up l b.2 (order_left R (entries_in l) (j, v) (entries_in r) s) in
+      let i2 = value_looked_up r b.3 (order_right R (entries_in l) (j, v) (entries_in r) s) in
+      grind (arith, lookup_by o k (entries_in l) (j, v) (entries_in r) s)
 
 -- a list with a value written at a key
-module _ {K V : Type 0} (test : K → Bool) (es : List (K × V)) (w : V) where
-  set_as_edited : edited_at test (λ x. w) es ≡ set_value test es w
-  set_as_edited = grind (arith, set_none, none_passes_from_lookup)
+set_as_edited : {K V : Type 0} (test : K → Bool) (es : List (K × V)) (w : V) → edited_at test (λ x. w) es ≡ set_value test es w
+set_as_edited test [] w = refl
+set_as_edited test (e ∷ es) w = grind (arith, set_as_edited test es w)
 
 -- the same for a tree of which a value is lent
 module _ {K V : Type 0} {R : K → K → Ordering} (o : IsTotalOrder R) (k : K) where

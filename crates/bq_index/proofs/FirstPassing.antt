@@ -4,7 +4,7 @@ use Rattle.std.proofs.Common.{◌++◌, Option, None, Some, refl, sym, ap, ◌�
 use Rattle.std.specs.Prelude.{find}
 use Rattle.std.proofs.lemmas.List.Folds.{find-append}
 use Rattle.std.specs.declared.cmp.Ordering.{Ordering}
-use Rattle.std.specs.declared.cmp.Ordering.TheVariants.{Less, Equal, Greater}
+use Rattle.std.specs.declared.cmp.Ordering.TheVariants.{Less, Greater}
 use Rattle.std.specs.Cmp.{IsTotalOrder}
 use Rattle.std.specs.Ordering.{is_gt, is_lt}
 use Rattle.std.specs.List.{AllByRecursion}
@@ -62,9 +62,7 @@ module _ {K V : Type 0} {R : K → K → Ordering} (o : IsTotalOrder R) (k : K) 
         found_right (passes_from (R k) p) c (λ (y : K × V). y) None refl (sym none) (sym (ap (λ b. not b && p x.0 x.1) gt)) g u i
       where
         greater : (a : Ordering) → is_gt a ≡ true → is_lt a ≡ false
-        greater Less h = absurd cc
-        greater Equal h = absurd cc
-        greater Greater h = refl
+        greater a h = grind arith
 
     -- or it is not below k, and no entry on the left passes:
     module _ (h : false ≡ is_gt a) {B : Type 0} (f : B → K × V) (u : Option B) (n : u ≡ None)

@@ -1,15 +1,16 @@
 -- A removal that asks a test: what is left of the entries, and what a test is asked of.
-use Rattle.std.proofs.Common.{◌≡◌, Bool, true, false, cond, List, [], ◌∷◌, ◌++◌, Option, None, Some, refl, arith}
+use Rattle.std.proofs.Common.{◌≡◌, Bool, true, false, List, [], ◌∷◌, ◌++◌, Option, None, Some, refl, arith}
 use Rattle.std.specs.Prelude.{is_some}
 use Rattle.std.specs.declared.cmp.Ordering.{Ordering}
+use Rattle.std.specs.declared.cmp.Ordering.TheVariants.{Less}
 use Rattle.std.specs.Map.{lookup, remove_entry}
 use Rattle.std.specs.BTreeMap.{is_at}
 use Rattle.std.specs.Option.{option_to_list}
 use Rattle.bq_index.specs.Edited.{value_of}
 use Rattle.bq_index.specs.Removed.{lookup_if, passing, removed_if}
-use Rattle.bq_index.specs.Tree.{entries_in, entries_of, height_in, left_in, right_in, IsLevel}
+use Rattle.bq_index.specs.Tree.{entries_in, height_in, IsLevel}
 use Rattle.bq_index.specs.declared.tree.Node.{Node}
-use Rattle.bq_index.proofs.Parts.{Below}
+use Rattle.bq_index.proofs.Parts.{Around}
 
 module _ {V : Type 0} (q : V → Bool) where
   -- no value passes if there is none
@@ -37,15 +38,10 @@ module _ {K V : Type 0} (test : K → Bool) where
   all_removed (y ∷ es) (Some v) h = refl
   all_removed (y ∷ es) None h = grind (arith, all_removed es None)
 
-module _ {K V : Type 0} {R : K → K → Ordering} (k : K) {es l : List (K × V)} {e : Option (K × V)} {r : List (K × V)}
-    (is : es ≡ l ++ (option_to_list e ++ r)) (v : Option V) where
-  pub gone_below : Below R k es l e r → removed_if (is_at (R k)) v es ≡ removed_if (is_at (R k)) v l ++ (option_to_list e ++ r)
-  gone_below w = grind arith
-
-pub taken_of : {K V : Type 0} (b : Bool) (here same : Node K V) (gone new : List (K × V)) → here ≡ same
-    → gone ≡ entries_of (left_in here) ++ entries_of (right_in here)
-    → new ≡ cond b (entries_of (left_in same) ++ entries_of (right_in same)) (entries_in same) → new ≡ cond b gone (entries_in here)
-taken_of b here same gone new i w t = grind arith
+module _ {K V : Type 0} {R : K → K → Ordering} {k : K} {a : Ordering} {es l : List (K × V)} {e : Option (K × V)} {r : List (K × V)}
+    (w : Around R k a es l e r) (v : Option V) where
+  pub gone_below : a ≡ Less → removed_if (is_at (R k)) v es ≡ removed_if (is_at (R k)) v l ++ (option_to_list e ++ r)
+  gone_below i = grind arith
 
 -- a single box, of whose value a test is asked
 module _ {K V : Type 0} (test : K → Bool) (q : V → Bool) where

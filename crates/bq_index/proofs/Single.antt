@@ -7,7 +7,7 @@ use Rattle.std.specs.Ordering.{is_eq}
 use Rattle.std.specs.Map.{lookup}
 use Rattle.std.specs.BTreeMap.{is_at}
 use Rattle.bq_index.specs.{Order.{LacksKeyOf, with_entry}, Removed.{lookup_if, removed_if}}
-use Rattle.bq_index.specs.Tree.{entries_in, entries_of, entry_in, height_in, height_of, Comparison, ComparisonOfEntries, IsAlone}
+use Rattle.bq_index.specs.Tree.{entries_in, entries_of, entry_in, height_in, height_of, Comparison, ComparisonOfEntries}
 use Rattle.bq_index.specs.Tree.{IsBalancedFrom, IsLevel}
 use Rattle.bq_index.specs.declared.tree.Node.{Node}
 
@@ -28,26 +28,13 @@ module _ {K V : Type 0} (test : K → Bool) where
   none_left q o n h1 h2 h3 h4 = grind arith
 
 -- two single boxes, by how their keys compare: the first one is added to the second one
-module _ {K V : Type 0} (R : K → K → Ordering) where
-  lower : (n m : Node K V) → IsAlone n → IsAlone m → ComparisonOfEntries R (entry_in n) (entry_in m) Less
-      → entries_in n ++ entries_in m ≡ with_entry R (entry_in n) (entries_in m)
-  lower n m h2 h3 h4 = grind arith
+module _ {K V : Type 0} (R : K → K → Ordering) (n m : Node K V) (a : Ordering) (l : IsLevel n) (s : height_in n ≡ 1) (i : IsLevel m)
+    (j : height_in m ≡ 1) (h : ComparisonOfEntries R (entry_in n) (entry_in m) a) where
+  pub lower_first : a ≡ Less → entries_in n ++ entries_in m ≡ with_entry R (entry_in n) (entries_in m)
+  lower_first e = grind arith
 
-  higher : (n m : Node K V) → IsAlone n → IsAlone m → ComparisonOfEntries R (entry_in n) (entry_in m) Greater
-      → entries_in m ++ entries_in n ≡ with_entry R (entry_in n) (entries_in m)
-  higher n m h2 h3 h4 = grind arith
+  pub higher_last : a ≡ Greater → entries_in m ++ entries_in n ≡ with_entry R (entry_in n) (entries_in m)
+  higher_last e = grind arith
 
-  same : (n m : Node K V) → IsAlone n → IsAlone m → LacksKeyOf R (entry_in n) (entries_in m)
-      → ComparisonOfEntries R (entry_in n) (entry_in m) Equal → ⊥
-  same n m h2 h3 h4 h5 = grind arith
-
-  module _ (n m : Node K V) (a : Ordering) (l : IsLevel n) (s : height_in n ≡ 1) (i : IsLevel m) (j : height_in m ≡ 1)
-      (h : ComparisonOfEntries R (entry_in n) (entry_in m) a) where
-    pub lower_first : a ≡ Less → entries_in n ++ entries_in m ≡ with_entry R (entry_in n) (entries_in m)
-    lower_first e = grind (arith, lower)
-
-    pub higher_last : a ≡ Greater → entries_in m ++ entries_in n ≡ with_entry R (entry_in n) (entries_in m)
-    higher_last e = grind (arith, higher)
-
-    pub not_equal : LacksKeyOf R (entry_in n) (entries_in m) → a ≡ Equal → ⊥
-    not_equal k e = grind (arith, same)
+  pub not_equal : LacksKeyOf R (entry_in n) (entries_in m) → a ≡ Equal → ⊥
+  not_equal k e = grind arith

@@ -2,7 +2,7 @@
 ghost use Rattle.std.specs.Prelude.{◌≡◌, ◌+◌, ◌<◌, Some, IfSome};
 ghost use Rattle.std.specs.Option.{option_map};
 ghost use Rattle.bq_index.specs.Edited.{value_of};
-ghost use Rattle.bq_index.specs.Tree.{entry_in, entry_of_top, height_in, IsAlone, IsKeyOf, Comparison, ComparisonOfEntries, IsLevel};
+ghost use Rattle.bq_index.specs.Tree.{entry_in, entry_of_top, height_in, HasOneSideAtMost, IsKeyOf, Comparison, ComparisonOfEntries, IsLevel};
 ghost use Rattle.bq_index.specs.declared.tree.Node.TheVariants.{Spare};
 
 use super::find::compare_within;
@@ -99,7 +99,8 @@ fn taken_alone<K, V>(mut node: Box<Node<K, V>>) -> Option<(Box<Node<K, V>>, V)>
 where
     K: Drop,
     V: Drop,
-    requires alone { IsAlone node.value }
+    requires low { HasOneSideAtMost node.value }
+    requires alone { height_in node.value ≡ 1 }
     ensures value { option_map (λ p. p.1) result ≡ value_of node.value }
     ensures spare { IfSome result (λ p. p.0.value ≡ Spare) }
 {

@@ -56,6 +56,7 @@ impl<'e, V, T, E: Edit<V, T>> TryEdit<V, T> for Sure<'e, E> {
 }
 
 // Changes the value at a key in a tree.
+#[tactic(auto, using(crate::proofs::Edited::edited_level, crate::proofs::Edited::value_looked_up))]
 pub(crate) fn edit_tree<K: Ord, V, T: Drop, E: TryEdit<V, T>>(
     tree: &mut Tree<K, V>,
     key: &K,

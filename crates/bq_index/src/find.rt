@@ -53,6 +53,7 @@ pub(crate) fn compare_to<K: Ord, V>(key: &K, node: &Node<K, V>, count: &mut u64)
 }
 
 // Returns the value at a key.
+#[tactic(auto, using(crate::proofs::Parts::lent_filled))]
 pub(crate) fn get<'a, K: Ord, V>(
     tree: Option<&'a Node<K, V>>,
     key: &K,
@@ -76,6 +77,7 @@ pub(crate) fn get<'a, K: Ord, V>(
 }
 
 // Returns the first entry whose key is `key` or above.
+#[tactic(auto, using(crate::proofs::Parts::lent_filled))]
 pub(crate) fn next_from<'a, K: Ord, V>(
     tree: Option<&'a Node<K, V>>,
     key: &K,

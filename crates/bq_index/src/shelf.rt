@@ -201,6 +201,7 @@ impl<K: Ord + Drop, V: Drop> Shelf<K, V> {
     /// spare. If there is no such entry, or it does not pass, only the count of comparisons changes.
     ///
     /// The test gets `key`. It takes no second search: the test runs where the search has ended.
+    #[tactic(auto, using(crate::proofs::Bound::height_small))]
     pub fn remove_if<T: Test<K, V>>(&mut self, key: &K, test: &T) -> Option<V>
         ensures value { result
             ≡ lookup_if (is_at (K.cmp key.now)) (T.passed test.now key.now) self.old.entries }
@@ -337,6 +338,7 @@ impl<K: Ord + Drop, V: Drop> Shelf<K, V> {
 
     // Removes the entry of a key from a tree and returns its value, if there is one. Its box becomes
     // spare.
+    #[tactic(auto, using(crate::proofs::Bound::height_small))]
     pub(crate) fn remove_from(&mut self, tree: &mut Tree<K, V>, key: &K) -> Option<V>
         requires balanced { IsBalanced tree.old }
         requires in_order { InOrder K.cmp (entries tree.old) }
@@ -387,6 +389,7 @@ impl<K: Ord + Drop, V: Drop> Shelf<K, V> {
     }
 
     /// Returns a mutable reference to the value at a key.
+    #[tactic(auto, using(crate::proofs::Bound::height_small))]
     pub fn get_mut(&mut self, key: &K) -> Option<&mut V>
         ensures* writes_back { sem 𝓛
             (LendsValue K.row V.row K.Ord self.entry (K.cmp key.now) result) }

@@ -72,6 +72,7 @@ fn exchange<K: Drop, V: Drop>(
 }
 
 // Adds an entry to the tree of its part.
+#[tactic(auto, using(crate::proofs::Spread::one_tree))]
 fn insert_at<K: Parted + Drop, V: Drop>(
     trees: &mut Vec<Tree<K, V>, Global>,
     rest: &mut Shelf<K, V>,
@@ -101,6 +102,7 @@ fn insert_at<K: Parted + Drop, V: Drop>(
 }
 
 // Removes the entry of a key from the tree of its part and returns its value, if there is one.
+#[tactic(auto, using(crate::proofs::Spread::one_tree))]
 fn remove_at<K: Parted + Drop, V: Drop>(
     trees: &mut Vec<Tree<K, V>, Global>,
     rest: &mut Shelf<K, V>,
@@ -238,6 +240,7 @@ impl<K: Parted + Drop + Copy, V: Drop> Shelves<K, V> {
     }
 
     /// Adds an entry whose key is not there. The entry takes a spare box.
+    #[tactic(auto, using(crate::proofs::Spread::all_trees))]
     pub fn insert(&mut self, key: K, value: V)
         requires spare { 0 < self.old.spare }
         requires absent { lookup (is_at (K.cmp key)) self.old.entries ≡ None }
@@ -256,6 +259,7 @@ impl<K: Parted + Drop + Copy, V: Drop> Shelves<K, V> {
 
     /// Removes the entry of a key and returns its value, or `None` if there is no such entry. Its
     /// box becomes spare.
+    #[tactic(auto, using(crate::proofs::Spread::all_trees))]
     pub fn remove(&mut self, key: &K) -> Option<V>
         ensures value { result ≡ lookup (is_at (K.cmp key.now)) self.old.entries }
         ensures entries { self.new.entries ≡ remove_entry (is_at (K.cmp key.now)) self.old.entries }
@@ -273,6 +277,7 @@ impl<K: Parted + Drop + Copy, V: Drop> Shelves<K, V> {
 
     /// Returns the lowest key that is `key` or above, if it is of the same part. Only the count of
     /// comparisons changes.
+    #[tactic(auto, using(crate::proofs::Spread::all_trees))]
     pub fn lowest_of_part(&mut self, key: &K) -> Option<K>
         ensures key { result
             ≡ of_part K.part (K.part key.now) (key_from (K.cmp key.now) self.old.entries) }

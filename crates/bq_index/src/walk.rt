@@ -44,6 +44,7 @@ pub(crate) fn walk<K, V, T: Visitor<K, V>>(tree: Option<&Node<K, V>>, visitor: &
 }
 
 // Returns the first entry that passes.
+#[tactic(auto, using(crate::proofs::FirstPassing::found_here, crate::proofs::FirstPassing::found_left, crate::proofs::FirstPassing::found_right))]
 pub(crate) fn first<'a, K, V, T: Test<K, V>>(
     tree: Option<&'a Node<K, V>>,
     test: &T,
@@ -65,6 +66,7 @@ pub(crate) fn first<'a, K, V, T: Test<K, V>>(
 
 // Returns the first entry that passes, among those whose key is `from` or above. It compares keys
 // but does not count that.
+#[tactic(auto, using(crate::proofs::FirstPassing::found_left))]
 pub(crate) fn first_from<'a, K: Ord, V, T: Test<K, V>>(
     tree: Option<&'a Node<K, V>>,
     from: &K,

@@ -1,4 +1,4 @@
-use Rattle.bq_index.proofs.Parts.{by_key, by_other, come_apart, goes_right, hung_right}
+use Rattle.bq_index.proofs.Parts.{by_other, come_apart, goes_right, hung_right}
 use Rattle.std.proofs.Common.{arith}
 use Rattle.bq_index.proofs.insert.insert_low.Goals as goal
 
@@ -27,10 +27,9 @@ returns-in_default g c =
 
 pub returns-in_default-here : goal.returns-in_default-here
 returns-in_default-here g c =
-    let at = by_other g.K.Ord.cmp c.key_alone.result.now c.key.result.now _ _ c.key.ensures c.compare_within.ensures.answer in
-    let h = by_key g.K.Ord.cmp _ _ _ _ (rw c.deref.ensures at c.key_alone.ensures) at in
+    let w = goes_right g.met.K.Ord.total _ c.requires.alone.filled (rw c.deref.ensures at c.key_alone.ensures) c.args.here.now
+    c.requires.here_level c.requires.in_order c.requires.absent c.key.ensures c.compare_within.ensures.answer c.in-Greater.is in
     let p = come_apart c.args.here.now c.requires.here_level in
-    let w = goes_right g.met.K.Ord.total _ c.requires.alone.filled p c.requires.in_order c.requires.absent h c.in-Greater.is in
     grind (arith, hung_right)
 
 pub unreachable-requires : goal.unreachable-requires

@@ -1,7 +1,7 @@
 use Rattle.std.proofs.Common.{arith}
 use Rattle.bq_index.specs.Walk.{entry_of}
 use Rattle.bq_index.proofs.Parts.{left_in_order, right_in_order, shorter}
-use Rattle.bq_index.proofs.FirstPassing.{first_here, first_right, found_left, from_right}
+use Rattle.bq_index.proofs.FirstPassing.{first_here, first_right, from_right}
 use Rattle.bq_index.proofs.walk.+first_from.Goals as goal
 
 pub first_from-requires : goal.first_from-requires
@@ -30,6 +30,3 @@ returns-else-passes g t c =
     (g.T.Test.passed c.args.test.now) c.in_ok-left.ensures.parts c.requires.in_order c.cmp.result c.cmp.ensures
     c.if-is_gt.ensures entry_of c.first_from-2.result c.in-None.is c.first_from-2.ensures c.if-passes.ensures entry_of
     c.first.result c.first.ensures
-
-pub returns-in_default : goal.returns-in_default
-returns-in_default g t c = grind (arith, found_left)

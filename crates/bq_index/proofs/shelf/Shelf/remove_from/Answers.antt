@@ -1,13 +1,10 @@
 use Rattle.std.proofs.lemmas.Grind.{common_steps}
 use Rattle.std.proofs.Common.{rules, arith, refl, Some, ◌≡◌, length}
 use Rattle.std.specs.BTreeMap.{is_at}
-use Rattle.bq_index.proofs.Bound.{height_bound, height_small}
+use Rattle.bq_index.proofs.Bound.{height_bound}
 use Rattle.bq_index.proofs.Order.{length_removed}
 use Rattle.bq_index.specs.Tree.{entries}
 use Rattle.bq_index.proofs.shelf.Shelf.remove_from.Goals as goal
-
-pub remove-requires-clause-fits : goal.remove-requires-clause-fits
-remove-requires-clause-fits g c = grind (arith, height_small)
 
 pub returns-in_err-node-clause-comparisons : goal.returns-in_err-node-clause-comparisons
 returns-in_err-node-clause-comparisons g c = grind (arith, height_bound)

@@ -3,13 +3,10 @@ use Rattle.std.proofs.Common.{rules, arith, refl, Some, ◌≡◌, ◌+◌}
 use Rattle.std.specs.BTreeMap.{is_at}
 use Rattle.std.specs.Map.{lookup}
 use Rattle.bq_index.proofs.Removed.{value_there}
-use Rattle.bq_index.proofs.Bound.{height_bound, height_small}
+use Rattle.bq_index.proofs.Bound.{height_bound}
 use Rattle.bq_index.proofs.Order.{order_remove, length_removed}
 use Rattle.bq_index.specs.Tree.{entries, chain_length}
 use Rattle.bq_index.proofs.shelf.Shelf.remove_if.Goals as goal
-
-pub remove_if-requires-clause-fits : goal.remove_if-requires-clause-fits
-remove_if-requires-clause-fits g c = grind (arith, height_small)
 
 pub returns-in_err-node-clause-comparisons : goal.returns-in_err-node-clause-comparisons
 returns-in_err-node-clause-comparisons g c = grind (arith, height_bound)
