@@ -45,7 +45,6 @@ module _ (m : Machine) (ids : AreIdsWithin 1 m.jobs m.next_id) where
   others_left : (due : Due) → IsDue m due → after_job_timers (fired due m) ≡ after_job_timers m
   others_left (DelayEnded id) one =
       let f = job_after_timers m.moment in
-      let p = λ (j : Job). is_expired m.moment j.state in
       let jobs = absorbed f f id m.jobs (all_always _ m.jobs (λ k e. fired_once m.moment k)) in
       grind (arith, as_many, all_weaker, one_of_id id 1 m.next_id m.jobs one.job ids one.found)
   others_left (Expired id) one = grind (arith, common_steps, absorbed, all_always, fired_once, one_fewer)
@@ -77,13 +76,9 @@ pub chosen : (p : Job → Bool) (before : Job → Job → Bool) (low next : ℕ)
     → Some id ≡ option_map (λ j. j.id) (first_of p before jobs) → Chosen p before jobs id
 chosen p before low next jobs id ids e =
     let j : (j : Job) × (first_of p before jobs ≡ Some j) × (id ≡ j.id) = grind (arith, common_steps) in
-    record {
-      job = j.0;
-      first = j.1;
-      id_is = j.2;
-      found = ap (λ n. job_with n jobs) j.2 ∙ found_by_id low next jobs j.0 ids (first_of_contains p before jobs j.0 j.1);
-      passes_is = first_of_passes p before jobs j.0 j.1;
-    }
+    let found = found_by_id low next jobs j.0 ids (first_of_contains p before jobs j.0 j.1) in
+    let passes = first_of_passes p before jobs j.0 j.1 in
+    grind arith
 
 -- the id of a job that was found with its number
 pub id_ranked : (number : Job → ℕ) (o : Option Job) (n id : ℕ) → Some (n, id) ≡ option_map (ranked number) o

@@ -57,9 +57,7 @@ kicked_in_turn : (j : Job) (chosen : List Job) → All (λ k. (k.id == j.id) ≡
     → all_kicked (j ∷ chosen) js ≡ all_kicked chosen (map (λ k. if k.id == j.id then kicked k else k) js)
 kicked_in_turn j chosen others [] = refl
 kicked_in_turn j chosen others (x ∷ js) =
-    let rest = kicked_in_turn j chosen others js in
-    let none = list_any_not (λ k. k.id == j.id) chosen others in
-    grind arith
+    grind (arith, kicked_in_turn j chosen others js, list_any_not (λ k. k.id == j.id) chosen others)
 
 -- the first one is kicked
 pub kicks_first : (list : JobList) (tube : List ℕ) (low next : ℕ) (jobs : List Job) (j : Job)

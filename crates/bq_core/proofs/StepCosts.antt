@@ -1,5 +1,5 @@
 -- A whole step and its searches, from its parts.
-use Rattle.std.proofs.Common.{Bool, [], ap, append_assoc, arith, false, length, max, subst, sym, ℕ, ◌*◌, ◌++◌, ◌+◌, ◌<◌, ◌||◌, ◌∙◌, ◌≡◌}
+use Rattle.std.proofs.Common.{Bool, [], ap, arith, false, length, max, subst, sym, ℕ, ◌*◌, ◌++◌, ◌+◌, ◌<◌, ◌||◌, ◌∙◌, ◌≡◌}
 use Rattle.std.proofs.{Common.◌≤◌, Math.{Nat.add-mul}, lemmas.{Grind.common_steps, List.Sums.count_by-le-length}}
 use Rattle.std.proofs.lemmas.{List.length-append, Nat.mul-le}
 use Rattle.bq_core.proofs.{AskLemmas.{asks_more, asks_then, search_grows}, CostLemmas.{ended_stop, entries_less, handed_stop, waited_less}}
@@ -28,22 +28,14 @@ serving_after first middle last before between after old told new g rest asks =
         handed = g.given ++ s.handed;
         ended = s.ended;
         serves = grind (arith, chain_joined);
-        added = s.added ∙ rw g.added (simp append_assoc);
-        most = s.most ∙ g.most;
-        left_out = s.left_out ∙ g.left_out;
+        added = grind (arith, common_steps);
+        most = grind arith;
+        left_out = grind arith;
         unshared = grind (arith, common_steps);
         tubes = s.tubes;
         room = λ more h. s.room more (room_kept DispatchTurn has_refused_share more first middle old told g h);
       };
-      asks = asks_more _ (omega (
-        arith,
-        length-append g.given s.handed,
-        ap (λ i. i * (waited first + 9)) (length-append g.given s.handed),
-        add-mul (length g.given) (length s.handed) (waited first + 9),
-        mul-le (length s.handed) (waited middle + 9) (length s.handed) (waited first + 9) (omega arith) (omega (arith, falls)),
-        g.taken,
-        falls,
-      )) (asks_then asks rest.asks);
+      asks = asks_more _ (grind (arith, common_steps, add-mul, mul-le)) (asks_then asks rest.asks);
     }
 
 -- at the beginning of a step there is room for an answer to each waiting client, and for one more

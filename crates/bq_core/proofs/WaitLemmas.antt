@@ -107,10 +107,7 @@ module _ (st : CoreParts) (last : Option (ℕ × ℕ)) (looked : AreChecked (mac
           passed : (t : SeatRecord) → Contains st.seats.items t → (b d : Bool) → ends_waiting (machine_of st) s ≡ b
               → (t.number == s.number) ≡ d → ends_waiting (machine_of st) (if b && d then without_wait t else t) ≡ true
               → is_after (Some (waiter_of s)) (if b && d then without_wait t else t) ≡ true
-          passed t c true true e o h = absurd cc
-          passed t c false true e o h = absurd (let is = same t c o in cc)
-          passed t c true false e o h = comes_after t c (is_left t c h) o
-          passed t c false false e o h = comes_after t c (is_left t c h) o
+          passed t c b d e o h = grind (arith, same t c, comes_after t c, is_left t c)
 
       check_falls : left_after (Some waiter) next < left_after last (machine_of st)
       check_falls =

@@ -412,6 +412,7 @@ fn take_at_once(state: &mut CoreParts, seat: Seat, what: &Step) -> Option<(JobId
 /// and its client may have a job, the client is handed the job: by the rules it begins to wait, and
 /// dispatch then hands it the job and ends its wait. Here it is not entered among the clients that
 /// wait, and the model is the same afterwards.
+#[tactic(auto, using(crate::proofs::AtOnceLemmas::given_at_once, crate::proofs::AtOnceLemmas::reserves))]
 pub(crate) fn act_or_hand_out(
     state: &mut CoreParts,
     alloc: Global,

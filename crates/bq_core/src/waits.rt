@@ -65,6 +65,7 @@ fn told_at_end(state: &mut CoreParts, k: usize) -> Option<Answer>
 }
 
 // Ends the wait of the client at place k with this answer.
+#[tactic(auto, using(crate::proofs::TurnLemmas::ended_given))]
 fn end_wait(state: &mut CoreParts, outs: &mut Outs, k: usize, answer: Answer)
     requires seat { k < length state.old.seats.items }
     requires room { length outs.old.given < outs.old.most }
@@ -108,7 +109,7 @@ fn next_waiting(state: &CoreParts, last: Option<Waiter>) -> Option<usize>
 // Ends the waits that end now, if there may be some. Each waiting client is checked once, in the
 // order of tickets.
 #[inline(never)]
-#[tactic(auto, using(crate::proofs::WaitLemmas::ends_of_waits))]
+#[tactic(auto, using(crate::proofs::WaitLemmas::ends_of_waits, crate::proofs::WaitLemmas::none_left))]
 fn end_all(state: &mut CoreParts, outs: &mut Outs)
     requires room { HasRoom 0 (machine_of state.old) outs.old }
     ensures given { Gives WaitEndTurn none_refused

@@ -1,10 +1,7 @@
-use Rattle.std.proofs.Common.{ap, refl, arith}
-use Rattle.bq_core.proofs.AtOnceLemmas.{acted_alone, given_at_once, reserves}
+use Rattle.std.proofs.Common.{ap, refl}
+use Rattle.bq_core.proofs.AtOnceLemmas.{acted_alone}
 use Rattle.bq_state.specs.CoreParts.{machine_of_fields}
 use Rattle.bq_core.proofs.dispatch.act_or_hand_out.Goals as goal
-
-pub returns-in-Some : goal.returns-in-Some
-returns-in-Some c = grind (arith, given_at_once, reserves)
 
 pub returns-in-None : goal.returns-in-None
 returns-in-None c =

@@ -1,6 +1,6 @@
 use Rattle.std.proofs.Common.{arith, refl}
 use Rattle.bq_core.proofs.{AskLemmas.{asks_more, asks_then}, TurnLemmas.{gives_joined, room_kept}}
-use Rattle.bq_core.proofs.WaitLemmas.{checked_on, none_left, room_left}
+use Rattle.bq_core.proofs.WaitLemmas.{checked_on, room_left}
 use Rattle.bq_core.proofs.waits.end_all.Goals as goal
 
 pub end_one-requires-clause-room : goal.end_one-requires-clause-room
@@ -23,6 +23,3 @@ loop-k-preserved c =
 pub loop-k-smaller : goal.loop-k-smaller
 loop-k-smaller c = (checked_on c.loop-k.state _ c.loop-k.invariant.looked _ _ c.in-Some.ensures.bound c.index.ensures
     c.in-Some.ensures.least c.loop-k.outs c.end_one.new.outs _ c.end_one.ensures.looked _ c.waiter.ensures).2
-
-pub returns-clause-done : goal.returns-clause-done
-returns-clause-done c = none_left c.loop-k.state _ c.loop-k.invariant.looked c.in_default.ensures.least
