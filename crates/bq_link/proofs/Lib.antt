@@ -4,4 +4,3 @@ pub mod NewLemmas
 pub mod PassLemmas
 pub mod RingLemmas
 pub mod SubmissionLemmas
-pub mod ViewLemmas

@@ -1,21 +1,15 @@
 -- No refusal is possible if no call met a full intake, and no empty result if none met an empty
 -- one.
-use Rattle.std.proofs.Common.{◌≡◌, ℕ, ◌+◌, List, [], ◌∷◌, ◌++◌, length, append_assoc, arith}
+use Rattle.std.proofs.Common.{ℕ, List, append_assoc, arith}
 use Rattle.std.proofs.lemmas.Grind.{common_steps}
 use Rattle.std.proofs.lemmas.List.{length-append}
 use Rattle.bq_job.specs.declared.step.Step.{Step}
 use Rattle.bq_link.specs.EndStates.{SeatState}
 use Rattle.bq_link.specs.Looks.{TellsNoRefusal, TellsNoneEmpty}
-use Rattle.bq_link.specs.Submissions.{steps_of}
 use Rattle.bq_link.proofs.SubmissionLemmas.{of_own}
 
--- one more step of the end
-longer : (number : ℕ) (step : Step) (taken waiting : List (ℕ × Step))
-    → length (steps_of number (taken ++ (waiting ++ (number, step) ∷ []))) ≡ length (steps_of number (taken ++ waiting)) + 1
-longer number step taken waiting = grind (arith, common_steps, append_assoc, of_own, length-append)
-
 pub no_refusal : (places : ℕ) (seat : SeatState) → TellsNoRefusal places seat
-no_refusal places seat = grind (arith, common_steps, longer)
+no_refusal places seat = grind (arith, common_steps, append_assoc, of_own, length-append)
 
 pub none_empty : (all : List (ℕ × Step)) → TellsNoneEmpty all
 none_empty all = grind (arith, common_steps, length-append)

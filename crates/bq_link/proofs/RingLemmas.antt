@@ -1,5 +1,4 @@
 -- The rings of the core's end, when one is used.
-use Rattle.std.specs.Prelude.{◌↔◌, IsTrue}
 use Rattle.std.proofs.Common.{◌≡◌, ℕ, Bool, true, false, not, ◌+◌, ◌<◌, ◌≤◌, Global}
 use Rattle.std.proofs.Common.{List, map, length, get_or, set, ap, ◌∙◌, arith}
 use Rattle.std.proofs.lemmas.Option.{slice_get_within}
@@ -14,7 +13,7 @@ use Rattle.rtrb.specs.declared.AnyItems.{AnyItems}
 use Rattle.rtrb.specs.declared.producer.Producer.{Producer}
 use Rattle.bq_link.specs.declared.ends.CoreEnd.TheInside.{Inside as CoreFields}
 use Rattle.bq_link.specs.EndStates.{CoreState, ring_places, room_for, sent_to}
-use Rattle.bq_link.specs.Inside.{core_state, ring_of}
+use Rattle.bq_link.specs.Inside.{core_state}
 
 -- the image of an element that was written
 image_at : {X Y : Type 0} (f : X → Y) (xs : List X) (n : ℕ) (x : X) (e : Y) → n < length xs → get_or (map f (set xs n x)) n e ≡ f x
@@ -27,58 +26,21 @@ Ring = Producer Answer Global AnyItems
 abbrev pub with_ring : CoreFields → ℕ → Ring → CoreFields
 with_ring c k p = record { pass = c.pass; rings = with_item c.rings k p }
 
-length_rings : (c : CoreFields) → length (core_state c).rings ≡ length c.rings.items
-length_rings c = length-map c.rings.items (λ (r : Ring). ring_of r)
-
 pub within_of : (c : CoreFields) (old : CoreState) (k number : ℕ) → core_state c ≡ old → k ≡ number → number < length old.rings
     → k < length c.rings.items
-within_of c old k number is at within = grind (arith, common_steps, length_rings)
-
--- a ring that was checked twice
-pub looked_twice : (a b c : Ring) → SameProducer a b → SameProducer b c → SameProducer a c
-looked_twice a b c first second = grind (arith, common_steps)
-
--- whether a ring is full, as its end reports
-pub some_room : (free room : ℕ) (full : Bool) → (IsTrue full ↔ (free ≡ 0)) → room ≡ free → not full ≡ true → 0 < room
-some_room free room full tells same e = grind (arith, common_steps, cases_Bool)
-
-pub no_room : (free : ℕ) (full : Bool) → (IsTrue full ↔ (free ≡ 0)) → not full ≡ false → free ≡ 0
-no_room free full tells e = grind (arith, common_steps, cases_Bool)
-
--- a place of a ring that isn't free holds a waiting answer
-pub free_or_waiting : (first free sent places received waiting : ℕ) → first + sent ≡ places + received → received + waiting ≡ sent
-    → first ≤ free → places ≤ free + waiting
-free_or_waiting first free sent places received waiting all parts less = omega arith
+within_of c old k number is at within = grind (arith, common_steps)
 
 module _ (c : CoreFields) (old : CoreState) (k number : ℕ) (d p : Ring) (is : core_state c ≡ old) (at : k ≡ number)
     (here : d ≡ get_or c.rings.items k d) where
-  same_ring : SameProducer d p → ring_of p ≡ ring_of (get_or c.rings.items k d)
-  same_ring same = (λ i. record { words = same.0.0 i; slots = same.0.1 i; names = same.0.2 i }) ∙ ap (λ (r : Ring). ring_of r) here
-
   -- something was sent
   pub changed : SameProducer d p → (xs : List Answer) → sent p ≡ xs
       → core_state (with_ring c k p) ≡ record old { sent = set old.sent number xs; room = set old.room number (known_free p) }
-  changed same xs e i = record {
-    intake = (is i).intake;
-    rings = (map-set_same (λ (r : Ring). ring_of r) c.rings.items k p d (same_ring same) ∙ ap (λ (s : CoreState). s.rings) is) i;
-    taken = (is i).taken;
-    told = (is i).told;
-    sent = (map-set (λ (r : Ring). sent r) c.rings.items k p ∙ (λ j. set (is j).sent (at j) (e j))) i;
-    room = (map-set (λ (r : Ring). known_free r) c.rings.items k p ∙ (λ j. set (is j).room (at j) (known_free p))) i;
-  }
+  changed same xs e = grind (arith, map-set, map-set_same)
 
   -- nothing was sent
   pub unsent : SameProducer d p → sent p ≡ sent d → (n : ℕ) → known_free p ≡ n
       → core_state (with_ring c k p) ≡ record old { room = set old.room number n }
-  unsent same e n free i = record {
-    intake = (is i).intake;
-    rings = (map-set_same (λ (r : Ring). ring_of r) c.rings.items k p d (same_ring same) ∙ ap (λ (s : CoreState). s.rings) is) i;
-    taken = (is i).taken;
-    told = (is i).told;
-    sent = (map-set_same (λ (r : Ring). sent r) c.rings.items k p d (e ∙ ap (λ (r : Ring). sent r) here)
-        ∙ ap (λ (s : CoreState). s.sent) is) i;
-    room = (map-set (λ (r : Ring). known_free r) c.rings.items k p ∙ (λ j. set (is j).room (at j) (free j))) i;
-  }
+  unsent same e n free = grind (arith, map-set, map-set_same)
 
   pub room_now : k < length c.rings.items → room_for (core_state (with_ring c k p)) number ≡ known_free p
   room_now within = grind (arith, common_steps, image_at)
@@ -97,10 +59,10 @@ module _ (c : CoreFields) (old : CoreState) (k number : ℕ) (d p : Ring) (is : 
   places_of all within = grind (arith, common_steps)
 
 -- what a ring has, looked at where it lies in the core's end
-pub ruleset looked = (common_steps, within_of, slice_get_within, room_now, sent_now, some_room, no_room, unsent)
+pub ruleset looked = (common_steps, within_of, slice_get_within, room_now, sent_now, cases_Bool, unsent)
 
 -- the room of a ring whose slots were looked at from both ends
-pub ruleset looked_at_both = (looked, places_of, looked_twice, free_or_waiting, length-append)
+pub ruleset looked_at_both = (looked, places_of, length-append)
 
 -- what a ring has, and what it had, where an answer is sent
 pub ruleset sends = (common_steps, within_of, room_now, room_was, sent_now, sent_was, changed, unsent)

@@ -2,7 +2,7 @@ use Rattle.std.proofs.Common.{rules, arith}
 use Rattle.std.proofs.lemmas.Grind.{common_steps}
 use Rattle.bq_link.proofs.DeliveryLemmas.{compares}
 use Rattle.bq_link.proofs.PassLemmas.{blanks, joins, parts}
-use Rattle.bq_link.proofs.SubmissionLemmas.{of_parts}
+use Rattle.bq_link.proofs.SubmissionLemmas.{of_joined}
 use Rattle.bq_link.proofs.ends.CoreEnd.compare.Goals as goal
 
 pub another-blank-requires-clause-rule : goal.another-blank-requires-clause-rule
@@ -18,4 +18,4 @@ pub another-requires-clause-rule : goal.another-requires-clause-rule
 another-requires-clause-rule g c = parts _ _ _ (search rules) (search rules)
 
 pub returns-clause-waits : goal.returns-clause-waits
-returns-clause-waits g c = grind (arith, common_steps, of_parts)
+returns-clause-waits g c = grind (arith, common_steps, of_joined)
