@@ -1,6 +1,6 @@
 -- The lines that are read in one pass.
 use Rattle.bq_job.proofs.ListLemmas.{all_weaker, list_all_from, all_pass}
-use Rattle.std.proofs.Common.{◌≡◌, ◌≤◌, ℕ, Bool, true, false, ◌==◌, not, List, [], ◌∷◌, ◌++◌, Option, Some, refl, sym, ◌∙◌, ap, arith}
+use Rattle.std.proofs.Common.{◌≡◌, ◌≤◌, ℕ, Bool, true, false, ◌==◌, not, List, ◌∷◌, ◌++◌, Option, Some, refl, sym, ◌∙◌, ap, arith, []}
 use Rattle.std.proofs.Common.{append_assoc, codes, length, length-append, nat_lt, take}
 use Rattle.std.proofs.lemmas.Bool.Decides.{nat_tests}
 use Rattle.std.proofs.lemmas.List.Folds.{list_all-append}
@@ -61,13 +61,11 @@ asks_numbers : (name piece text rest : List ℕ) (these : List (List ℕ)) (end 
     → IsLineAsking asked (take end piece)
 asks_numbers name piece text rest these end asked is name_plain n read ends =
     let line : List ℕ = (name ++ 32 ∷ []) ++ n.line in
-    let split : piece ≡ (line ++ 13 ∷ []) ++ rest = is ∙ ap (λ (xs : List ℕ). (name ++ 32 ∷ []) ++ xs) n.text_is
-    ∙ sym (append_assoc (name ++ 32 ∷ []) n.line (13 ∷ rest)) ∙ sym (append_assoc line (13 ∷ []) rest) in
-    let at = ends (line ++ 13 ∷ []) split in
-    let whole : take end piece ≡ line ++ 13 ∷ 10 ∷ [] = at.0 ∙ append_assoc line (13 ∷ []) (10 ∷ []) in
+    let at = ends (line ++ 13 ∷ []) (grind (arith, append_assoc)) in
     let short : length line ≤ longest_line = omega (arith, length-append line (13 ∷ []), at.1) in
+    let whole : take end piece ≡ line ++ 13 ∷ 10 ∷ [] = grind (arith, append_assoc) in
     let fits : nat_lt longest_line (length line) ≡ false = grind (arith, nat_tests, short) in
-    let no_cr : list_all is_plain line ≡ true = rw (list_all-append is_plain (name ++ 32 ∷ []) n.line, name_plain) n.plain_is in
+    let no_cr : list_all is_plain line ≡ true = grind (arith, list_all-append) in
     rw whole (record { line = line; first_line_is = line_before line no_cr; read_is = rw fits (read n.line n.words_are) })
 
 pub delete_is : (piece numbers rest : List ℕ) (n end : ℕ) → piece ≡ codes "delete " ++ numbers → Leads job_id 13 n numbers rest
@@ -81,5 +79,4 @@ pub put_is : (piece t0 t1 t2 t3 rest : List ℕ) (pri delay ttr bytes end : ℕ)
     → ((front : List ℕ) → piece ≡ front ++ rest → (take end piece ≡ front ++ 10 ∷ []) × (length front ≤ longest_line))
     → IsLineAsking (spec.PutWaits (record { pri = pri; delay = delay; ttr = ttr; bytes = bytes })) (take end piece)
 put_is piece t0 t1 t2 t3 rest pri delay ttr bytes end is a b c d ends =
-    asks_numbers (codes "put") piece t0 rest _ end _ is refl (one_more a (one_more b (one_more c (last_number d))))
-    (λ line e. rw (e, a.read_is, b.read_is, c.read_is, d.read_is) refl) ends
+    asks_numbers (codes "put") piece t0 rest _ end _ is refl (one_more a (one_more b (one_more c (last_number d)))) (λ line e. cc) ends

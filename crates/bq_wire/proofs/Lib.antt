@@ -1,6 +1,5 @@
 pub mod FrequentLemmas
 pub mod HasReadLemmas
 pub mod LineEndLemmas
-pub mod LineReadLemmas
 pub mod ReaderLemmas
 pub mod WordLemmas

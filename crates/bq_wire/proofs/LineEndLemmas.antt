@@ -1,7 +1,7 @@
 -- Where command lines end.
-use Rattle.std.proofs.Common.{◌≡◌, ◌<◌, ◌≤◌, ℕ, ◌+◌, ◌-◌, zero, suc, Bool, true, false, ◌&&◌}
-use Rattle.std.proofs.Common.{◌==◌, List, [], ◌∷◌, ◌++◌, Option, Some, None, add-one}
-use Rattle.std.proofs.Common.{refl, arith, length, length-append, take, drop, get_or, option_map, if◌then◌else◌}
+use Rattle.std.proofs.Common.{◌≡◌, ◌<◌, ◌≤◌, ℕ, ◌+◌, ◌-◌, zero, suc, Bool, true, false, ◌&&◌, []}
+use Rattle.std.proofs.Common.{◌==◌, List, ◌∷◌, ◌++◌, Option, Some, None, add-one}
+use Rattle.std.proofs.Common.{refl, arith, length, take, drop, get_or, option_map, if◌then◌else◌}
 use Rattle.std.proofs.Math.Bool.{and-false, and-true}
 use Rattle.std.proofs.lemmas.Bool.{cases_Bool, Decides.nat_tests}
 use Rattle.std.proofs.lemmas.Grind.{common_steps}
@@ -11,46 +11,41 @@ use Rattle.bq_job.specs.reading.Line.{first_line, onto_line}
 use Rattle.bq_wire.specs.LineEnds.{line_end_after, last_is_cr, later_by}
 use Rattle.memchr.specs.Find.{IsFirstByte, is_byte}
 
--- without an LF, no line ends
-pub line_end_none : (c : Bool) (bytes : List ℕ) → ((k : ℕ) → k < length bytes → (get_or bytes k 0 == 10) ≡ true → ⊥)
-    → line_end_after c bytes ≡ None
-line_end_none c [] none = refl
-line_end_none c (b ∷ bytes) none =
-    let not_here : (b == 10) ≡ false = grind (arith, nat_tests, none 0) in
-    let later : line_end_after (b == 13) bytes ≡ None = line_end_none (b == 13) bytes (λ k low. none (suc k) (omega arith)) in
-    rw (not_here, and-false c, later)
-
 -- one byte further
 one_more : (t : Bool) (k : ℕ) (o : Option ℕ)
     → option_map suc (if t then Some (suc k) else option_map (λ n. suc k + n) o) ≡
     (if t then Some (suc (suc k)) else option_map (λ n. suc (suc k) + n) o)
 one_more t k o = grind (arith, common_steps, cases_Bool)
 
--- the first LF ends a command line if it follows a CR; otherwise the search continues after it
-pub line_end_at : (c : Bool) (bytes : List ℕ) (k : ℕ) → k < length bytes → (get_or bytes k 0 == 10) ≡ true
-    → ((j : ℕ) → j < k → (get_or bytes j 0 == 10) ≡ true → ⊥)
-    → line_end_after c bytes ≡ (if last_is_cr c (take k bytes) then Some (suc k) else option_map (λ n. suc k + n)
-    (line_end_after false (drop (suc k) bytes)))
-line_end_at c [] k low here before = absurd (omega arith)
-line_end_at c (b ∷ bytes) zero low here before = grind (arith, common_steps, nat_tests, and-true)
-line_end_at c (b ∷ bytes) (suc k) low here before =
-    let not_here : (b == 10) ≡ false = grind (arith, nat_tests, before 0) in
-    let later = line_end_at (b == 13) bytes k (omega arith) here (λ j less. before (suc j) (omega arith)) in
-    rw (not_here, and-false c, later) (one_more (last_is_cr (b == 13) (take k bytes)) k (line_end_after false (drop (suc k) bytes)))
-
--- the same, as the code searches for the first LF
+-- without an LF, no line ends
 pub no_feed : (c : Bool) (bytes : List ℕ) → IsFirstByte (is_byte 10) bytes None → line_end_after c bytes ≡ None
-no_feed c bytes none = line_end_none c bytes (λ k low. none k (omega arith) low)
+no_feed c [] none = refl
+no_feed c (b ∷ bytes) none =
+    let later = no_feed (b == 13) bytes (λ k low high. none (suc k) (omega arith) (omega arith)) in
+    grind (arith, nat_tests, none 0, and-false)
 
+-- the first LF ends a command line if it follows a CR; otherwise the search continues after it
 pub feed_at : (c : Bool) (bytes : List ℕ) (k : ℕ) → IsFirstByte (is_byte 10) bytes (Some k)
     → line_end_after c bytes ≡ (if last_is_cr c (take k bytes) then Some (k + 1) else later_by (k + 1)
     (line_end_after false (drop (k + 1) bytes)))
-feed_at c bytes k found = rw add-one (line_end_at c bytes k found.0.high found.1 (λ j less. found.0.before j (omega arith) less))
+feed_at c [] k found = absurd (omega (arith, found.0.high))
+feed_at c (b ∷ bytes) zero found = grind (arith, common_steps, nat_tests, and-true)
+feed_at c (b ∷ bytes) (suc k) found =
+    let not_here : (b == 10) ≡ false = grind (arith, nat_tests, found.0.before 0) in
+    let later = feed_at (b == 13) bytes k (
+      record {
+        low = omega arith;
+        high = omega (arith, found.0.high);
+        before = λ j low high. found.0.before (suc j) (omega arith) (omega arith);
+      },
+      found.1,
+    ) in
+    rw (not_here, and-false c, later, add-one (suc k), add-one k)
+    (one_more (last_is_cr (b == 13) (take k bytes)) k (line_end_after false (drop (suc k) bytes)))
 
 pub last_is_cr_last : (c : Bool) (bytes : List ℕ) → 0 < length bytes → last_is_cr c bytes ≡ (get_or bytes (length bytes - 1) 0 == 13)
 last_is_cr_last c [] some = absurd (omega arith)
-last_is_cr_last c (b ∷ []) some = refl
-last_is_cr_last c (b ∷ d ∷ bytes) some = grind (arith, common_steps, last_is_cr_last (b == 13) (d ∷ bytes) (omega arith))
+last_is_cr_last c (b ∷ bytes) some = grind (arith, common_steps, last_is_cr_last (b == 13) bytes)
 
 no_end_cases : (t : Bool) (o : Option ℕ) → (if t then Some 1 else option_map suc o) ≡ None → (t ≡ false) × (o ≡ None)
 no_end_cases t o h = grind (arith, common_steps, cases_Bool)
@@ -63,8 +58,7 @@ line_end_within c (b ∷ bytes) e h =
 -- a command line that ends with the first byte follows a CR
 pub line_end_one : (c : Bool) (bytes : List ℕ) → line_end_after c bytes ≡ Some 1 → c ≡ true
 line_end_one c [] h = cc
-line_end_one true (b ∷ bytes) h = refl
-line_end_one false (b ∷ bytes) h = grind (arith, common_steps, line_end_within)
+line_end_one c (b ∷ bytes) h = grind (arith, common_steps, cases_Bool, line_end_within)
 
 -- the bytes up to a command line's end have the same line end
 pub line_end-take : (c : Bool) (bytes : List ℕ) (e : ℕ) → line_end_after c bytes ≡ Some e → line_end_after c (take e bytes) ≡ Some e
@@ -81,10 +75,8 @@ later_by-suc n o = grind (arith, common_steps)
 -- if no line ends in a first part, it ends in the second or nowhere
 pub line_end-append : (c : Bool) (text more : List ℕ) → line_end_after c text ≡ None
     → line_end_after c (text ++ more) ≡ later_by (length text) (line_end_after (last_is_cr c text) more)
-line_end-append c [] more h = later_by-zero (line_end_after c more)
-line_end-append c (b ∷ text) more h =
-    let no = no_end_cases (c && b == 10) (line_end_after (b == 13) text) h in
-    rw (no.0, line_end-append (b == 13) text more no.1) (later_by-suc (length text) (line_end_after (last_is_cr (b == 13) text) more))
+line_end-append c [] more h = grind (arith, common_steps)
+line_end-append c (b ∷ text) more h = grind (arith, common_steps, line_end-append (b == 13) text more)
 
 pub last_is_cr_append : (c : Bool) (text more : List ℕ) → last_is_cr c (text ++ more) ≡ last_is_cr (last_is_cr c text) more
 last_is_cr_append c [] more = refl
@@ -110,30 +102,21 @@ first_line_of (a ∷ bytes) = grind (arith, first_line_at)
 
 -- a text without a first line has no line end
 pub no_line_end : (text : List ℕ) → first_line text ≡ None → line_end_after false text ≡ None
-no_line_end text none = let is = first_line_of text in grind (arith, common_steps)
+no_line_end text none = grind (arith, common_steps, first_line_of text)
 
 -- no line ends in the text, nor in the bytes after it
 pub goes_on : (text piece : List ℕ) → first_line text ≡ None → line_end_after (last_is_cr false text) piece ≡ None
     → first_line (text ++ piece) ≡ None
-goes_on text piece none more = rw (first_line_of (text ++ piece), line_end-append false text piece (no_line_end text none), more)
+goes_on text piece none more = grind (arith, first_line_of, line_end-append, no_line_end)
 
 -- the line that ends in the bytes after the text
 pub ends_there : (text piece : List ℕ) (e : ℕ) → first_line text ≡ None → line_end_after (last_is_cr false text) piece ≡ Some e
     → first_line (text ++ take e piece) ≡ Some (take (length (text ++ take (e - 1) piece) - 1) (text ++ take (e - 1) piece), [])
 ends_there text piece e none here =
     let within = line_end_within (last_is_cr false text) piece e here in
-    let taken : line_end_after (last_is_cr false text) (take e piece) ≡ Some e = line_end-take (last_is_cr false text) piece e here in
-    let whole : line_end_after false (text ++ take e piece) ≡ Some (length text + e) =
-    rw (line_end-append false text (take e piece) (no_line_end text none), taken) in
-    let first : first_line (text ++ take e piece)
-    ≡ Some (take (length text + e - 2) (text ++ take e piece), drop (length text + e) (text ++ take e piece)) =
-    rw whole at (first_line_of (text ++ take e piece)) in
-    rw (first, line_bytes text piece e within.0 within.1, nothing_left text piece e)
-  where
-    nothing_left : (text piece : List ℕ) (e : ℕ) → drop (length text + e) (text ++ take e piece) ≡ []
-    nothing_left text piece e = grind (arith, common_steps, drop-append-add text (take e piece) e)
-
-    line_bytes : (text piece : List ℕ) (e : ℕ) → 0 < e → e ≤ length piece
-        → take (length text + e - 2) (text ++ take e piece) ≡ take (length (text ++ take (e - 1) piece) - 1) (text ++ take (e - 1) piece)
-    line_bytes text piece e some within =
-        grind (arith, take-take, length-take-le, take-append-add text (take e piece) (e - 1), length-append text (take (e - 1) piece))
+    let whole = line_end-append false text (take e piece) (no_line_end text none) in
+    let taken = line_end-take (last_is_cr false text) piece e here in
+    let first = first_line_of (text ++ take e piece) in
+    let before = take-append-add text (take e piece) (e - 1) in
+    let after = drop-append-add text (take e piece) e in
+    grind (arith, common_steps, take-take, length-take-le)

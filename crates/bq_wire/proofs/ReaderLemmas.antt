@@ -1,19 +1,15 @@
 -- What a reader represents as bytes arrive.
-use Rattle.std.proofs.Common.{◌≡◌, ◌<◌, ◌≤◌, ℕ, ◌+◌, ◌-◌, zero, suc, Bool, true, false, List, [], ◌++◌, inl, Option, Some}
-use Rattle.std.proofs.Common.{None, refl, sym, ◌∙◌, arith, length, length-append, append_assoc, take, drop, take-add}
-use Rattle.std.proofs.Common.{take-append-drop, nat_lt, nat_le, if◌then◌else◌}
+use Rattle.std.proofs.Common.{◌≡◌, ◌<◌, ◌≤◌, ℕ, ◌+◌, ◌-◌, Bool, false, List, ◌++◌, Option, Some, []}
+use Rattle.std.proofs.Common.{None, refl, sym, arith, length, length-append, append_assoc, take, drop, take-add}
+use Rattle.std.proofs.Common.{take-append-drop, nat_le}
 use Rattle.std.proofs.lemmas.Grind.{common_steps}
 use Rattle.std.proofs.lemmas.Bool.{Decides.nat_tests}
 use Rattle.std.proofs.lemmas.List.{length-take-le}
-use Rattle.bq_job.specs.reading.Line.{line_end, first_line}
+use Rattle.bq_job.specs.reading.Line.{first_line}
 use Rattle.bq_job.specs.reading.LineRead as line_read
 use Rattle.bq_job.specs.reading.LineRead.{longest_line}
 use Rattle.bq_job.specs.reading.Reading.{IsUnit, IsPutRequest, BeginsNoUnit, is_quit}
-use Rattle.bq_job.specs.beside.ComputedReading.{unit_after}
-use Rattle.bq_job.specs.reading.TubeName.{is_same_name}
 use Rattle.bq_job.specs.declared.request.Request.{Request}
-use Rattle.bq_job.specs.declared.request.Request.TheVariants as requests
-use Rattle.bq_job.specs.declared.refusal.Refusal.TheVariants as refusals
 use Rattle.bq_job.proofs.LineLemmas.{first_line-append}
 use Rattle.bq_job.proofs.UnitLemmas.{no_first_unit}
 use Rattle.bq_wire.specs.Asked.{put_line_of}
@@ -28,21 +24,14 @@ use Rattle.bq_wire.specs.declared.reader.ReaderPlace.TheVariants.{InLine, InLong
 use Rattle.bq_wire.specs.declared.reader.ReaderState.{ReaderState}
 use Rattle.bq_wire.proofs.LineEndLemmas.{goes_on, ends_there, line_end_within, line_end_one, last_is_cr_append}
 
--- a text without a command line does not begin with a unit
-pub no_line_no_unit : (m : ℕ) (text : List ℕ) → first_line text ≡ None → BeginsNoUnit m text
-no_line_no_unit m text none = no_first_unit m text (rw none refl)
-
--- a put whose body isn't complete does not either
-pub begun_no_unit : (m : ℕ) (body : PutBody) (text : List ℕ) → IsPutBegun body text → BeginsNoUnit m text
-begun_no_unit m body text begun = no_first_unit m text (rw (begun.first_line_is, begun.read_is) none)
-  where
-    none : unit_after m (line_read.PutWaits (put_line_of body.put)) begun.after ≡ None
-    none = let short : nat_le (body.put.bytes + 2) (length begun.after) ≡ false = grind (arith, nat_tests, begun.less) in rw short
-
 -- no first part of a text that a reader represents is a unit
 pub Stands-no_unit : (s : ReaderState) (place : ReaderPlace) (text : List ℕ) → StandsAt s place text → BeginsNoUnit s.max_job_size text
-Stands-no_unit s (InBody body) text stands = begun_no_unit s.max_job_size body text stands.1
-Stands-no_unit s place text stands = no_line_no_unit s.max_job_size text (grind (arith, common_steps))
+Stands-no_unit s (InBody body) text stands =
+    let short : nat_le (body.put.bytes + 2) (length stands.1.after) ≡ false = grind (arith, nat_tests, stands.1.less) in
+    no_first_unit s.max_job_size text (rw (stands.1.first_line_is, stands.1.read_is, short) refl)
+Stands-no_unit s place text stands =
+    let none : first_line text ≡ None = grind (arith, common_steps) in
+    no_first_unit s.max_job_size text (rw none refl)
 
 -- Waits, from what the reader represents
 pub waits_by : (s : ReaderState) (text piece : List ℕ) (taken : ℕ) → taken ≡ length piece → Stands s (text ++ piece)
@@ -54,13 +43,7 @@ pub begun_more : (old new : PutBody) (text bytes : List ℕ) → IsPutBegun old 
     → new.taken < new.put.bytes + 2
     → IsPutBegun new (text ++ bytes)
 begun_more old new text bytes begun put takes less =
-    grind (arith, first_line-append text bytes (begun.line, begun.after) begun.first_line_is)
-
--- a put whose bytes have all arrived is a unit, and no quit
-put_unit : (m : ℕ) (put : line_read.PutLine) (text bytes line after : List ℕ) (r : Request) → first_line text ≡ Some (line, after)
-    → line_read.read_line line ≡ line_read.PutWaits put → length (after ++ bytes) ≡ put.bytes + 2 → IsPutRequest m put (after ++ bytes) r
-    → IsUnit m (text ++ bytes) r × (is_quit r ≡ false)
-put_unit m put text bytes line after r first read long is = grind (arith, first_line-append text bytes (line, after) first)
+    grind (arith, first_line-append text bytes (begun.line, begun.after))
 
 -- all of a put arrived
 pub begun_whole : (m : ℕ) (old new : PutBody) (text bytes : List ℕ) (r : Request) → IsPutBegun old text → new.put ≡ old.put
@@ -68,14 +51,11 @@ pub begun_whole : (m : ℕ) (old new : PutBody) (text bytes : List ℕ) (r : Req
     → new.taken ≡ new.put.bytes + 2 → ((after : List ℕ) → IsBodySoFar new after → IsPutRequest m (put_line_of new.put) after r)
     → IsUnit m (text ++ bytes) r × (is_quit r ≡ false)
 begun_whole m old new text bytes r begun put takes whole request =
-    let so_far = takes begun.after begun.so_far in
-    let read : line_read.read_line begun.line ≡ line_read.PutWaits (put_line_of new.put) = rw put begun.read_is in
-    put_unit m (put_line_of new.put) text bytes begun.line begun.after r begun.first_line_is read (sym so_far.taken_is ∙ whole)
-    (request (begun.after ++ bytes) so_far)
+    grind (arith, first_line-append text bytes (begun.line, begun.after) begun.first_line_is, takes begun.after)
 
 -- a command line that is a complete request is a unit
 pub line_unit : (m : ℕ) (text : List ℕ) (r : Request) → IsLineAsking (line_read.Whole r) text → IsUnit m text r
-line_unit m text r line = rw (line.first_line_is, line.read_is) (refl, refl)
+line_unit m text r line = grind arith
 
 -- what was fed after the first bytes of a piece
 pub feeds_behind : (new : ReaderState) (text piece rest : List ℕ) (end taken : ℕ) (r : Option Request) → end ≤ length piece
@@ -89,32 +69,9 @@ pub long_line_read : (text piece : List ℕ) (e : ℕ) → first_line text ≡ N
     → line_end_after (last_is_cr false text) piece ≡ Some e
     → IsLineAsking line_read.bad_format (text ++ take e piece)
 long_line_read text piece e none long here =
-    record { line = but_last (text ++ take (e - 1) piece); first_line_is = ends_there text piece e none here; read_is = read }
-  where
-    within : (0 < e) × (e ≤ length piece)
-    within = line_end_within (last_is_cr false text) piece e here
-
-    length_is : length (text ++ take (e - 1) piece) ≡ length text + (e - 1)
-    length_is = omega (arith, length-append text (take (e - 1) piece), length-take-le (e - 1) piece (omega (arith, within.1)))
-
-    line_length : (t : Bool) → last_is_cr false text ≡ t → longest_line < length text - (if t then 1 else 0)
-        → longest_line < length text + (e - 1) - 1
-    line_length true is long = omega (arith, within.0)
-    line_length false is long = go e refl
-      where
-        go : (n : ℕ) → e ≡ n → longest_line < length text + (e - 1) - 1
-        go zero is_n = absurd (omega (arith, within.0))
-        go (suc zero) is_n = let cr : last_is_cr false text ≡ true = line_end_one (last_is_cr false text) piece (rw is_n at here) in cc
-        go (suc (suc n)) is_n = omega arith
-
-    too_long : nat_lt longest_line (length (but_last (text ++ take (e - 1) piece))) ≡ true
-    too_long =
-        let count : length (but_last (text ++ take (e - 1) piece)) ≡ length text + (e - 1) - 1 =
-        rw (← length_is) (length-take-le (length (text ++ take (e - 1) piece) - 1) (text ++ take (e - 1) piece) (omega arith)) in
-        grind (arith, nat_tests, line_length (last_is_cr false text) refl long)
-
-    read : line_read.read_line (but_last (text ++ take (e - 1) piece)) ≡ line_read.bad_format
-    read = rw too_long
+    let within = line_end_within (last_is_cr false text) piece e here in
+    let ends = ends_there text piece e none here in
+    grind (arith, common_steps, nat_tests, line_end_one, length-append, length-take-le)
 
 abbrev pub in_line : ℕ → List ℕ → ReaderState
 in_line m kept = record { max_job_size = m; kept = kept; place = InLine }
@@ -156,30 +113,9 @@ take_two bytes a b = grind (arith, common_steps, take-add)
 
 -- ---- a put whose body comes with its command line
 
--- the body is small enough
-fits : (size bytes : ℕ) → bytes ≤ size → nat_lt size bytes ≡ false
-fits size bytes low = grind (arith, nat_tests, low)
-
-pub put_good : (put : line_read.PutLine) (body end : List ℕ) (size : ℕ) → length body ≡ put.bytes → put.bytes ≤ size
-    → is_same_name end line_end ≡ true
-    → IsPutRequest size put (body ++ end) (requests.Put put.pri put.delay put.ttr body)
-put_good put body end size len low good = grind (arith, common_steps)
-
-pub put_bad : (put : line_read.PutLine) (body end : List ℕ) (size : ℕ) → length body ≡ put.bytes → put.bytes ≤ size
-    → is_same_name end line_end ≡ false
-    → IsPutRequest size put (body ++ end) (requests.Refused refusals.ExpectedCrlf)
-put_bad put body end size len low bad = grind (arith, common_steps)
-
-pub put_refused : (put : line_read.PutLine) (bytes : List ℕ) (size : ℕ) → put.bytes ≤ size
-    → IsPutRequest size put bytes (requests.Refused refusals.OutOfMemory)
-put_refused put bytes size low = rw (fits size put.bytes low) (inl refl)
-
--- the request of a put, for each end of it
-pub ruleset put_made = (put_good, put_bad, put_refused)
-
 -- the body and the two bytes after it, as the code splits them
 pub two_parts : (piece : List ℕ) (n : ℕ) → take n piece ++ take (n + 2 - n) (drop n piece) ≡ take (n + 2) piece
-two_parts piece n = let two : n + 2 - n ≡ 2 = omega arith in rw two (sym (take-add n 2 piece))
+two_parts piece n = grind (arith, take-add)
 
 -- the request of a put is returned with the end of its body
 pub feeds_put : (state : ReaderState) (put : PutLine) (text piece body end : List ℕ) (q : Request)
@@ -188,8 +124,5 @@ pub feeds_put : (state : ReaderState) (put : PutLine) (text piece body end : Lis
     → ((size : ℕ) → put.bytes ≤ size → IsPutRequest size (put_line_of put) (body ++ end) q)
     → HandsRequest state text piece (put.bytes + 2) q
 feeds_put state put text piece body end q nothing at line within parts low made =
-    let is : IsPutRequest state.max_job_size (put_line_of put) (take (put.bytes + 2) piece) q =
-    rw parts at (made state.max_job_size low) in
-    let whole = put_unit state.max_job_size (put_line_of put) text (take (put.bytes + 2) piece) line.line [] q line.first_line_is
-    line.read_is (length-take-le (put.bytes + 2) piece within) is in
-    grind arith
+    let is = made state.max_job_size low in
+    grind (arith, length-take-le, first_line-append text (take (put.bytes + 2) piece) (line.line, []) line.first_line_is)

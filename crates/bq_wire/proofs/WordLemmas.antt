@@ -1,5 +1,5 @@
 -- The words of a command line, and the numbers that they denote.
-use Rattle.std.proofs.Common.{◌≡◌, ◌<◌, ◌≤◌, ◌==◌, ℕ, ◌^◌, ◌+◌, ◌-◌, true, false, List, [], ◌∷◌, ◌++◌, Option, Some, None}
+use Rattle.std.proofs.Common.{◌≡◌, ◌<◌, ◌≤◌, ℕ, ◌^◌, ◌+◌, ◌-◌, true, List, ◌∷◌, ◌++◌, Option, Some, None, []}
 use Rattle.std.proofs.Common.{refl, arith, length, take, drop, get_or, fold}
 use Rattle.std.proofs.lemmas.Bool.Decides.{nat_tests}
 use Rattle.std.proofs.lemmas.Grind.{common_steps}
@@ -18,16 +18,12 @@ use Rattle.bq_wire.specs.WordsLeft.{is_letter}
 -- without a space, the line is one word
 pub one_word : (line : List ℕ) → list_all is_letter line ≡ true → words line ≡ line ∷ []
 one_word [] all = refl
-one_word (b ∷ line) all =
-    let here : (b == 32) ≡ false = grind (arith, nat_tests, all) in
-    rw (here, one_word line (grind (arith, nat_tests, all)))
+one_word (b ∷ line) all = grind (arith, common_steps, nat_tests, one_word line)
 
 -- the first word ends at the first space
 pub word_then : (word more : List ℕ) → list_all is_letter word ≡ true → words (word ++ 32 ∷ more) ≡ word ∷ words more
 word_then [] more all = refl
-word_then (b ∷ word) more all =
-    let here : (b == 32) ≡ false = grind (arith, nat_tests, all) in
-    rw (here, word_then word more (grind (arith, nat_tests, all)))
+word_then (b ∷ word) more all = grind (arith, common_steps, nat_tests, word_then word more)
 
 -- a digit is no space
 pub digits_are_letters : (word : List ℕ) → list_all is_digit word ≡ true → list_all is_letter word ≡ true
@@ -36,7 +32,7 @@ digits_are_letters word all = grind (arith, list_all_from, all_weaker, all_pass)
 -- one more byte that is no space, or a digit
 pub letters_more : (line : List ℕ) (i : ℕ) → i < length line → list_all is_letter (take i line) ≡ true
     → (get_or line i 0 ≡ 32 → ⊥) → list_all is_letter (take (i + 1) line) ≡ true
-letters_more line i low before here = rw (list_all_more is_letter line i 0 low, before) (grind (arith, nat_tests, here))
+letters_more line i low before here = grind (arith, nat_tests, list_all_more is_letter line i 0)
 
 pub digits_more : (line : List ℕ) (i : ℕ) → i < length line → list_all is_digit (take i line) ≡ true
     → is_digit (get_or line i 0) ≡ true → list_all is_digit (take (i + 1) line) ≡ true
@@ -85,6 +81,4 @@ id_before_space line k n some within more here digits value small = grind (arith
 -- more words remain after the first
 pub not_only : (read : List ℕ → Option ℕ) (old new : List (List ℕ)) (n : ℕ) → IsNext read old new (Some n)
     → ((request : Request) → no_words request new ≡ None) → None ≡ only read old
-not_only read [] new n next none = refl
-not_only read (word ∷ []) new n next none = let e = rw next.0 at (none requests.Quit) in absurd cc
-not_only read (word ∷ other ∷ more) new n next none = refl
+not_only read old new n next none = grind (arith, common_steps, none requests.Quit)

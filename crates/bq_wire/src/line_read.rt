@@ -59,7 +59,7 @@ pub fn read_line(line: &[u8], place: &mut Request) -> LineRead
 }
 
 // What the first word and the words after it request.
-#[tactic(auto, using(crate::proofs::LineReadLemmas::named))]
+#[tactic(auto, using(std::proofs::lemmas::Grind::common_steps))]
 fn read_named(first: &[u8], words: &mut Words, place: &mut Request) -> LineRead
     ensures { asked_by result place.new
         ≡ spec.read_command (command_named first.now) words.old }

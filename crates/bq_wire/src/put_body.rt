@@ -98,6 +98,7 @@ impl PutBody {
     }
 
     /// Takes the bytes that belong to the put, and returns how many.
+    #[tactic(auto, using(crate::proofs::ReaderLemmas::take_two, std::proofs::Common::append_assoc))]
     pub fn take(&mut self, bytes: &[u8]) -> usize
         requires { HasBodyRoom self.old }
         ensures room { HasBodyRoom self.new }

@@ -415,7 +415,7 @@ fn is_at_hand(put: PutLine, max_job_size: u32, piece: &[u8]) -> bool
 
 // Puts the request of a put into `place`, given its body and the two bytes after it. If the allocation
 // for the body fails, the answer is OUT_OF_MEMORY, whatever the bytes are.
-#[tactic(auto, using(crate::proofs::ReaderLemmas::put_made))]
+#[tactic(auto, using(std::proofs::lemmas::Grind::common_steps, std::proofs::lemmas::Bool::Decides::nat_tests))]
 fn whole_put(alloc: Global, put: PutLine, body: &[u8], end: &[u8], place: &mut Request)
     requires { length body.now ≡ put.bytes }
     ensures { (max_job_size : ℕ) → put.bytes ≤ max_job_size

@@ -1,7 +1,6 @@
 use Rattle.bq_wire.proofs.ReaderLemmas.{take_two}
-use Rattle.std.proofs.Common.{◌≤◌, ◌-◌, arith, length, drop, Some, take, append_assoc}
+use Rattle.std.proofs.Common.{arith, append_assoc}
 use Rattle.std.proofs.lemmas.Grind.{common_steps}
-use Rattle.bq_wire.specs.HasRead.{ReadsOn}
 use Rattle.bq_wire.proofs.HasReadLemmas.{read_to_end}
 use Rattle.bq_wire.proofs.reader.feed_all.Goals as goal
 
@@ -14,12 +13,4 @@ returns-in_default-clause-reads c = λ taken read.
     (loop.invariant.reads taken read) fed.ensures.reads (fed.ensures.waits c.in_default.is) (λ e. (fed.ensures.over e).2)
 
 pub loop-request-preserved : goal.loop-request-preserved
-loop-request-preserved c =
-    let loop = c.loop-request in
-    let fed = c.feed-taken in
-    let rest : length (take (length c.args.piece.now - loop.from) (drop loop.from c.args.piece.now)) ≤ length c.args.piece.now - loop.from =
-    grind (arith, common_steps) in
-    let reads : ReadsOn loop.reader fed.new.self (take (length c.args.piece.now - loop.from) (drop loop.from c.args.piece.now)) fed.result.0
-    (Some c.in-Some.request) =
-    rw c.in-Some.is at fed.ensures.reads in
-    grind (arith, common_steps, take_two, append_assoc)
+loop-request-preserved c = grind (arith, common_steps, take_two, append_assoc)

@@ -7,11 +7,8 @@ use Rattle.bq_wire.proofs.reader.feed_body.Goals as goal
 
 pub returns-then-is_whole-clause-feeds : goal.returns-then-is_whole-clause-feeds
 returns-then-is_whole-clause-feeds c = λ text stands.
-    let taken = c.take-taken in
-    let all : taken.new.self.taken ≡ taken.new.self.put.bytes + 2 = grind (arith, nat_tests) in
-    let whole = begun_whole c.args.state.now.max_job_size c.args.body taken.new.self text
-    (take taken.result c.args.piece.now) c.into_request.result
-    stands.1 taken.ensures.put taken.ensures.takes all c.into_request.ensures.request in
+    let taken = c.take-taken.ensures in
+    let whole = begun_whole _ _ _ text _ _ stands.1 taken.put taken.takes (grind (arith, nat_tests)) c.into_request.ensures.request in
     grind arith
 
 pub returns-else-is_whole-clause-feeds : goal.returns-else-is_whole-clause-feeds
