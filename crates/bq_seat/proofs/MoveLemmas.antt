@@ -12,7 +12,7 @@ use Rattle.bq_job.proofs.GivenLemmas.{wanted_append}
 use Rattle.bq_seat.specs.Finds.{Finds}
 use Rattle.bq_seat.specs.Past.{IsOrderly, Past, awaited_by, is_stray, past_after, with_action, with_event}
 use Rattle.bq_seat.specs.Past.{Awaited, answers, first_past}
-use Rattle.bq_seat.specs.SeatMoves.{IsAnswered, IsMove, OpensPast}
+use Rattle.bq_seat.specs.SeatMoves.{IsAnswered, IsMove}
 use Rattle.bq_seat.specs.SeatParts.{IfLineOver, IsStagedMove, OpensLine, GoesOn, ServesAll, between, in_stage, is_asking, reads_on}
 use Rattle.bq_seat.specs.SeatStands.{AgreesWith, IsClosing, StandsInStage, StandsFor, awaited_at, IsOpen, awaited}
 use Rattle.bq_seat.specs.Served.{IsServed}
@@ -32,9 +32,7 @@ use Rattle.bq_seat.proofs.OpenLemmas.{answered, opened, served_now, still_closin
 
 -- a connection that is being closed lacks one answer at most
 few_at_close : (end : LineEnd) (p : Past) {size : ℕ} → IsClosing size end p → wanted p.steps ≤ length p.mail + 1
-few_at_close end p h =
-    let served = h.served [] in
-    grind (arith, wanted_append)
+few_at_close end p h = grind (arith, wanted_append, h.served [])
 
 -- The past with the event justifies the action, in the stage after it.
 found : (size : ℕ) (stage : Stage) (action : Action) (reader : ReaderState) (kept : List ℕ) (told : Bool) (q : Past)
@@ -58,15 +56,8 @@ found size _ _ reader kept told q e h over = absurd cc
 
 -- ---- pasts stay orderly
 
-orderly_with_event : (event : Event) (p : Past) → IsOrderly p → IsOrderly (with_event event p)
-orderly_with_event event p o = grind (arith, common_steps)
-
 orderly_after : (event : Event) (action : Action) (p : Past) → IsOrderly p → IsOrderly (past_after event action p)
-orderly_after event action p o = grind (arith, common_steps, orderly_with_event)
-
-opens_past : (event : Event) (action : Action) (new : SeatMachine) → OpensLine event action new → OpensPast event action new
-unfolding StandsFor
-opens_past event action new h3 = grind arith
+orderly_after event action p o = grind (arith, common_steps)
 
 over_at : (old : SeatMachine) (event : Event) (action : Action) (p : Past) → AgreesWith old p
     → IfLineOver action (λ end. (q : Past) → AgreesWith old q → (written : List ℕ)
@@ -83,11 +74,9 @@ is_move old event action new m = record {
   unchanged = m.unchanged;
   awaits = m.awaits;
   limit = m.limit;
-  opened = opens_past event action new m.opened;
+  opened = let h = m.opened in grind arith;
   past = λ p h. (m.past p h.0, orderly_after event action p h.1);
-  finds = λ e p h. found old.reader.max_job_size new.stage action new.reader new.kept new.end_told (with_event event p) (m.awaits e)
-      (subst (λ b. AgreesWith new (if b then p else with_action action (with_event event p))) e (m.past p h.0))
-      (over_at old event action p h.0 m.over);
+  finds = λ e p h. let past = m.past p h.0 in let over = over_at old event action p h.0 m.over in grind (arith, found);
   looks = λ e p h. m.looks e p h.0;
 }
 
@@ -144,7 +133,7 @@ goes_on {event = event} {action = action} mid at answered opened same begins loo
 
 -- the machine itself, in the stage that it is in
 pub stays : {m new : SeatMachine} {s : Stage} → m.stage ≡ s → new ≡ m → new ≡ in_stage s m
-stays {m} at is = is ∙ ap (λ s. in_stage s m) at
+stays {m} {new} at is = grind arith
 
 -- No answer has come. The connection is read if a reserve waits.
 pub nothing_in_polling : (m new : SeatMachine) (action : Action) (waits : Bool) → m.stage ≡ stages.Polling waits

@@ -1,6 +1,6 @@
 -- What the steps and the mail of a connection imply for the machine's next action.
 use Rattle.std.proofs.Common.{◌≡◌, ℕ, ◌+◌, ◌<◌, Bool, true, false, ◌&&◌, ◌==◌, not, List, [], ◌∷◌, ◌++◌, Some, map, length, refl, sym, ap}
-use Rattle.std.proofs.Common.{◌∙◌, arith, subst}
+use Rattle.std.proofs.Common.{◌∙◌, arith}
 use Rattle.std.proofs.lemmas.Bool.{Decides.nat_tests}
 use Rattle.std.proofs.lemmas.Grind.{common_steps}
 use Rattle.bq_job.specs.declared.request.Request.{Request}
@@ -10,10 +10,9 @@ use Rattle.bq_job.specs.promise.LineSteps.{wanted}
 use Rattle.bq_job.specs.declared.line_end.LineEnd.{LineEnd}
 use Rattle.bq_job.specs.declared.step.Step.TheVariants as steps
 use Rattle.bq_wire.specs.declared.reader.ReaderState.{ReaderState}
-use Rattle.bq_seat.specs.NextByPast.{GoesFurther, IsNextAfterStep, asked_in, is_read_on, is_unanswered, last_step}
+use Rattle.bq_seat.specs.NextByPast.{IsNextAfterStep, asked_in, is_read_on, is_unanswered, last_step}
 use Rattle.bq_seat.specs.Past.{Past}
 use Rattle.bq_seat.specs.SeatStands.{HasAskedQuit, IsClosing, IsOpen, IsWaiting, end_if, has_quit, StandsFor}
-use Rattle.bq_seat.specs.declared.machine.Action.{Action}
 use Rattle.bq_seat.specs.Outstanding.{ReadsWith}
 use Rattle.bq_seat.specs.declared.machine.SeatMachine.{SeatMachine}
 use Rattle.bq_seat.specs.declared.machine.Action.TheVariants as actions
@@ -25,11 +24,6 @@ last_step-append : (taken : List Step) (step : Step) → last_step (taken ++ ste
 last_step-append [] step = refl
 last_step-append (a ∷ []) step = refl
 last_step-append (a ∷ b ∷ taken) step = last_step-append (b ∷ taken) step
-
--- after the connect
-pub behind_connect : (p : Past) (action : Action) → p.steps ≡ steps.Connect ∷ [] → GoesFurther action
-    → IsNextAfterStep (last_step p.steps) action
-behind_connect p action is g = rw is g
 
 -- after a quit
 pub behind_quit : (p : Past) → HasAskedQuit p → IsNextAfterStep (last_step p.steps) (actions.Submit steps.Close)
@@ -43,10 +37,9 @@ behind_asked : (asked : List Request) (taken : List Step) → taken ≡ steps.Co
 behind_asked [] taken is some none = absurd (omega arith)
 behind_asked (r ∷ asked) taken is some none =
     let ends = ends_by r asked in
-    let last = ap last_step (is ∙ ap (λ xs. steps.Connect ∷ xs) ends.steps_are)
-    ∙ last_step-append (steps.Connect ∷ map steps.Ask ends.before) (steps.Ask ends.last) in
-    subst (λ s. IsNextAfterStep s actions.PollMail) (sym last)
-    (no_quit_behind ends.last (has_quit-last ends.before ends.last (ap has_quit (sym ends.is) ∙ none)).1)
+    let last = last_step-append (steps.Connect ∷ map steps.Ask ends.before) (steps.Ask ends.last) in
+    let quit = has_quit-last ends.before ends.last (ap has_quit (sym ends.is) ∙ none) in
+    grind (arith, common_steps)
 
 module _ {r : ReaderState} {kept : List ℕ} {told : Bool} {p : Past} (o : IsOpen r kept told 1 p) where
   -- after a request that wants an answer
@@ -59,9 +52,7 @@ module _ {r : ReaderState} {kept : List ℕ} {told : Bool} {p : Past} (o : IsOpe
 
 -- after the close
 pub behind_close : (size : ℕ) (end : LineEnd) (p : Past) → IsClosing size end p → IsNextAfterStep (last_step p.steps) actions.PollMail
-behind_close size end p c =
-    let line = (c.served []).line in
-    grind (arith, last_step-append)
+behind_close size end p c = grind (arith, last_step-append, c.served [])
 
 pub wanted_open : {r : ReaderState} {kept : List ℕ} {told : Bool} {out : ℕ} {p : Past} → IsOpen r kept told out p
     → wanted p.steps ≡ length p.mail + out
@@ -76,9 +67,8 @@ pub one_unanswered : {r : ReaderState} {kept : List ℕ} {told : Bool} {p : Past
 one_unanswered o = let w = wanted_open o in grind (arith, nat_tests)
 
 asked_in-ends : (asked : List Request) (told : Bool) → asked_in (map steps.Ask asked ++ end_if told) ≡ asked
-asked_in-ends [] true = refl
-asked_in-ends [] false = refl
-asked_in-ends (r ∷ asked) told = ap (λ rs. r ∷ rs) (asked_in-ends asked told)
+asked_in-ends [] told = grind (arith, common_steps)
+asked_in-ends (r ∷ asked) told = grind (arith, asked_in-ends asked told)
 
 -- whether the connection is read while an answer is outstanding
 pub read_on_is : {r : ReaderState} {told waits : Bool} {p : Past} (kept : List ℕ) → IsWaiting r kept told waits p

@@ -9,7 +9,7 @@ use Rattle.bq_job.specs.declared.answer.Answer.{Answer}
 use Rattle.bq_job.specs.declared.line_end.LineEnd.{LineEnd}
 use Rattle.bq_job.specs.declared.line_end.LineFault.{LineFault}
 use Rattle.bq_job.specs.declared.request.Request.{Request}
-use Rattle.bq_job.specs.reading.Reading.{Reads, AreUnits, IsUnit, is_quit}
+use Rattle.bq_job.specs.reading.Reading.{Reads, IsUnit, is_quit}
 use Rattle.bq_job.specs.promise.LineSteps.{AreAllAnswered, IsOverBy, MayTellEnd, answered_count, is_waiting_request, ends_by_wait}
 use Rattle.bq_job.specs.machine.OneClient.{has_closed, is_closed_answer}
 use Rattle.bq_job.specs.declared.line_end.LineEnd.TheVariants as ends
@@ -18,9 +18,9 @@ use Rattle.bq_job.specs.declared.request.Request.TheVariants as requests
 use Rattle.bq_job.specs.declared.step.Step.TheVariants as steps
 use Rattle.bq_job.proofs.ReadsLemmas.{Reads-quit}
 use Rattle.bq_job.proofs.UnitsLemmas.{AreUnits-append, ends_by_quit-append}
-use Rattle.bq_seat.specs.Past.{Past, with_action, with_mail, with_fault, first_past, Awaited}
+use Rattle.bq_seat.specs.Past.{Past, with_action, with_mail, with_fault, first_past}
 use Rattle.bq_seat.specs.Served.{IsFaultOf, IsLastBroken, IsServed, IsServedToClose}
-use Rattle.bq_seat.specs.SeatStands.{IsClosing, IsOpen, IsWaiting, StandsInStage, end_if, awaited_at}
+use Rattle.bq_seat.specs.SeatStands.{IsClosing, IsOpen, IsWaiting, StandsInStage, end_if}
 use Rattle.bq_wire.specs.Standing.{Stands, Waits, HandsRequest}
 use Rattle.bq_wire.specs.declared.reader.ReaderState.{ReaderState}
 use Rattle.bq_seat.specs.SeatParts.{AsksOrReads, GoesOn, IsTaken, asking_stage, holding, in_stage}
@@ -34,22 +34,12 @@ use Rattle.bq_seat.proofs.StepLemmas.{ends_by_wait-asked, no_quit_last, some_ask
 
 -- a connection is opened
 pub opened : (r : ReaderState) → Stands r [] → StandsInStage stages.Connecting r [] false first_past
-opened r h = (
-  record {
-    asked = [];
-    read = record { units = []; begun = []; stands = h; no_unit = BeginsNoUnit-[] r.max_job_size; are_units = refl; bytes_are = refl };
-    stepped = search rules;
-    handed = search rules;
-  },
-  refl,
-  refl,
-)
+opened r h = search (rules, BeginsNoUnit-[])
 
 -- bytes come while none are kept
 pub handed_in : {r : ReaderState} {kept : List ℕ} {told : Bool} {out : ℕ} {p : Past} (more : List ℕ) → IsOpen r kept told out p
     → kept ≡ [] → told ≡ false → IsOpen r more told out (record p { bytes = p.bytes ++ more })
-handed_in more o none untold =
-    record { asked = o.asked; read = grind (arith, common_steps); stepped = grind (arith, common_steps); handed = o.handed }
+handed_in more o none untold = grind (arith, common_steps)
 
 pub handed_in_waiting : {r : ReaderState} {kept : List ℕ} {told waits : Bool} {p : Past} (more : List ℕ) → IsWaiting r kept told waits p
     → kept ≡ [] → told ≡ false → IsWaiting r more told waits (record p { bytes = p.bytes ++ more })
@@ -64,16 +54,13 @@ waited r next kept n p o same waits = grind (arith, common_steps)
 -- A reader that has taken a whole request. The end of the input was not submitted.
 module _ (r next : ReaderState) (kept : List ℕ) (n : ℕ) (q : Request) (p : Past) (o : IsOpen r kept false 0 p)
     (same : next.max_job_size ≡ r.max_job_size) (unit : IsUnit next.max_job_size (o.read.begun ++ take n kept) q) where
-  units_before : AreUnits next.max_job_size o.read.units o.asked
-  units_before = subst (λ size. AreUnits size o.read.units o.asked) (sym same) o.read.are_units
-
   -- the bytes that were read, up to the end of the request
   split_bytes : p.bytes ≡ (o.read.units ++ (o.read.begun ++ take n kept)) ++ drop n kept
   split_bytes = grind (arith, common_steps)
 
   -- the steps, with the request
   asked_steps : p.steps ++ steps.Ask q ∷ [] ≡ steps.Connect ∷ map steps.Ask (o.asked ++ q ∷ [])
-  asked_steps = grind (arith, common_steps, map-append steps.Ask o.asked (q ∷ []))
+  asked_steps = grind (arith, common_steps, map-append)
 
   -- The request is submitted.
   pub asks : Stands next [] → is_quit q ≡ false
@@ -86,7 +73,7 @@ module _ (r next : ReaderState) (kept : List ℕ) (n : ℕ) (q : Request) (p : P
         begun = [];
         stands = h;
         no_unit = BeginsNoUnit-[] next.max_job_size;
-        are_units = AreUnits-append next.max_job_size o.asked o.read.units (o.read.begun ++ take n kept) q units_before unit;
+        are_units = AreUnits-append next.max_job_size o.asked o.read.units (o.read.begun ++ take n kept) q (rw same o.read.are_units) unit;
         bytes_are = split_bytes;
       };
       stepped = grind (arith, common_steps, asked_steps);
@@ -101,7 +88,6 @@ pub quits : (r next : ReaderState) (kept : List ℕ) (n : ℕ) (p : Past) (o : I
     → StandsInStage stages.AskingQuit next (drop n kept) false (with_action (actions.Submit (steps.Ask requests.Quit)) p)
 quits r next kept n p o same unit =
     let text : List ℕ = o.read.begun ++ take n kept in
-    let before = units_before r next kept n requests.Quit p o same unit in
     let bytes_are = split_bytes r next kept n requests.Quit p o same unit ∙ append_assoc o.read.units text (drop n kept) in
     let asked = asked_steps r next kept n requests.Quit p o same unit in (
       rw o.stepped.closing_is refl,
@@ -113,7 +99,7 @@ quits r next kept n p o same unit =
             asked = o.asked ++ requests.Quit ∷ [];
             end_steps = [];
             reads = Reads-after next.max_job_size p.bytes o.read.units (text ++ drop n kept) (drop n kept) o.asked (requests.Quit ∷ [])
-                bytes_are before o.stepped.no_quit
+                bytes_are (rw same o.read.are_units) o.stepped.no_quit
                 (Reads-quit next.max_job_size (text ++ drop n kept) text (drop n kept) requests.Quit refl unit refl);
             is_over = (refl, ends_by_quit-append o.asked requests.Quit);
             ends = inl refl;
@@ -162,11 +148,10 @@ module _ {r : ReaderState} {kept : List ℕ} {told : Bool} {out : ℕ} {p : Past
 module _ {r : ReaderState} {kept : List ℕ} {told : Bool} {out : ℕ} {p : Past} (o : IsOpen r kept told out p) where
   -- If no bytes are kept, every request was submitted.
   all_read : kept ≡ [] → Reads r.max_job_size p.bytes o.asked o.read.begun
-  all_read none = Reads-begun r.max_job_size p.bytes o.read.units o.read.begun o.asked (grind (arith, common_steps))
-      o.read.are_units o.stepped.no_quit o.read.no_unit
+  all_read none = grind (arith, common_steps, Reads-begun)
 
   all_answered : out ≡ 0 → length p.mail ≡ answered_count o.asked
-  all_answered none = omega (arith, o.handed.answered, answered_count-asked o.asked o.stepped.no_quit)
+  all_answered none = grind (arith, answered_count-asked)
 
   -- A connection is closed at the end of its input,
   pub ends_line : (ended : Bool) → out ≡ 0 → kept ≡ [] → ended ≡ true
@@ -174,14 +159,10 @@ module _ {r : ReaderState} {kept : List ℕ} {told : Bool} {out : ℕ} {p : Past
   ends_line ended all none e = closes o ended p.fault p.written_at_fault ends.EndOfInput o.asked o.read.begun (all_read none)
       (refl, no_quit_last o.asked o.stepped.no_quit, e) (all_answered all) tt o.handed.fault_is (λ t. e)
 
-  -- the first fault of a past without one
-  first_fault : (fault : LineFault) → with_fault fault p ≡ record p { fault = Some fault; written_at_fault = length p.written }
-  first_fault fault = rw o.handed.fault_is refl
-
   -- after a read fault,
   pub read_fails : kept ≡ [] → ((out ≡ 0) ⊎ ((out ≡ 1) × (ends_by_wait o.asked ≡ true)))
       → IsClosing r.max_job_size ends.ReadFault (with_action (actions.Submit steps.Close) (with_fault faults.Read p))
-  read_fails none answers = rw (first_fault faults.Read) (closes o p.ended (Some faults.Read) (length p.written) ends.ReadFault o.asked
+  read_fails none answers = rw o.handed.fault_is (closes o p.ended (Some faults.Read) (length p.written) ends.ReadFault o.asked
       o.read.begun (all_read none) (refl, no_quit_last o.asked o.stepped.no_quit, refl)
       (elim answers [
         | inl e ↦ inl (all_answered e)
@@ -196,7 +177,7 @@ module _ {r : ReaderState} {kept : List ℕ} {told : Bool} {out : ℕ} {p : Past
   write_fails all some_written readings =
       let more = readings (o.read.begun ++ kept) in
       let some : 0 < length o.asked = omega (arith, all, o.handed.answered, ap length o.handed.written_is) in
-      rw (first_fault faults.Write) (closes o p.ended (Some faults.Write) (length p.written) ends.WriteFault (o.asked ++ more.0) more.1
+      rw o.handed.fault_is (closes o p.ended (Some faults.Write) (length p.written) ends.WriteFault (o.asked ++ more.0) more.1
       (Reads-after r.max_job_size p.bytes o.read.units (o.read.begun ++ kept) more.1 o.asked more.0 o.read.bytes_are o.read.are_units
       o.stepped.no_quit more.2)
       (more.0, refl, some_asked o.asked some, no_quit_last o.asked o.stepped.no_quit, refl) (all_answered all) refl refl
@@ -256,12 +237,11 @@ goes_told m new action kept told does is = rw (does, is) (record {
 asking : (m : SeatMachine) (bytes : List ℕ) (next : ReaderState) (n : ℕ) (q : Request) → next.max_job_size ≡ m.reader.max_job_size
     → ((text : List ℕ) → Stands m.reader text → HandsRequest next text bytes n q) → (p : Past) → IsOpen m.reader bytes false 0 p
     → StandsInStage (asking_stage q) next (drop n bytes) false (with_action (actions.Submit (steps.Ask q)) p)
-asking m bytes next n requests.Quit same fed p o = quits m.reader next bytes n p o same (fed o.read.begun o.read.stands).unit
-asking m bytes next n q same fed p o = let out = fed o.read.begun o.read.stands in
-    (asks m.reader next bytes n q p o same out.unit out.next refl, refl)
-
-submits : (q : Request) → Some Awaited.ASubmission ≡ Some (awaited_at (asking_stage q))
-submits q = grind (arith, common_steps)
+asking m bytes next n q same fed p o =
+    let out = fed o.read.begun o.read.stands in
+    let quit = quits m.reader next bytes n p o same in
+    let ask = asks m.reader next bytes n q p o same out.unit in
+    grind (arith, common_steps)
 
 -- The reader has taken these bytes. Its request is submitted if there is one; otherwise the connection is read.
 pub goes_taken : (m new : SeatMachine) (bytes : List ℕ) (next : ReaderState) (taken : Taken) (kept : List ℕ) (q : Request) (action : Action)
@@ -273,7 +253,7 @@ goes_taken m new bytes next taken kept q action untold kept_is t further = go ta
         → GoesOn (holding bytes m) action new
     go true e f = rw (f.0, f.1) (record {
       further = tt;
-      awaits = submits q;
+      awaits = grind (arith, common_steps);
       limit = t.limit;
       past = λ p o. rw (kept_is, untold)
           (asking m bytes next taken.count q t.limit (rw e at t.hands_out) p (subst (λ t. IsOpen m.reader bytes t 0 p) untold o));

@@ -1,10 +1,9 @@
 -- The steps of a connection, as requests are submitted one after another.
 use Rattle.std.proofs.Common.{◌≡◌, ◌≢◌, ◌+◌, ◌<◌, false, List, [], ◌∷◌, ◌++◌, refl, ap, ◌∙◌, map, length, arith, not, IsTrue, ◌==◌, ℕ}
-use Rattle.std.proofs.Common.{true, inr, append_assoc, append-nil, subst, sym, ◌⊎◌, ◌≤◌}
+use Rattle.std.proofs.Common.{true, inr, append_assoc, append-nil, sym, ◌⊎◌, ◌≤◌}
 use Rattle.std.proofs.lemmas.Bool.{or_parts}
 use Rattle.std.proofs.lemmas.Grind.{common_steps}
 use Rattle.std.proofs.lemmas.List.Folds.{list_any-append}
-use Rattle.std.proofs.lemmas.List.{length-append}
 use Rattle.bq_job.specs.reading.Reading.{is_quit, ends_by_quit, Reads, AreUnits, BeginsNoUnit}
 use Rattle.bq_job.specs.promise.LineSteps.{answered_count, is_waiting_request, ends_by_wait}
 use Rattle.bq_job.specs.declared.request.Request.{Request}
@@ -17,34 +16,24 @@ use Rattle.bq_seat.specs.SeatStands.{has_quit, HasAskedQuit}
 use Rattle.bq_seat.specs.InTurn.{IsInTurn}
 use Rattle.bq_seat.specs.Past.{Past}
 
-answered_count-one : (r : Request) (asked : List Request) → is_quit r ≡ false → answered_count (r ∷ asked) ≡ answered_count asked + 1
-answered_count-one r asked q = grind (arith, common_steps)
-
 -- each of these requests is answered
 pub answered_count-asked : (asked : List Request) → has_quit asked ≡ false → answered_count asked ≡ length asked
 answered_count-asked [] q = refl
-answered_count-asked (r ∷ asked) q =
-    let both = or_parts (is_quit r) (has_quit asked) q in
-    omega (arith, answered_count-one r asked both.0, answered_count-asked asked both.1)
+answered_count-asked (r ∷ asked) q = grind (arith, common_steps, answered_count-asked asked)
 
 -- and so are those before a quit
 pub answered_count-quit : (asked : List Request) → has_quit asked ≡ false → answered_count (asked ++ requests.Quit ∷ []) ≡ length asked
 answered_count-quit [] q = refl
-answered_count-quit (r ∷ asked) q =
-    let both = or_parts (is_quit r) (has_quit asked) q in
-    omega (arith, answered_count-one r (asked ++ requests.Quit ∷ []) both.0, answered_count-quit asked both.1)
+answered_count-quit (r ∷ asked) q = grind (arith, common_steps, answered_count-quit asked)
 
 pub no_quit_last : (asked : List Request) → has_quit asked ≡ false → IsTrue (not (ends_by_quit asked))
 no_quit_last [] q = refl
-no_quit_last (r ∷ []) q = let both = or_parts (is_quit r) false q in rw both.0 refl
-no_quit_last (r ∷ s ∷ asked) q = let both = or_parts (is_quit r) (has_quit (s ∷ asked)) q in no_quit_last (s ∷ asked) both.1
-
-ends_by_wait-cons : (asked : List Request) (q r : Request) → ends_by_wait (r ∷ (asked ++ q ∷ [])) ≡ ends_by_wait (asked ++ q ∷ [])
-ends_by_wait-cons asked q r = grind (arith, common_steps)
+no_quit_last (r ∷ []) q = grind (arith, common_steps)
+no_quit_last (r ∷ s ∷ asked) q = grind (arith, common_steps, no_quit_last (s ∷ asked))
 
 pub ends_by_wait-asked : (asked : List Request) (q : Request) → ends_by_wait (asked ++ q ∷ []) ≡ is_waiting_request q
 ends_by_wait-asked [] q = refl
-ends_by_wait-asked (r ∷ asked) q = ends_by_wait-cons asked q r ∙ ends_by_wait-asked asked q
+ends_by_wait-asked (r ∷ asked) q = grind (arith, common_steps, ends_by_wait-asked asked q)
 
 pub has_quit-last : (asked : List Request) (q : Request) → has_quit (asked ++ q ∷ []) ≡ false
     → (has_quit asked ≡ false) × (is_quit q ≡ false)
@@ -77,16 +66,15 @@ Reads-after size text units after rest (r ∷ asked) next is u q more =
 pub Reads-begun : (size : ℕ) (text units begun : List ℕ) (asked : List Request)
     → text ≡ units ++ begun → AreUnits size units asked → has_quit asked ≡ false → BeginsNoUnit size begun → Reads size text asked begun
 Reads-begun size text units begun asked is u q none =
-    subst (λ rs. Reads size text rs begun) (append-nil asked) (Reads-after size text units begun begun asked [] is u q
+    rw append-nil at (Reads-after size text units begun begun asked [] is u q
     (record { units = []; text_is = refl; are_units = refl; last_quits = refl; ended = inr none }))
 
 -- ---- each step is submitted in its turn
 
 -- lists with a last element
 pub last_same : {A : Type 0} (xs ys : List A) (x y : A) → xs ++ x ∷ [] ≡ ys ++ y ∷ [] → (xs ≡ ys) × (x ≡ y)
-last_same [] [] x y e = (refl, cc)
-last_same [] (b ∷ ys) x y e = absurd (omega (arith, ap length e, length-append ys (y ∷ [])))
-last_same (a ∷ xs) [] x y e = absurd (omega (arith, ap length e, length-append xs (x ∷ [])))
+last_same [] ys x y e = grind (arith, common_steps)
+last_same (a ∷ xs) [] x y e = grind (arith, common_steps)
 last_same (a ∷ xs) (b ∷ ys) x y e = grind (arith, common_steps)
 
 -- the submitted requests, without the last one
@@ -98,19 +86,10 @@ pub record EndsBy (asked : List Request) : Type 0 where
 
 pub ends_by : (r : Request) (asked : List Request) → EndsBy (r ∷ asked)
 ends_by r [] = record { before = []; last = r; is = refl; steps_are = refl }
-ends_by r (s ∷ asked) = let more = ends_by s asked in record {
-  before = r ∷ more.before;
-  last = more.last;
-  is = ap (λ xs. r ∷ xs) more.is;
-  steps_are = ap (λ xs. steps.Ask r ∷ xs) more.steps_are;
-}
-
-in_place : {step other : Step} (taken : List Step) (mail : List Answer) → step ≡ other → IsInTurn other taken mail
-    → IsInTurn step taken mail
-in_place taken mail e h = subst (λ s. IsInTurn s taken mail) (sym e) h
+ends_by r (s ∷ asked) = let more = ends_by s asked in record { before = r ∷ more.before; last = more.last; is = cc; steps_are = cc }
 
 pub connects : (taken : List Step) (mail : List Answer) (step : Step) → taken ++ step ∷ [] ≡ steps.Connect ∷ [] → IsInTurn step taken mail
-connects taken mail step e = let last = last_same taken [] step steps.Connect e in in_place taken mail last.1 last.0
+connects taken mail step e = grind (arith, common_steps)
 
 pub asks_at : (asked : List Request) (taken : List Step) (mail : List Answer) (step : Step)
     → taken ++ step ∷ [] ≡ steps.Connect ∷ map steps.Ask asked → length mail + 1 ≡ length asked → has_quit asked ≡ false
@@ -127,18 +106,16 @@ pub tells_at : (asked : List Request) (taken : List Step) (mail : List Answer) (
     → taken ++ step ∷ [] ≡ (steps.Connect ∷ map steps.Ask asked) ++ steps.End ∷ [] → has_quit asked ≡ false → length mail + 1 ≡ length asked
     → IsInTurn step taken mail
 tells_at asked taken mail step e none count =
-    let last = last_same taken (steps.Connect ∷ map steps.Ask asked) step steps.End e in
-    grind (arith, answered_count-asked)
+    grind (arith, answered_count-asked, last_same taken (steps.Connect ∷ map steps.Ask asked) step steps.End e)
 
 pub quits_at : (taken : List Step) (mail : List Answer) (step : Step) {p : Past} → HasAskedQuit p → p.steps ≡ taken ++ step ∷ []
     → p.mail ≡ mail → IsInTurn step taken mail
 quits_at taken mail step q are same =
     let last = last_same taken (steps.Connect ∷ map steps.Ask q.asked) step (steps.Ask requests.Quit) (sym are ∙ q.steps_are) in
-    in_place taken mail last.1 (q.asked, record { steps_are = last.0; no_quit = q.no_quit }, ap length (sym same) ∙ q.answered)
+    grind arith
 
 pub closes_at : (asked : List Request) (told : List Step) (taken : List Step) (mail : List Answer) (step : Step)
     → taken ++ step ∷ [] ≡ steps.Connect ∷ [] ++ map steps.Ask asked ++ told ++ steps.Close ∷ [] → (told ≡ []) ⊎ (told ≡ steps.End ∷ [])
     → answered_count asked ≤ length mail + 1 → IsInTurn step taken mail
 closes_at asked told taken mail step e ends count =
-    let last = last_same taken ((steps.Connect ∷ map steps.Ask asked) ++ told) step steps.Close e in
-    grind (arith, wanted_append)
+    grind (arith, wanted_append, last_same taken ((steps.Connect ∷ map steps.Ask asked) ++ told) step steps.Close e)

@@ -1,15 +1,15 @@
 -- An open connection by its machine's stage: the steps that were submitted for it, and the answers
 -- that were given for writing.
-use Rattle.std.proofs.Common.{◌≡◌, ℕ, Bool, true, List, [], ◌∷◌, ◌++◌, IsTrue, not, refl, sym, ap, ◌∙◌, ◌⊎◌, inl, inr}
+use Rattle.std.proofs.Common.{◌≡◌, ℕ, Bool, true, List, [], ◌∷◌, ◌++◌, IsTrue, refl, sym, ap, ◌∙◌, ◌⊎◌, inl, inr}
 use Rattle.std.proofs.Common.{append-nil, append_assoc, arith}
-use Rattle.std.proofs.lemmas.Bool.{and_parts, cases_Bool}
+use Rattle.std.proofs.lemmas.Bool.{cases_Bool}
 use Rattle.std.proofs.lemmas.Grind.{common_steps}
 use Rattle.bq_job.specs.declared.line_end.LineEnd.{LineEnd}
 use Rattle.bq_job.specs.declared.request.Request.{Request}
 use Rattle.bq_job.specs.declared.step.Step.{Step}
 use Rattle.bq_job.specs.promise.LineSteps.{IsOverBy, ends_by_wait, IsStepsOfLine, LineHeard, MayTellEnd, heard}
 use Rattle.bq_job.specs.promise.SoFar.{IsStepsSoFar}
-use Rattle.bq_job.specs.reading.Reading.{AreUnits, is_quit, quits_last}
+use Rattle.bq_job.specs.reading.Reading.{AreUnits, quits_last}
 use Rattle.bq_job.specs.declared.line_end.LineEnd.TheVariants as ends
 use Rattle.bq_job.specs.declared.step.Step.TheVariants as steps
 use Rattle.bq_seat.specs.Past.{Past}
@@ -37,9 +37,7 @@ units_begin size bytes (r ∷ asked) more u =
 quits_begin : (asked more : List Request) → IsTrue (quits_last (asked ++ more)) → IsTrue (quits_last asked)
 quits_begin [] more q = refl
 quits_begin (r ∷ []) more q = refl
-quits_begin (r ∷ n ∷ asked) more q =
-    let both = and_parts (not (is_quit r)) (quits_last (n ∷ (asked ++ more))) q in
-    rw both.0 (quits_begin (n ∷ asked) more both.1)
+quits_begin (r ∷ n ∷ asked) more q = grind (arith, common_steps, quits_begin (n ∷ asked) more)
 
 -- Of the requests that were read, all were asked, or a first part.
 asked_of : (line : LineHeard) (end : LineEnd) (read asked : List Request) → IsOverBy line end read asked
@@ -135,4 +133,4 @@ steps_stand m p written s = elim (line_in m.stage m.reader m.kept m.end_told p s
 
 pub handed_stand : (m : SeatMachine) (p : Past) → StandsFor m p → p.written ≡ p.mail
 unfolding StandsFor
-handed_stand m p s = elim (line_in m.stage m.reader m.kept m.end_told p s.0) [ inl o ↦ o.1.handed.written_is | inr l ↦ l.2.1 ]
+handed_stand m p s = grind (arith, line_in m.stage m.reader m.kept m.end_told p s.0)

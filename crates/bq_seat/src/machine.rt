@@ -357,7 +357,6 @@ impl SeatMachine {
 
     // Does the same if no bytes are kept and these bytes came. It parses the request directly from
     // `bytes`, and keeps only the bytes after it.
-    #[tactic(auto, using(crate::proofs::PieceLemmas::room_for_rest))]
     fn take_in(&mut self, alloc: Global, bytes: &[u8], next: &mut NextAction)
         requires { HasRoomIn self.old.reader.place (length bytes.now) }
         ensures { GoesOn (holding bytes.now self.old) next.new self.new }

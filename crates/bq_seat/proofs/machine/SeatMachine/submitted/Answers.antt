@@ -1,11 +1,11 @@
 use Rattle.std.proofs.Common.{refl}
-use Rattle.bq_seat.proofs.NextByPastLemmas.{behind_close, behind_connect, behind_end, behind_quit, behind_request}
+use Rattle.bq_seat.proofs.NextByPastLemmas.{behind_close, behind_end, behind_quit, behind_request}
 use Rattle.bq_seat.proofs.MoveLemmas.{goes_on, turn}
 use Rattle.bq_seat.proofs.machine.SeatMachine.submitted.Goals as goal
 
 pub returns-in-Connecting : goal.returns-in-Connecting
 returns-in-Connecting c = goes_on c.args.self.now c.in-Connecting.is refl tt refl (λ p h. h.0)
-    (λ p h. behind_connect p _ h.2 c.go_on.ensures.further) c.go_on.ensures
+    (λ p h. rw h.2 c.go_on.ensures.further) c.go_on.ensures
 
 pub returns-in-Asking : goal.returns-in-Asking
 returns-in-Asking c = turn c.in-Asking.is c.poll.ensures.action c.poll.ensures.after (refl, refl, refl, tt, tt)
