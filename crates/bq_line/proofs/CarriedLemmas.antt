@@ -78,5 +78,4 @@ module _ {K : Type 0} (trace : K → List Step → List Answer → K → Type 0)
       (later : LineSeen) (next : Action) (now : ℕ) (submitted : List Step) (taken : List Answer)
       → HasGone trace first action submitted taken last → CarriedPart result old seen action sent new later next now submitted taken
       → Uses trace result first action last
-  uses_carried results.Moved old seen action sent new later next now submitted taken g c = grind (arith, c.2 seen)
-  uses_carried _ old seen action sent new later next now submitted taken g c = tt
+  uses_carried result old seen action sent new later next now submitted taken g c = grind (arith, c.2 seen)

@@ -1,12 +1,11 @@
 -- How the control line is read, byte by byte.
-use Rattle.std.proofs.Common.{◌≡◌, ℕ, ◌+◌, Bool, true, false, ◌==◌, List, arith}
+use Rattle.std.proofs.Common.{◌≡◌, ℕ, Bool, true, false, ◌==◌, List, arith}
 use Rattle.std.proofs.Common.{[], ◌∷◌, ◌++◌, refl, take}
-use Rattle.std.proofs.Common.{inl, inr, ap, Option, IfSome}
-use Rattle.std.proofs.lemmas.Bool.{cases_Bool}
+use Rattle.std.proofs.Common.{Option, IfSome}
 use Rattle.std.specs.Prelude.{nat_eq}
 use Rattle.std.specs.Cmp.Lexicographic.{pointwise}
 use Rattle.std.specs.Io.KnownBytes.{Consumes, IsAtEnd}
-use Rattle.bq_job.specs.promise.ControlDid.{are_same, drain_word, drains_from, one_if}
+use Rattle.bq_job.specs.promise.ControlDid.{are_same, drain_word, drains_from}
 use Rattle.bq_line.specs.ControlRead.{HasRead, IsReadToEnd}
 
 pub same_bytes : (xs ys : List ℕ) → pointwise nat_eq xs ys ≡ are_same xs ys
@@ -21,10 +20,8 @@ kept_tells line = grind arith
 -- what is kept of a line is as good as the line
 kept_serves : (line bytes : List ℕ) (failed : Bool) → drains_from (take 6 line) bytes failed ≡ drains_from line bytes failed
 kept_serves line [] failed = grind (arith, kept_tells)
-kept_serves line (byte ∷ bytes) failed = elim (cases_Bool (byte == 10)) [
-  | inl e ↦ rw e (ap (λ b. one_if b + drains_from [] bytes failed) (kept_tells line))
-  | inr e ↦ grind (arith, kept_serves (take 6 line ++ byte ∷ []) bytes failed, kept_serves (line ++ byte ∷ []) bytes failed)
-]
+kept_serves line (byte ∷ bytes) failed =
+    grind (arith, kept_tells, kept_serves (take 6 line ++ byte ∷ []) bytes failed, kept_serves (line ++ byte ∷ []) bytes failed)
 
 -- one byte of a line other than LF
 pub byte_read : (kept later : List ℕ) (byte : ℕ) → (byte == 10) ≡ false → later ≡ take 6 (kept ++ byte ∷ [])

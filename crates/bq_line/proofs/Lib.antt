@@ -9,7 +9,6 @@ pub mod PartLemmas
 pub mod ReadingsLemmas
 pub mod ReadyLemmas
 pub mod SeatLemmas
-pub mod SeenLemmas
 pub mod SocketLemmas
 pub mod StreamLemmas
 pub mod TendingLemmas

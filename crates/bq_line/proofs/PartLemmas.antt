@@ -1,7 +1,8 @@
 -- Parts of a connection in memory that are done.
-use Rattle.std.proofs.Common.{◌≡◌, ◌<◌, ℕ, ◌+◌, ◌-◌, zero, suc, Bool, true, ◌||◌, ◌==◌, List}
-use Rattle.std.proofs.Common.{[], ◌∷◌, ◌++◌, refl, ap, arith, append_assoc, length, take, drop, take-add}
+use Rattle.std.proofs.Common.{◌≡◌, ◌<◌, ℕ, ◌+◌, ◌-◌, zero, suc, true, List}
+use Rattle.std.proofs.Common.{[], ◌∷◌, ◌++◌, refl, arith, append_assoc, length, take, drop, take-add}
 use Rattle.std.proofs.Common.{get_or}
+use Rattle.std.proofs.lemmas.Option.{slice_get_past, slice_get_read}
 use Rattle.std.proofs.lemmas.Grind.{common_steps}
 use Rattle.bq_line.specs.LineParts.{part_bytes, bytes_up_to, is_over}
 use Rattle.bq_line.specs.declared.line.mem_line.Part.{Part}
@@ -15,9 +16,7 @@ at_first (part ∷ more) = grind (arith, common_steps)
 passed_whole : (all : List Part) (place offset : ℕ) (part : Part) → place < length all → part ≡ get_or all place part
     → take offset (part_bytes part) ≡ part_bytes part → bytes_up_to all (suc place) zero ≡ bytes_up_to all place offset
 passed_whole [] place offset part lt is whole = absurd (omega arith)
-passed_whole (first ∷ more) zero offset part lt is whole = grind (arith, common_steps, at_first)
-passed_whole (first ∷ more) (suc place) offset part lt is whole =
-    ap (λ bytes. part_bytes first ++ bytes) (passed_whole more place offset part (omega arith) is whole)
+passed_whole (first ∷ more) place offset part lt is whole = grind (arith, common_steps, at_first, passed_whole more)
 
 -- A part that is done is skipped.
 pub passed : (all : List Part) (place offset written : ℕ) (part : Part) → place < length all → part ≡ get_or all place part
@@ -28,8 +27,7 @@ passed all place offset written part lt is over = grind (arith, passed_whole, co
 read_more : (all : List Part) (place offset n : ℕ) (part : Part) → place < length all → part ≡ get_or all place part
     → bytes_up_to all place (offset + n) ≡ bytes_up_to all place offset ++ take n (drop offset (part_bytes part))
 read_more [] place offset n part lt is = absurd (omega arith)
-read_more (first ∷ more) zero offset n part lt is = grind (arith, take-add)
-read_more (first ∷ more) (suc place) offset n part lt is = grind (arith, append_assoc, read_more more place offset n part)
+read_more (first ∷ more) place offset n part lt is = grind (arith, take-add, append_assoc, read_more more)
 
 -- These bytes come from the part at the place that was skipped to.
 pub read_given : (all : List Part) (place offset next from n : ℕ) (part : Part) (bytes given : List ℕ)
@@ -44,6 +42,7 @@ pub passed_fault : (all : List Part) (place offset : ℕ) (part : Part) → plac
     → bytes_up_to all (suc place) zero ≡ bytes_up_to all place offset
 passed_fault all place offset part lt is fault = grind (arith, common_steps, passed_whole)
 
--- A read that returns bytes does not end the connection's input.
-pub still_open : (ended : Bool) (n : ℕ) → 0 < n → ended ≡ (ended || n == 0)
-still_open ended n h2 = grind arith
+-- how the parts that are done are skipped, and how a read continues
+pub ruleset skips = (common_steps, passed, slice_get_read, slice_get_past)
+
+pub ruleset reads = (common_steps, read_given, passed_fault, slice_get_read)

@@ -1,6 +1,6 @@
 -- What calls of a stream mean for a connection over it.
-use Rattle.std.proofs.Common.{◌≡◌, ◌<◌, ◌==◌, ◌||◌, ℕ, List, [], ◌∷◌, ◌++◌, Option}
-use Rattle.std.proofs.Common.{IfSome, Result, Ok, Err, length, take, refl, append-nil, arith}
+use Rattle.std.proofs.Common.{◌≡◌, ◌<◌, ℕ, List, [], ◌∷◌, ◌++◌, Option}
+use Rattle.std.proofs.Common.{IfSome, Result, length, refl, append-nil, arith}
 use Rattle.std.proofs.KnownBytes.{Appends-kept, Consumes-trans}
 use Rattle.std.proofs.lemmas.List.{append_cancel_left}
 use Rattle.std.specs.Io.KnownBytes.{Consumes, Keeps}
@@ -24,14 +24,9 @@ still_all : (first old new : Option (List ℕ)) (read bytes : List ℕ) → Cons
 still_all first old new read bytes h5 h6 h7 = grind (arith, nothing_before, append_cancel_left read, append-nil read)
 
 -- A connection that read these bytes is over the stream that returned them.
-read_bytes : (first old new : StreamSeen) (line : LineSeen) (n : ℕ) (buf : List ℕ) → 0 < length buf → ReadsFrom old (Ok n) buf new
-    → LiesOver first line old → LiesOver first (record line { read = line.read ++ take n buf; ended = line.ended || n == 0 }) new
-read_bytes first old new line n buf room gave over = grind (arith, still_all, Consumes-trans)
-
 read_on : (first old new : StreamSeen) (line : LineSeen) (result : Result ℕ StreamError) (buf : List ℕ) → 0 < length buf
     → ReadsFrom old result buf new → LiesOver first line old → LiesOver first (after_read result buf line) new
-read_on first old new line (Ok n) buf room gave over = read_bytes first old new line n buf room gave over
-read_on first old new line (Err e) buf room gave over = grind arith
+read_on first old new line result buf room gave over = grind (arith, still_all, Consumes-trans)
 
 -- A connection that read these bytes, some of them from its buffer, is over the stream with what is
 -- left.

@@ -1,15 +1,13 @@
 -- A seat and its door continue with each thing that the seat does.
-use Rattle.std.proofs.Common.{ℕ, ◌≡◌, ◌≤◌, true, false, List, [], ◌∷◌, ◌++◌, length}
-use Rattle.std.proofs.Common.{refl, sym, ap, ◌∙◌, arith, rules, append-nil, append_assoc, length-append, inl, inr}
+use Rattle.std.proofs.Common.{ℕ, ◌≡◌, ◌≤◌, true, false, List, [], ◌∷◌, ◌++◌}
+use Rattle.std.proofs.Common.{refl, arith, rules, append-nil, append_assoc, length-append, inl, inr}
 use Rattle.std.proofs.lemmas.Grind.{common_steps}
 use Rattle.bq_job.specs.declared.answer.Answer.{Answer}
 use Rattle.bq_job.specs.declared.line_end.LineEnd.{LineEnd}
 use Rattle.bq_job.specs.declared.step.Step.{Step}
 use Rattle.bq_job.specs.promise.History.{LineOver}
 use Rattle.bq_job.specs.promise.LineSteps.{LineSeen}
-use Rattle.bq_seat.specs.Past.{Awaited}
 use Rattle.bq_seat.specs.SeatMoves.{IsMove}
-use Rattle.bq_seat.specs.SeatStands.{awaited}
 use Rattle.bq_seat.specs.declared.machine.Action.{Action}
 use Rattle.bq_seat.specs.declared.machine.Action.TheVariants as actions
 use Rattle.bq_seat.specs.declared.machine.Event.TheVariants as events
@@ -21,7 +19,7 @@ use Rattle.bq_line.specs.declared.attendant.Progress.TheVariants as results
 use Rattle.bq_line.specs.LineCalls.{new_line}
 use Rattle.bq_line.specs.Links.{Calls}
 use Rattle.bq_line.specs.Submitting.{IsSubmittedOn}
-use Rattle.bq_line.specs.Tending.{DoorSeen, GoesOn, IsCounted, IsNewDoor, IsNewSeat, IsPlaced, IsTended, Tends}
+use Rattle.bq_line.specs.Tending.{DoorSeen, IsCounted, IsNewDoor, IsNewSeat, IsPlaced, IsTended, Tends}
 use Rattle.bq_line.specs.Tending.{attendant, ended_lines, over_now}
 use Rattle.bq_line.specs.declared.attendant.Attendant.{Attendant}
 use Rattle.bq_line.specs.declared.attendant.SeatPhase.{SeatPhase}
@@ -44,17 +42,7 @@ moves_to : {L : Type 0} (seen : L → LineSeen) (size : ℕ) (old : Attendant L)
     → IsAt seen size new phase t.now t.getting → IsPlaced phase next
     → IsTended seen size (attendant new phase) next (before ++ []) (got ++ []) × IsCounted old door [] (attendant new phase) next
 moves_to seen size old new phase door next before got t over grows at placed =
-    none_taken seen size old (attendant new phase) door next before got (grind arith) (record {
-      before = t.before;
-      now = t.now;
-      got = t.got;
-      getting = t.getting;
-      of_lines = grind arith;
-      at_phase = at;
-      submitted_is = t.submitted_is;
-      taken_is = t.taken_is;
-      placed = placed;
-    })
+    none_taken seen size old (attendant new phase) door next before got (grind arith) (grind arith)
 
 pub tends_still : {L : Type 0} (seen : L → LineSeen) (a : Attendant L) (door : DoorSeen) → Tends seen a door [] [] a door
 tends_still seen a door size before got h = none_taken seen size a a door door before got (omega arith) h
@@ -75,21 +63,9 @@ pub tends_shut : {L : Type 0} (seen : L → LineSeen) (machine : SeatMachine) (l
 tends_shut seen machine line end sent door next left inside still size before got t =
     let over : LineOver = record { seen = seen line; over = end } in
     let on : IsOnLine size machine (seen line) (actions.LineOver end) t.now t.getting = rw t.at_phase.1 t.at_phase.2 in
-    let waits : awaited machine ≡ Awaited.ALine = let e = on.awaits in cc in
-    none_taken seen size (attendant machine (phases.On line (actions.LineOver end) sent)) (attendant machine phases.Between) door next
-    before got (let e = ap length left ∙ length-append door.lines_over (over ∷ []) in omega arith) (record {
-      before = t.before ++ t.now;
-      now = [];
-      got = t.got ++ t.getting;
-      getting = [];
-      of_lines =
-          rw left (lines_more size door.lines_over over t.before t.now t.got t.getting t.of_lines
-          (line_served size machine (seen line) end t.now t.getting on));
-      at_phase = (refl, refl, waits, on.limit_is);
-      submitted_is = t.submitted_is ∙ sym (append-nil (t.before ++ t.now));
-      taken_is = t.taken_is ∙ sym (append-nil (t.got ++ t.getting));
-      placed = (inside, still ∙ t.placed.1);
-    })
+    let served = line_served size machine (seen line) end t.now t.getting on in
+    let lines = lines_more size door.lines_over over t.before t.now t.got t.getting t.of_lines served in
+    grind (arith, append-nil, length-append, none_taken)
 
 -- An action of the connection was carried out, or a part of it.
 tends_carried : {L : Type 0} (result : Progress) (seen : L → LineSeen) (old new : SeatMachine) (line later : L)
@@ -149,26 +125,8 @@ pub tended_new : {L : Type 0} (seen : L → LineSeen) (size : ℕ) (a : Attendan
     → IsTended seen size a door [] []
 tended_new seen size a door seat new = rw (seat.phase, new.none_over) (search rules)
 
--- a phase with an action that is known by an equation
-pub on_action : {L : Type 0} {phase : SeatPhase L} {line : L} {action same : Action} {sent : ℕ} → phase ≡ phases.On line action sent
-    → action ≡ same → phase ≡ phases.On line same sent
-on_action {line = line} {sent = sent} at is = at ∙ ap (λ a. phases.On line a sent) is
-
--- the phase in which a seat starts, by an equation
-pub from_phase : {K L : Type 0} (trace : K → List Step → List Answer → K → Type 0) (first last : K) {seen : L → LineSeen}
-    {machine new : SeatMachine} {phase same later : SeatPhase L} {door next : DoorSeen}
-    → phase ≡ same → GoesOn trace first last seen (attendant machine same) door (attendant new later) next
-    → GoesOn trace first last seen (attendant machine phase) door (attendant new later) next
-from_phase trace first last is h = rw is h
-
--- The same by an equation, if the link is not used.
-pub tends_from : {L : Type 0} {seen : L → LineSeen} {machine : SeatMachine} {phase same : SeatPhase L} {door next : DoorSeen}
-    {later : Attendant L}
-    → phase ≡ same → Tends seen (attendant machine same) door [] [] later next → Tends seen (attendant machine phase) door [] [] later next
-tends_from is h = rw is h
-
 -- The open connection was given a hint, and its record is unchanged.
 pub tends_told : {L : Type 0} (seen : L → LineSeen) (a : Attendant L) (line later : L) (action : Action) (sent : ℕ)
     → a.phase ≡ phases.On line action sent → seen later ≡ seen line
     → (door : DoorSeen) → Tends seen a door [] [] (attendant a.machine (phases.On later action sent)) door
-tends_told seen a line later action sent is same door = tends_from is (λ size before got t. search (rules, moves_to))
+tends_told seen a line later action sent is same door = rw is (λ size before got t. search (rules, moves_to))

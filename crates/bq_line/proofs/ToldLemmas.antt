@@ -1,7 +1,7 @@
 -- What a control line has told so far.
 use Rattle.std.proofs.lemmas.Grind.{common_steps}
 use Rattle.std.proofs.Common.{◌≡◌, ℕ, ◌+◌, Bool, true, false, List, [], ◌++◌}
-use Rattle.std.proofs.Common.{Option, IfSome, refl, ◌∙◌, arith, append-nil}
+use Rattle.std.proofs.Common.{Option, IfSome, arith, append-nil}
 use Rattle.std.specs.Io.KnownBytes.{Consumes, IsAtEnd}
 use Rattle.std.specs.Option.{option_to_list}
 use Rattle.bq_job.specs.declared.step.Step.{Step}
@@ -43,22 +43,8 @@ module _ {I : Type 0} (i : Control I) where
       → IsReadToEnd first (i.remaining new) (i.seen old).text failed) → (failed ≡ true → i.may_fail old ≡ true)
       → drains_from kept [] failed ≡ one_if owes
       → TellsOn i (turns_of old kept false stages.Reads) [] (turns_of new kept owes stages.Ended)
-  tells_over old new kept owes failed over text_is failed_is may_is read fault owed = record {
-    on = λ first may before h.
-        let r = h.at_stage.1 in record {
-          same = may_is ∙ h.same;
-          count = h.count;
-          at_stage = (
-            rw (append-nil before) h.at_stage.0,
-            record {
-              over = over;
-              read = grind arith;
-              fault = grind arith;
-              counted = grind (arith, append-nil (i.seen old).text, r.counted [] failed);
-            },
-          );
-        };
-  }
+  tells_over old new kept owes failed over text_is failed_is may_is read fault owed =
+      record { on = λ first may before h. let r = h.at_stage.1 in grind (arith, append-nil, r.counted [] failed) }
 
   -- The end of the input was reached, which also ends the last line.
   pub tells_end_if : (old new : I) (kept : List ℕ) (owes : Bool) (stage : Stage) (word : Bool) → owes ≡ false → stage ≡ stages.Reads
@@ -66,16 +52,16 @@ module _ {I : Type 0} (i : Control I) where
       → Consumes (i.remaining old) (i.remaining new) [] → IfSome (i.remaining old) (λ bytes. IsAtEnd (i.remaining new))
       → TellsOn i (turns_of old kept owes stage) [] (turns_of new kept word stages.Ended)
   tells_end_if old new kept owes stage word none reads word_is is may_is read ended =
-      rw (none, reads, word_is) (tells_over old new kept (are_same kept drain_word) false (grind arith) (grind arith) (grind arith) may_is
-      (grind (arith, ends_read)) (grind arith) refl)
+      let told = tells_over old new kept (are_same kept drain_word) false in
+      grind (arith, ends_read)
 
   pub tells_fault_if : (old new : I) (kept : List ℕ) (owes : Bool) (stage : Stage) → owes ≡ false → stage ≡ stages.Reads
       → i.seen new ≡ after_heard hears.Fault (i.seen old) → i.may_fail new ≡ i.may_fail old
       → Consumes (i.remaining old) (i.remaining new) [] → i.may_fail old ≡ true
       → TellsOn i (turns_of old kept owes stage) [] (turns_of new kept owes stages.Ended)
   tells_fault_if old new kept owes stage none reads is may_is read may_be =
-      rw (none, reads) (tells_over old new kept false true (grind arith) (grind arith) (grind arith) may_is (grind (arith, fails_read))
-      (λ e. may_be) refl)
+      let told = tells_over old new kept false true in
+      grind (arith, fails_read)
 
 -- A control line that was read to its end and whose steps were all submitted.
 pub record IsToldSo {I : Type 0} (i : Control I) (first : Option (List ℕ)) (may : Bool) (c : ControlSteps I) (told : List Step)
@@ -105,5 +91,4 @@ pub record Submitted {I K : Type 0} (i : Control I) (first : Option (List ℕ)) 
 module _ {I K : Type 0} {i : Control I} {first : Option (List ℕ)} {may : Bool} {trace : K → List Step → K → Type 0} where
   pub submitted_on : {old mid new : K} {steps later : ControlSteps I} → Submitted i first may trace old mid steps
       → HasSubmitted i trace mid steps new later → Submitted i first may trace old new later
-  submitted_on {new = new} s m =
-      record { told = s.told ++ m.told; tells = m.tells.on first may s.told s.tells; over_link = grind (arith, common_steps) }
+  submitted_on s m = grind (arith, common_steps, m.tells.on first may s.told s.tells)

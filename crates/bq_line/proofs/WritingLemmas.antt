@@ -1,5 +1,5 @@
 -- Texts that are written in several parts.
-use Rattle.std.proofs.Common.{◌≡◌, ℕ, zero, suc, ◌-◌, ◌≤◌, Bool, true, List, [], ◌∷◌, ◌++◌}
+use Rattle.std.proofs.Common.{◌≡◌, ℕ, ◌-◌, ◌≤◌, Bool, true, List, [], ◌∷◌, ◌++◌}
 use Rattle.std.proofs.Common.{sym, ap, ◌∙◌, arith, length, take, drop, append_assoc, if◌then◌else◌}
 use Rattle.std.proofs.Common.{◌==◌, Result}
 use Rattle.std.proofs.lemmas.Grind.{common_steps}
@@ -33,9 +33,8 @@ pub from_same : (result : Result ℕ StreamError) (part whole : List ℕ) (old n
 from_same result part whole old new is same = is ∙ ap (λ bytes. after_write result bytes old) same
 
 drop_past : (n : ℕ) (xs ys : List ℕ) → length xs ≤ n → drop n (xs ++ ys) ≡ drop (n - length xs) ys
-drop_past n [] ys le = ap (λ k. drop k ys) (omega arith)
-drop_past zero (x ∷ xs) ys le = absurd (omega arith)
-drop_past (suc n) (x ∷ xs) ys le = drop_past n xs ys (omega arith) ∙ ap (λ k. drop k ys) (omega arith)
+drop_past n [] ys le = grind (arith, common_steps)
+drop_past n (x ∷ xs) ys le = grind (arith, common_steps, drop_past (n - 1) xs ys)
 
 pub behind_first_of_three : (done : ℕ) (head body tail : List ℕ) → length head ≤ done
     → drop (done - length head) (body ++ tail) ≡ drop done ((head ++ body) ++ tail)

@@ -87,7 +87,7 @@ impl MemLine {
     }
 
     // Reads from the next part, which isn't done.
-    #[tactic(auto, using(std::proofs::lemmas::Option::slice_get_read, crate::proofs::PartLemmas::passed_fault))]
+    #[tactic(auto, using(crate::proofs::PartLemmas::reads))]
     fn read_part(&mut self, buf: &mut [u8]) -> Result<usize, StreamError>
         requires some { 0 < length buf.old }
         requires open { IfSome (slice_get self.old.parts.items self.old.place)
@@ -216,6 +216,7 @@ fn is_over(part: &Part, offset: usize, written: usize) -> bool
 
 // Returns the place and the offset at which the connection continues, after skipping parts that are
 // done.
+#[tactic(auto, using(crate::proofs::PartLemmas::skips))]
 fn next_open(parts: &[Part], place: usize, offset: usize, written: usize) -> (usize, usize)
     ensures same { bytes_up_to parts.now result.0 result.1 ≡ bytes_up_to parts.now place offset }
     ensures open { IfSome (slice_get parts.now result.0)
