@@ -1,6 +1,6 @@
 -- Answers are sent one after another, or kept.
-use Rattle.std.proofs.Common.{arith, ◌≡◌, ◌≢◌, ℕ, List, [], ◌∷◌, ◌++◌, refl, append-nil, append_assoc}
-use Rattle.std.proofs.lemmas.{Bool.{cases_Bool, eq-eqb, eqb-true, eqb-false}, Grind.common_steps}
+use Rattle.std.proofs.Common.{arith, ◌≡◌, ◌≢◌, ℕ, List, [], ◌∷◌, ◌++◌, append-nil, append_assoc}
+use Rattle.std.proofs.lemmas.{Bool.{cases_Bool, eqb-true, eqb-false}, Grind.common_steps}
 use Rattle.bq_job.specs.declared.answer.Answer.{Answer}
 use Rattle.bq_job.specs.machine.Dispatch.{GivenAnswer}
 use Rattle.bq_job.specs.promise.Runs.{answers_to}
@@ -27,7 +27,7 @@ pub to_other : (seat t : ℕ) (answer : Answer) → seat ≢ t → answers_to t 
 to_other seat t answer other = grind (arith, common_steps, cases_Bool, eqb-true)
 
 to_own : (seat : ℕ) (answer : Answer) → answers_to seat ((seat, answer) ∷ []) ≡ answer ∷ []
-to_own seat answer = rw (eq-eqb seat seat refl) refl
+to_own seat answer = grind (arith, common_steps)
 
 -- the answers sent to another end
 sent_else : (old new : CoreState) (seat t : ℕ) (answer : Answer) → new ≡ with_room (with_sent old seat answer) seat (room_for new seat)

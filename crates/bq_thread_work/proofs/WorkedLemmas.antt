@@ -1,5 +1,5 @@
 -- How the core's work goes on, step by step.
-use Rattle.std.proofs.Common.{◌≡◌, ℕ, zero, suc, ◌+◌, ◌<◌, Bool, true, false, List, [], ◌∷◌, ◌++◌, Option}
+use Rattle.std.proofs.Common.{◌≡◌, ℕ, ◌+◌, ◌<◌, Bool, true, false, List, [], ◌∷◌, ◌++◌, Option}
 use Rattle.std.proofs.Common.{length, replicate, refl, sym, ap, ◌∙◌, ◌⊎◌, inl, inr, append-nil, append_assoc, arith}
 use Rattle.std.specs.Prelude.{◌==◌, slice_index_or}
 use Rattle.std.proofs.lemmas.{Bool.{cases_Bool, eqb-true}, Grind.common_steps}
@@ -21,8 +21,7 @@ use Rattle.bq_thread_work.specs.Worked.{HasWorked, DriverState, KnowsAll, gone_a
 use Rattle.bq_thread_work.specs.declared.core_work.gone_ends.GoneEnds.{GoneEnds}
 
 made_more : (history more : List Entry) → steps_made (history ++ more) ≡ steps_made history ++ steps_made more
-made_more [] more = refl
-made_more (e ∷ history) more = grind (arith, common_steps, cases_Bool, made_more history more)
+made_more history more = grind (arith, common_steps)
 
 no_ticks_more : (all more : List (ℕ × Step)) → no_ticks (all ++ more) ≡ no_ticks all ++ no_ticks more
 no_ticks_more [] more = refl
@@ -81,12 +80,6 @@ pub worked_inside : (settings : Settings) (from : ℕ) (readings reads : List (O
 worked_inside settings from readings reads o n history now w ran none end pending gone =
     grind (arith, worked_on settings from readings reads o n history now w ran, append-nil)
 
--- if all elements are equal, so is the default for places beyond the end
-all_same : {X : Type 0} (n t : ℕ) (x : X) → slice_index_or (replicate n x) t x ≡ x
-all_same zero t x = refl
-all_same (suc n) zero x = refl
-all_same (suc n) (suc t) x = all_same n t x
-
 -- While no end has gone, not all have.
 pub known_none : (gone : GoneEnds) (n : ℕ) → gone.flags.items ≡ replicate (n + 1) false → gone.all ≡ false → KnowsAll gone
 known_none gone n none not = grind arith
@@ -94,7 +87,7 @@ known_none gone n none not = grind arith
 -- Nothing was done yet.
 pub worked_none : (settings : Settings) (from : ℕ) (h : DriverState) (ends : ℕ) → h.timed ≡ new_timed settings from
     → IsNewCore ends h.end → h.pending ≡ [] → h.gone ≡ replicate ends false → HasWorked settings from [] h
-worked_none settings from h ends timed new pending gone = grind (arith, all_same, ran_none (new_timed settings from))
+worked_none settings from h ends timed new pending gone = grind (arith, common_steps, ran_none (new_timed settings from))
 
 -- All is done.
 pub worked_all : (settings : Settings) (from : ℕ) (readings : List (Option ℕ)) (h : DriverState) → HasWorked settings from readings h
@@ -105,8 +98,4 @@ worked_all settings from readings h w none ends many all =
 
 -- new answers after those that are kept
 pub pending_on : (kept same given now : List GivenAnswer) → kept ≡ same → given ≡ [] → kept ++ now ≡ (same ++ given) ++ now
-pending_on kept same given now e none = rw (e, none, append-nil same) refl
-
--- no answer is kept or new
-pub none_pending : (kept given : List GivenAnswer) → kept ≡ [] → given ≡ [] → kept ++ given ≡ []
-none_pending kept given e none = rw (e, none) refl
+pending_on kept same given now e none = grind (arith, append-nil)

@@ -1,9 +1,8 @@
-use Rattle.std.proofs.Common.{◌∙◌, ap, length}
-use Rattle.bq_link.specs.EndStates.{CoreState}
+use Rattle.std.proofs.Common.{arith}
 use Rattle.bq_thread_work.proofs.core_work.core_work.Goals as goal
 
 pub returns-clause-ran : goal.returns-clause-ran
 returns-clause-ran g c =
     let new = c.new.ensures in
     c.run_out.ensures.ran (g.K.QueueCore.machine c.args.core).settings (g.K.QueueCore.comparisons c.args.core) c.args.clock new.work
-    (ap (λ (e : CoreState). length e.rings) new.end ∙ c.requires.ends.rings)
+    (grind arith)

@@ -1,4 +1,4 @@
-use Rattle.std.proofs.Common.{◌≡◌, ◌∙◌, ◌+◌, ap, length, subst, sym, arith}
+use Rattle.std.proofs.Common.{◌≡◌, ◌+◌, length, arith}
 use Rattle.bq_thread_work.specs.Worked.{driver_state}
 use Rattle.bq_thread_work.proofs.TurnLemmas.{on_both}
 use Rattle.bq_thread_work.proofs.WorkedLemmas.{worked_all}
@@ -15,10 +15,7 @@ returns-then-turn-clause-ran g c settings from first w rings =
     let order = on.order in
     let over = c.turn.ensures.over c.if-turn.true in
     let work = on.work settings from first w in
-    let ends : length driver.sender.end.rings ≡ settings.seats + 1 = ap length on.end.1 ∙ rings in
+    let ends : length driver.sender.end.rings ≡ settings.seats + 1 = grind arith in
     let done = worked_all settings from work.0 (driver_state g.K.QueueCore driver) work.2 over.none_pending ends
-    (order.many ∙ sym order.sender.places.ends ∙ ends) over.all_gone in (
-      work.0,
-      subst (λ clock. g.C.Clock.given first work.0 clock) (sym parts.2) work.1,
-      rw (parts.0, parts.1) done,
-    )
+    (grind arith) over.all_gone in
+    (work.0, rw parts.2 work.1, rw (parts.0, parts.1) done)

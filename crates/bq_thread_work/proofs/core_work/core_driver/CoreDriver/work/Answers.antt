@@ -1,13 +1,13 @@
-use Rattle.std.proofs.Common.{◌∙◌, ap, inl, inr, arith}
+use Rattle.std.proofs.Common.{ap, inl, inr, arith}
 use Rattle.bq_thread_work.specs.declared.core_work.core_driver.CoreDriver.{CoreDriver}
 use Rattle.bq_thread_work.proofs.TurnLemmas.{on_both, trace_from}
 use Rattle.bq_thread_work.proofs.core_work.core_driver.CoreDriver.work.Goals as goal
 
 pub go_on-requires-clause-order : goal.go_on-requires-clause-order
-go_on-requires-clause-order g c = let on = c.give_way.ensures.on in (on.end.0 ∙ c.requires.order.0, on.order)
+go_on-requires-clause-order g c = grind arith
 
 pub go_on-requires-clause-none : goal.go_on-requires-clause-none
-go_on-requires-clause-none g c = ap (λ (h : CoreDriver _ _). h.timed.outs.given) c.give_way.ensures.rest ∙ c.requires.none
+go_on-requires-clause-none g c = grind arith
 
 pub await_step-requires : goal.await_step-requires
 await_step-requires g c = grind arith

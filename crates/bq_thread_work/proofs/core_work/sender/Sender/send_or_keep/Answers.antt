@@ -1,4 +1,4 @@
-use Rattle.std.proofs.Common.{◌≡◌, ◌∙◌, ◌∷◌, [], ◌++◌, ap, subst, sym}
+use Rattle.std.proofs.Common.{◌≡◌, ◌∷◌, [], ◌++◌, ap, arith, subst, sym}
 use Rattle.bq_thread_work.specs.Sending.{AreSent}
 use Rattle.bq_thread_work.specs.declared.core_work.sender.Sender.{Sender}
 use Rattle.bq_thread_work.proofs.SendingLemmas.{sent_before, sent_on, sent_one}
@@ -19,10 +19,6 @@ returns-then-can_send-clause-sent c =
 
 pub returns-else-can_send-clause-sent : goal.returns-else-can_send-clause-sent
 returns-else-can_send-clause-sent c =
-    let old = c.args.self.now in
-    let mid = c.can_send.new.self in
-    let more = (c.args.seat, c.args.answer) ∷ [] in
-    let kept : mid.kept.items ≡ old.kept.items = ap (λ (s : Sender). s.kept.items) c.can_send.ensures.rest in
-    subst (λ left. AreSent old.end (old.kept.items ++ more) mid.end left)
-    (sym (c.push_back_reserved.ensures.items ∙ ap (λ xs. xs ++ more) kept))
-    (sent_before old.end mid.end old.kept.items old.kept.items more c.can_send.ensures.unsent)
+    let sent = sent_before _ _ c.args.self.now.kept.items c.args.self.now.kept.items ((c.args.seat, c.args.answer) ∷ [])
+    c.can_send.ensures.unsent in
+    grind arith
