@@ -1,7 +1,6 @@
 -- Answers are put into the outboxes one after another.
 use Rattle.std.proofs.lemmas.Grind.{common_steps}
-use Rattle.std.proofs.Common.{◌≡◌, ℕ, ◌≤◌, List, [], ◌∷◌, ◌++◌, length, map, ap, ◌∙◌, arith, append_assoc, Ok, Result}
-use Rattle.std.specs.Prelude.{if◌then◌else◌, is_ok}
+use Rattle.std.proofs.Common.{◌≡◌, ℕ, ◌≤◌, List, [], ◌∷◌, ◌++◌, length, map, arith, append_assoc}
 use Rattle.std.proofs.lemmas.List.{get_or_past, map-append}
 use Rattle.bq_job.specs.declared.answer.Answer.{Answer}
 use Rattle.bq_job.specs.machine.Dispatch.{GivenAnswer}
@@ -9,10 +8,6 @@ use Rattle.bq_job.proofs.OneClientLemmas.{answers_append}
 use Rattle.bq_lock.specs.LockedState.{AreFew, outbox_at}
 use Rattle.bq_lock.specs.LockedSteps.{AreDelivered}
 use Rattle.bq_lock.proofs.LastPartLemmas.{last_then}
-
-pub items_of_ok : {X E : Type 0} (result : Result X E) (x : X) (items pushed kept : List ℕ)
-    → items ≡ (if is_ok result then pushed else kept) → result ≡ Ok x → items ≡ pushed
-items_of_ok {X} {E} result x items pushed kept is ok = is ∙ ap (λ (r : Result X E). if is_ok r then pushed else kept) ok
 
 -- Of the given answers these are left, and the others are in the outboxes.
 pub record IsDelivering (given : List GivenAnswer) (old : List (List Answer)) (left : List GivenAnswer) (answered : List ℕ)

@@ -1,9 +1,9 @@
 -- The invariant of the lock's content holds after each operation.
 use Rattle.std.proofs.Common.{◌≡◌, ℕ, ◌<◌, ◌≤◌, ◌⊎◌, Bool, true, false, not, List, [], ◌++◌}
-use Rattle.std.proofs.Common.{Option, drop, length, map, refl, sym, ap, ◌∙◌, arith, inl, inr, replicate}
+use Rattle.std.proofs.Common.{Option, drop, length, map, refl, ap, arith, inl, inr, replicate}
 use Rattle.std.specs.Prelude.{◌==◌, IfSome, IsNone, IsSome}
 use Rattle.std.proofs.lemmas.Grind.{common_steps}
-use Rattle.std.proofs.lemmas.Bool.{and_parts, cases_Bool, cases_lt, eqb-true, eqb-false, false≢true}
+use Rattle.std.proofs.lemmas.Bool.{and_parts, cases_Bool, cases_lt, eqb-true, eqb-false}
 use Rattle.std.proofs.lemmas.List.{get_or-set_other, get_or-set_same}
 use Rattle.std.proofs.lemmas.List.{length-append, length-set, set_past}
 use Rattle.bq_job.specs.declared.answer.Answer.{Answer}
@@ -61,15 +61,7 @@ pub stepped : (copy : Option Step) (m n : Machine) (boxes new_boxes : List (List
     → IfSome copy (λ step. new ≡ with_entry (record { moment = at; seat = seat; step = step; left_out = left_out }) unshared old)
     → TakesStepUnless (IsNone copy) (locked_of m boxes answered old) at seat what (locked_of n new_boxes new_answered new)
 stepped copy m n boxes new_boxes answered new_answered old new at seat what left_out unshared given step delivered told same room without
-    added =
-    record {
-      outcome = record { left_out = left_out; unshared = unshared };
-      given = given;
-      step = step;
-      delivered = delivered;
-      answered = told;
-      noted = noted_of copy old at seat what left_out unshared new same room without added;
-    }
+    added = grind (arith, noted_of)
 
 -- If the journal is complete after a step, it was complete before it, and no reference to a body
 -- was refused in the step.
@@ -97,19 +89,13 @@ pub hold_step : (refused : Type 0) (old : LockedState) (at seat : ℕ) (what : S
     → TakesStepUnless refused old at seat what new → IsLawfulHold new
 hold_step refused old at seat what new h lawful settings taken = record {
   lawful = lawful;
-  many = taken.delivered.many ∙ h.many ∙ ap (λ (s : Settings). s.seats) (sym settings);
+  many = grind arith;
   few = few_delivered taken.given old.outboxes new.outboxes taken.delivered;
-  replayed = by_journal taken.noted;
+  replayed = λ whole. elim taken.noted [
+    | inl added ↦ step_replayed old at seat what new taken.outcome taken.given taken.step taken.delivered settings h.replayed added whole
+    | inr left ↦ grind arith
+  ];
 }
-  where
-    entry : Entry
-    entry = record { moment = at; seat = seat; step = what; left_out = taken.outcome.left_out }
-
-    by_journal : IsAdded old.journal entry taken.outcome.unshared new.journal ⊎ IsLeftOut refused old.journal new.journal
-        → new.journal.whole ≡ true → IsReplayed new
-    by_journal (inl added) whole = step_replayed old at seat what new taken.outcome taken.given taken.step taken.delivered settings
-        h.replayed added whole
-    by_journal (inr left) whole = absurd (false≢true (sym (ap (λ (j : JournalState). j.whole) left.new_is) ∙ whole))
 
 ends_fetched : (outboxes : List (List Answer)) (seat other : ℕ)
     → EndsWith (outbox_at other outboxes) (outbox_at other (without_oldest seat outboxes))
@@ -124,19 +110,19 @@ ends_fetched outboxes seat other =
     ]
 
 few_of_part : (xs part : List Answer) → EndsWith xs part → length xs ≤ 4 → length part ≤ 4
-few_of_part xs part (front, is) few = let l = length-append front part in let m = ap length is in omega (arith, l, m, few)
+few_of_part xs part (front, is) few = grind (arith, length-append)
 
 -- a fetch preserves the invariant
 pub hold_fetch : (l : LockedState) (seat : ℕ) → IsLawfulHold l → IsLawfulHold (record l { outboxes = without_oldest seat l.outboxes })
 hold_fetch l seat h = record {
   lawful = h.lawful;
-  many = length-set l.outboxes seat (drop 1 (outbox_at seat l.outboxes)) ∙ h.many;
+  many = grind (arith, length-set);
   few = λ other. few_of_part (outbox_at other l.outboxes) _ (ends_fetched l.outboxes seat other) (h.few other);
-  replayed = λ whole. record {
-    given = (h.replayed whole).given;
-    replay = (h.replayed whole).replay;
-    last_parts = λ other. ends_with_then (answers_to other (h.replayed whole).given) (outbox_at other l.outboxes) _
-        ((h.replayed whole).last_parts other) (ends_fetched l.outboxes seat other);
+  replayed = λ whole. let r = h.replayed whole in record {
+    given = r.given;
+    replay = r.replay;
+    last_parts = λ other. ends_with_then (answers_to other r.given) (outbox_at other l.outboxes) _ (r.last_parts other)
+        (ends_fetched l.outboxes seat other);
   };
 }
 

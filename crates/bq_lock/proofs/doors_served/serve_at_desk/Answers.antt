@@ -1,7 +1,7 @@
-use Rattle.std.proofs.Common.{◌∙◌, ap, length, subst, sym}
+use Rattle.std.proofs.Common.{◌∙◌, ap, length, sym}
 use Rattle.std.proofs.lemmas.List.{length-map}
 use Rattle.std.proofs.lemmas.Slice.Zip.{AllZip-long}
-use Rattle.bq_line.specs.Tending.{AreSame, door_seen}
+use Rattle.bq_line.specs.Tending.{door_seen}
 use Rattle.bq_lock.proofs.PostLemmas.{doors_back}
 use Rattle.bq_lock.proofs.doors_served.serve_at_desk.Goals as goal
 
@@ -18,6 +18,6 @@ returns-in-Ok-serve_crew-clause-served g c =
 
 pub returns-in-Ok-serve_crew-clause-same : goal.returns-in-Ok-serve_crew-clause-same
 returns-in-Ok-serve_crew-clause-same g c =
-    subst (λ doors. AreSame g.D.Door.same doors c.in-Ok-serve_crew.doors.items) c.in-Ok-new_posts.ensures.doors
-    (doors_back (door_seen g.D.Door) g.D.Door.same c.args.max_job_size (λ p. p.door) (λ p. p.max_job_size) c.in-Ok-new_posts.posts.items
-    c.in-Ok-serve_crew.doors.items c.in-Ok-new_posts.ensures.limits c.in-Ok-serve_crew.ensures.crew).1
+    rw (← c.in-Ok-new_posts.ensures.doors) (doors_back (door_seen g.D.Door) g.D.Door.same c.args.max_job_size (λ p. p.door)
+    (λ p. p.max_job_size) c.in-Ok-new_posts.posts.items c.in-Ok-serve_crew.doors.items c.in-Ok-new_posts.ensures.limits
+    c.in-Ok-serve_crew.ensures.crew).1

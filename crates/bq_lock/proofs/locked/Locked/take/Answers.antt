@@ -7,9 +7,7 @@ use Rattle.bq_lock.proofs.locked.Locked.take.Goals as goal
 
 pub deliver-requires-clause-room : goal.deliver-requires-clause-room
 deliver-requires-clause-room g c =
-    let few = few_answers (g.K.QueueCore.machine c.self.inside.core) (g.K.QueueCore.machine c.step_in_place.new.self)
-    c.args.at c.args.seat c.args.what _ c.step_in_place.new.outs.given
-    c.self.invariant.0.lawful c.step_in_place.ensures.step in
+    let few = few_answers _ _ c.args.at c.args.seat c.args.what _ _ c.self.invariant.0.lawful c.step_in_place.ensures.step in
     let room = c.self.invariant.2 in omega (arith, few, room)
 
 pub invariant_of-self : goal.invariant_of-self
