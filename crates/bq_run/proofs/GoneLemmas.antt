@@ -1,6 +1,6 @@
 -- An end whose Gone was taken has nothing waiting.
 use Rattle.std.proofs.Common.{◌≡◌, ℕ, zero, suc, Bool, true, false, List, [], ◌∷◌, arith}
-use Rattle.std.proofs.Common.{◌++◌, map, replicate, refl, sym, subst}
+use Rattle.std.proofs.Common.{◌++◌, map, replicate, refl}
 use Rattle.bq_job.specs.declared.answer.Answer.{Answer}
 use Rattle.bq_job.specs.declared.request.Request.{Request}
 use Rattle.bq_job.specs.declared.step.Step.{Step}
@@ -37,10 +37,9 @@ goneless_line size line own answers l = grind (arith, goneless_both, goneless_as
 
 goneless_lines : (size : ℕ) (lines : List LineOver) (own : List Step) (taken : List Answer)
     → AreLinesServed size lines own taken → IsGoneless own
-goneless_lines size [] own taken h = subst IsGoneless (sym h.0) tt
+goneless_lines size [] own taken h = grind arith
 goneless_lines size (line ∷ lines) own taken h =
-    subst IsGoneless (sym h.5) (goneless_both h.0 h.1 (goneless_line size line h.0 h.4.own h.4.line_owed)
-    (goneless_lines size lines h.1 h.3 h.7))
+    grind (arith, goneless_both, goneless_line size line h.0 h.4.own h.4.line_owed, goneless_lines size lines h.1 h.3 h.7)
 
 -- An end submits Gone once, as its last step.
 pub record EndsByGone (submitted : List Step) : Type 0 where

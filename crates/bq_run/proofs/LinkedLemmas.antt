@@ -1,6 +1,6 @@
 -- What the threads of a run did, combined along the core's history.
 use Rattle.std.proofs.Common.{◌≡◌, ℕ, zero, suc, ◌+◌, ◌<◌, Bool, true, List, [], ◌∷◌, ◌++◌, Option, map, filter, length}
-use Rattle.std.proofs.Common.{refl, sym, ap, ◌∙◌, arith, append-nil, slice_index_or, not, nat_le}
+use Rattle.std.proofs.Common.{refl, ◌∙◌, arith, append-nil, slice_index_or, not, nat_le}
 use Rattle.std.specs.Prelude.{◌==◌}
 use Rattle.std.specs.List.{list_all}
 use Rattle.std.proofs.lemmas.List.{get_or_append_left, length-append, length-map}
@@ -49,7 +49,7 @@ tickless_first (x ∷ xs) ys h = (h.0, tickless_first xs ys h.1)
 -- a list without ticks stays the same when ticks are removed
 tickless_whole : (xs : List (ℕ × Step)) → IsTickless xs → filter (λ t. not (is_tick t.1)) xs ≡ xs
 tickless_whole [] h = refl
-tickless_whole (x ∷ xs) h = rw h.0 (ap (λ (ys : List (ℕ × Step)). x ∷ ys) (tickless_whole xs h.1))
+tickless_whole (x ∷ xs) h = grind (arith, common_steps, tickless_whole xs)
 
 -- No entry belongs to a seat above this one.
 seats_below : (seats : ℕ) (entries : List Entry) → AreBelow (seats + 1) (pairs entries)
@@ -111,7 +111,7 @@ module _ {D : Type 0} (at : D → DoorSeen) (settings : Settings) (readings : Li
   taken_is =
       let none : 0 < length ends = let e = a.many in omega arith in
       let s = a.settled 0 (some_of ends 0 none) none in
-      a.core_done.taken_is ∙ tickless_whole core.taken (tickless_first core.taken s.waiting s.tickless)
+      grind (arith, a.core_done.taken_is, tickless_whole, tickless_first core.taken s.waiting)
 
   door_ends_by_gone : (place : ℕ) (e : SeatState) → place < length doors → EndsByGone (end_at place e).submitted
   door_ends_by_gone place e less =
@@ -128,10 +128,8 @@ module _ {D : Type 0} (at : D → DoorSeen) (settings : Settings) (readings : Li
       let s = a.settled place e below in
       let within : place < settings.seats + 1 = let m = a.many in omega (arith, below) in
       let none : steps_of place s.waiting ≡ [] =
-      none_waits (end_at place e).submitted (steps_of place core.taken) (steps_of place s.waiting) (ends_by_gone place e below)
-      (a.core_done.all_gone place within) s.submitted_is in
-      of_pairs place (without_ticks history) ∙ ap (steps_of place) taken_is
-      ∙ sym (s.submitted_is ∙ ap (λ (xs : List Step). steps_of place core.taken ++ xs) none ∙ append-nil (steps_of place core.taken))
+      none_waits _ _ (steps_of place s.waiting) (ends_by_gone place e below) (a.core_done.all_gone place within) s.submitted_is in
+      grind (arith, of_pairs place (without_ticks history), taken_is, append-nil)
 
   end_of : (place : ℕ) (e : SeatState) → place < length ends → IsEndOf history given core place (end_at place e)
   end_of place e below = grind (arith, submitted_is)
@@ -150,11 +148,7 @@ module _ {D : Type 0} (at : D → DoorSeen) (settings : Settings) (readings : Li
       let e : SeatState = some_of ends place here in
       let s = a.served place d e below in
       let of = end_of place e here in
-      let took = answers_there (λ x. x.taken) ends place e here in
-      record {
-        done = rw (of.submitted_is, took) s.done;
-        answers_are = rw (took, answers_there (λ x. x.waiting) ends place e here) (of.given_is ∙ of.sent_is);
-      }
+      grind (arith, answers_there)
 
   abbrev lines_of : D → List LineOver
   lines_of d = (at d).lines_over
@@ -177,7 +171,7 @@ module _ {D : Type 0} (at : D → DoorSeen) (settings : Settings) (readings : Li
   control_tied =
       let here : settings.seats < length ends = let m = a.many in omega arith in
       let e : SeatState = some_of ends settings.seats here in
-      rw (submitted_is settings.seats e here) (a.control_done e)
+      grind (arith, submitted_is settings.seats e here, a.control_done e)
 
   nobody_else : list_all (λ (e : Entry). nat_le e.seat settings.seats) (without_ticks history) ≡ true
   nobody_else = grind (arith, seats_below, taken_is)
@@ -240,14 +234,9 @@ all_done at gives left may_fail settings doors core core_back core_last firsts l
       core_done = core_done_still settings o.readings core_back core_last machine to still o.done;
       settled = settled;
       served = λ place d e below.
-          let here = kept.each place e (omega (arith, below)) in
-          rw (here.1, here.2, get_or_append_left lasts (last ∷ []) e place (omega (arith, below)))
-          (zipped_at _ doors lasts served.1 place d e below);
-      control_done = λ e.
-          let within : settings.seats < length (lasts ++ last ∷ []) = omega arith in
-          let is : slice_index_or (lasts ++ last ∷ []) settings.seats e ≡ last =
-          ap (λ (n : ℕ). slice_index_or (lasts ++ last ∷ []) n e) (sym many) ∙ last_at lasts last e in
-          rw ((kept.each settings.seats e within).1, is) k.done;
+          let here = get_or_append_left lasts (last ∷ []) e place in
+          grind (arith, kept.each place e, zipped_at _ doors lasts served.1 place d e below);
+      control_done = λ e. grind (arith, kept.each settings.seats e, last_at lasts last e, k.done);
     }
 
 -- There is still a door for each seat.
@@ -255,8 +244,7 @@ pub still_doored : {D : Type 0} (at : D → DoorSeen) (size seats : ℕ) (all fi
     (doors : List D) (first : SeatState)
     → firsts ++ first ∷ [] ≡ all → length all ≡ seats + 1 → AreServed at size firsts lasts doors → length doors ≡ seats
 still_doored at size seats all firsts lasts doors first whole many s =
-    let w : length (firsts ++ first ∷ []) ≡ length all = ap length whole in
-    omega (arith, length-append firsts (first ∷ []), AllZip-long _ firsts lasts s.0, AllZip-long _ doors lasts s.1)
+    grind (arith, length-append firsts (first ∷ []), AllZip-long _ firsts lasts s.0, AllZip-long _ doors lasts s.1)
 
 abbrev pub StepsKeepSettings : Type 0
 StepsKeepSettings = (first last : Machine) (at seat : ℕ) (what : Step) (outcome : Outcome) (given : List GivenAnswer)
@@ -264,10 +252,10 @@ StepsKeepSettings = (first last : Machine) (at seat : ℕ) (what : Step) (outcom
 
 run_keeps : StepsKeepSettings → (first : Machine) (taken : List Transition) (last : Machine) → GoesBy first taken last
     → last.settings ≡ first.settings
-run_keeps law first [] last e = ap (λ (m : Machine). m.settings) e
+run_keeps law first [] last e = grind arith
 run_keeps law first (t ∷ taken) last g =
-    run_keeps law t.last taken last g.2 ∙ law t.first t.last t.entry.moment t.entry.seat t.entry.what t.outcome t.given g.1.step
-    ∙ ap (λ (m : Machine). m.settings) g.0
+    let kept = law t.first t.last t.entry.moment t.entry.seat t.entry.what t.outcome t.given g.1.step in
+    grind (arith, run_keeps law t.last taken last g.2)
 
 -- A run does not change the settings.
 pub run_keeps_settings : StepsKeepSettings → (settings : Settings) (readings : List (Option ℕ)) (history : List Entry)

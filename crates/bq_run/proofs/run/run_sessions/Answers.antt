@@ -1,8 +1,8 @@
-use Rattle.std.proofs.Common.{◌≡◌, ◌∙◌, List, ap, map, vec_len, subst, sym, arith, Err}
+use Rattle.std.proofs.Common.{◌≡◌, ◌∙◌, List, ap, map, vec_len, sym, arith, Err}
 use Rattle.bq_job.specs.declared.settings.Settings.{Settings}
 use Rattle.bq_line.specs.Tending.{door_seen}
 use Rattle.bq_host.specs.declared.fault.RunFault.TheVariants.{BadConfiguration}
-use Rattle.bq_link.specs.EndStates.{CoreState, IsSameCore, SeatState}
+use Rattle.bq_link.specs.EndStates.{SeatState}
 use Rattle.bq_run.specs.ThreadRuns.{IsRunOf}
 use Rattle.bq_run.proofs.LinkedLemmas.{all_done, run_joined, run_keeps_settings, still_doored}
 use Rattle.bq_run.proofs.SettleLemmas.{same_run}
@@ -41,8 +41,7 @@ settled_run-requires-clause-pairs g c =
     let ended = c.in-Ok-serve_posts.ended in
     let posts = c.in-Ok-new_posts.posts in
     back_paired c.in-Ok.core_end ended.core_end c.in-Ok.ends.items (map (λ q. q.end) posts.seats.items) ended.ends.items
-    posts.control.end ended.control_end c.in-Ok.ensures.seats.1 p.ends v.served.0 v.control.same
-    (subst (λ (end : CoreState). IsSameCore end ended.core_end) p.core v.core.same)
+    posts.control.end ended.control_end c.in-Ok.ensures.seats.1 p.ends v.served.0 v.control.same (rw p.core at v.core.same)
 
 pub returns-clause-served : goal.returns-clause-served
 returns-clause-served g c =

@@ -17,11 +17,10 @@ loop-place-preserved c =
     let new = c.settle_one.new in
     let done = c.settle_one.ensures in
     let x = c.index-ends-place.result in
-    let below : l.place < length l.ends = let e = l.auto.ends in let h = c.loop-place-test.true in omega arith in
+    let below : l.place < length l.ends = grind arith in
     let at = pair_at c.args.core.now l.core c.args.ends.now l.ends l.place x c.requires.pairs l.invariant.core l.invariant.ends below in
     record {
-      core = core_still_on c.args.core.now l.core new.core l.invariant.core done.core;
-      ends = still_set c.args.ends.now l.ends l.place x new.end below l.invariant.ends done.end;
-      settled = settled_more l.core new.core l.ends l.place new.end below done.core l.invariant.settled
-          (rw at.0 at done.settled);
+      core = core_still_on _ l.core _ l.invariant.core done.core;
+      ends = still_set _ _ l.place x _ below l.invariant.ends done.end;
+      settled = settled_more l.core _ _ l.place _ below done.core l.invariant.settled (rw at.0 at done.settled);
     }

@@ -6,19 +6,13 @@ use Rattle.bq_run.proofs.run.threads.serve_posts.Goals as goal
 
 pub unzip-ends-requires-clause-ends : goal.unzip-ends-requires-clause-ends
 unzip-ends-requires-clause-ends g c =
-    let seats = c.args.posts.seats in
-    let backs = c.in-Ok-serve_crew_beside.of_seats in
-    let many = AllZip-long _ seats.items backs.items c.in-Ok-serve_crew_beside.ensures.crew in
-    let room = c.in-Ok.ensures.ends in
-    (room.0, (let a = room.1 in let b = c.len.ensures in let d = backs.ok.0 in let e = seats.ok.0 in omega (arith, many)))
+    let many = AllZip-long _ c.args.posts.seats.items c.in-Ok-serve_crew_beside.of_seats.items c.in-Ok-serve_crew_beside.ensures.crew in
+    grind arith
 
 pub unzip-ends-requires-clause-doors : goal.unzip-ends-requires-clause-doors
 unzip-ends-requires-clause-doors g c =
-    let seats = c.args.posts.seats in
-    let backs = c.in-Ok-serve_crew_beside.of_seats in
-    let many = AllZip-long _ seats.items backs.items c.in-Ok-serve_crew_beside.ensures.crew in
-    let room = c.in-Ok.ensures.doors in
-    (room.0, (let a = room.1 in let b = c.len.ensures in let d = backs.ok.0 in let e = seats.ok.0 in omega (arith, many)))
+    let many = AllZip-long _ c.args.posts.seats.items c.in-Ok-serve_crew_beside.of_seats.items c.in-Ok-serve_crew_beside.ensures.crew in
+    grind arith
 
 pub returns-in-Ok-serve_crew_beside-clause-served : goal.returns-in-Ok-serve_crew_beside-clause-served
 returns-in-Ok-serve_crew_beside-clause-served g c =
