@@ -181,7 +181,7 @@ impl<C: Clock + Drop, K: QueueCore + Drop> CoreDriver<C, K> {
         ensures pause { self.new.yielding.pause ≡ self.old.yielding.pause }
         ensures rest { self.new ≡ record self.old { yielding = self.new.yielding } }
     {
-        if !self.sender.has_none(intake) {
+        if !self.sender.end.is_empty(intake) {
             return false;
         }
         self.yielding.is_next()
@@ -237,7 +237,7 @@ impl<C: Clock + Drop, K: QueueCore + Drop> CoreDriver<C, K> {
         ensures on { WorksOn K.QueueCore C.Clock self.old self.new }
         ensures found { FindsWork I.was K.machine self.old self.new result }
     {
-        if self.sender.has_none(intake) {
+        if self.sender.end.is_empty(intake) {
             self.tick_if_due()
         } else {
             self.take_one(rt, intake)
@@ -254,7 +254,7 @@ impl<C: Clock + Drop, K: QueueCore + Drop> CoreDriver<C, K> {
         ensures on { WorksOn K.QueueCore C.Clock self.old self.new }
         ensures found { FindsWork I.was K.machine self.old self.new result }
     {
-        match self.sender.next_step(rt, intake) {
+        match self.sender.end.take(rt, intake) {
             Some(taken) => {
                 self.take_step(taken.0, &taken.1);
                 drop(taken);
@@ -311,7 +311,7 @@ impl<C: Clock + Drop, K: QueueCore + Drop> CoreDriver<C, K> {
         ensures { self.new ≡ self.old }
     {
         for _ in 0..looks {
-            if !self.sender.has_none(intake) {
+            if !self.sender.end.is_empty(intake) {
                 return;
             }
             spin_loop();

@@ -1,17 +1,14 @@
 //! The core's end of the links, with the answers whose rings were full.
 ghost use Rattle.std.specs.Prelude.{◌≡◌, ◌↔◌, ◌<◌, ◌≤◌, ◌+◌, ◌++◌, ◌∷◌, [], length, false, true};
-ghost use Rattle.std.specs.Prelude.{IfNone, IfSome};
 ghost use Rattle.bq_job.specs.promise.Runs.{answers_to};
 ghost use Rattle.bq_link.specs.EndStates.{room_for};
-ghost use Rattle.bq_link.specs.Submissions.{MayTake};
 
 use bq_core_api::Outs;
-use bq_job::{Answer, Seat, Step};
-use bq_link::{CoreEnd, Intake, IntakeInvariant, NoTicks};
+use bq_job::{Answer, Seat};
+use bq_link::{CoreEnd, Intake, NoTicks};
 use std::alloc::Global;
 use std::collections::VecDeque;
 use std::mem;
-use std::sync::Wait;
 
 /// The core's end of the links, and the answers that could not be sent because their rings were
 /// full.
@@ -49,31 +46,6 @@ impl Sender {
             self.send_or_keep(intake, seat, answer);
         }
         false
-    }
-
-    /// Takes the oldest step out of the intake.
-    pub fn next_step<R: Wait, I: IntakeInvariant>(
-        &mut self,
-        rt: &R,
-        intake: &Intake<I>,
-    ) -> Option<(Seat, Step)>
-        requires intake { self.old.end.intake ≡ intake.now.id }
-        requires may { MayTake I.was }
-        ensures taken { IfSome result
-            (λ t. self.new ≡ record self.old { end = record self.old.end { taken = self.old.end.taken ++ t ∷ [] } }) }
-        ensures number { IfSome result (λ t. t.0 < length self.old.end.rings) }
-        ensures none { IfNone result ((self.new ≡ self.old) × I.was self.old.end.taken []) }
-    {
-        self.end.take(rt, intake)
-    }
-
-    /// Returns true if no step waits.
-    pub fn has_none<I: IntakeInvariant>(&mut self, intake: &Intake<I>) -> bool
-        requires intake { self.old.end.intake ≡ intake.now.id }
-        ensures empty { result ≡ true → I.was self.old.end.taken [] }
-        ensures same { self.new ≡ self.old }
-    {
-        self.end.is_empty(intake)
     }
 
     // Tries to send all kept answers. Nearly always there are none, and then nothing is moved.

@@ -12,8 +12,8 @@ returns-in-Some-clause-on g c =
     let t = c.take_step.ensures.taken in
     let old = c.args.self.now in
     let new = c.take_step.new.self in
-    let sender = c.take_step.ensures.sender ∙ c.in-Some.ensures.taken in
-    let end = ap (λ (s : Sender). s.end) sender in
+    let sender = c.take_step.ensures.sender in
+    let end = ap (λ (s : Sender). s.end) sender ∙ c.in-Some.ensures.taken in
     record {
       order = c.take_step.ensures.order;
       end = (ap (λ (e : CoreState). e.intake) end, ap (λ (e : CoreState). e.rings) end);
@@ -31,11 +31,12 @@ returns-in-Some-clause-on g c =
 
 pub returns-in-None-clause-on : goal.returns-in-None-clause-on
 returns-in-None-clause-on g c =
-    rw c.in-None.ensures.none.0 at c.tick_if_due.ensures.on
+    rw c.in-None.ensures.none at c.tick_if_due.ensures.on
 
 pub returns-in-Some-clause-found : goal.returns-in-Some-clause-found
 returns-in-Some-clause-found g c =
-    let sender = c.take_step.ensures.sender ∙ c.in-Some.ensures.taken in (
+    let sender = c.take_step.ensures.sender
+    ∙ ap (λ (e : CoreState). record c.args.self.now.sender { end = e }) c.in-Some.ensures.taken in (
       λ stuck. subst (λ (s : Sender). AreStuck s.end s.kept.items) (sym sender) stuck,
       λ e. absurd cc,
       λ e. absurd cc,
