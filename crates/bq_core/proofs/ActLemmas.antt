@@ -15,7 +15,7 @@ use Rattle.bq_job.specs.machine.{with_job, with_put}
 use Rattle.bq_job.specs.{machine.{with_seat, with_tube}, reading.TubeName.is_same_name}
 use Rattle.bq_jobs.{proofs.Changes.found_id, specs.{JobsSeen.{ComparesAtMost, JobsSeen, with_added}, Searching.Asks, Seen.IsBodyOf}}
 use Rattle.bq_state.{proofs.TubeLemmas.some_left, specs.{Asking.AsksAsChanged, JobChanges.is_passed_by, SeatChanges.AreNumbered}}
-use Rattle.bq_state.specs.{SeatStates.{is_asking, is_connected, is_free}, TubeEntries.{has_entry}}
+use Rattle.bq_state.specs.{SeatStates.{is_asking, is_connected, is_free}, TubeEntries.has_entry, TubesSeen.records}
 use Rattle.bq_state.specs.declared.core_parts.CoreParts.{CoreParts}
 use Rattle.bq_job.specs.declared.answer.Answer.TheVariants as answers
 use Rattle.bq_job.specs.declared.request.Request.TheVariants as requests
@@ -98,7 +98,7 @@ asking_client o h = grind (arith, common_steps)
 
 -- the tube that it uses has an entry
 pub used_has_entry : (st : CoreParts) (seat : ℕ) (s : SeatRecord) → seat_with seat st.seats.items ≡ Some s
-    → is_asking (seat_with seat st.seats.items) ≡ true → has_entry s.used st.store.tubes.entries ≡ true
+    → is_asking (seat_with seat st.seats.items) ≡ true → has_entry s.used (records st.store.tubes) ≡ true
 used_has_entry st seat s found asking = grind (arith, common_steps, found_passes)
 
 pub acts_silent : (m : Machine) (seat : ℕ) (what : Step) (outs : Outbox) (last : Machine)

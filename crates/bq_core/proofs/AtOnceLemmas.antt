@@ -15,7 +15,7 @@ use Rattle.bq_job.specs.machine.{raised, reserved_by, seat_with, silent, waiting
 use Rattle.bq_jobs.specs.{JobsSeen.JobsSeen, Searching.Asks}
 use Rattle.bq_state.proofs.{PartsLemmas.numbered_after, WantedLemmas.{known_nothing, known_of_seat, none_known}}
 use Rattle.bq_state.specs.{Asking.{AsksAsChanged, AsksWithin}, CoreParts.{machine_of}, Offers.with_offer}
-use Rattle.bq_state.specs.{WantedJobs.{AreKnown, is_nothing}, declared.core_parts.CoreParts.CoreParts}
+use Rattle.bq_state.specs.{TubesSeen.records, WantedJobs.{AreKnown, is_nothing}, declared.core_parts.CoreParts.CoreParts}
 use Rattle.bq_state.specs.declared.{known.wanted.Wanted.TheVariants.{Client, Nothing}, seats.SeatChange.TheVariants.Wait}
 use Rattle.bq_job.specs.declared.answer.Answer.TheVariants as answers
 use Rattle.bq_job.specs.declared.request.Request.TheVariants as requests
@@ -75,7 +75,7 @@ module _ (st : CoreParts) (seat : ℕ) (what : Step) (r : Reserves st seat what)
 
   -- what its tubes offer is the next job
   next : (id : ℕ) → Some id ≡ option_map (λ (r : ℕ × ℕ). r.1)
-      (fold (with_offer st.store.jobs.jobs st.store.tubes.entries) None r.client.watched)
+      (fold (with_offer st.store.jobs.jobs (records st.store.tubes)) None r.client.watched)
       → Some id ≡ option_map (λ j. j.id) (next_job then_waits)
   next id first = first ∙ ap (option_map (λ (r : ℕ × ℕ). r.1)) (next_offer st (client ∷ []) ∙ sym (client_waits then_waits seat _
       (numbered_after seat (Wait (raised st.tickets) r.until) _ st.sound.numbered) found known)) ∙ id_of_best (next_job then_waits)

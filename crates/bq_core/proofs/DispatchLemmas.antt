@@ -2,16 +2,16 @@
 use Rattle.std.proofs.Common.{Bool, List, None, Option, Some, [], ap, arith, false, if◌then◌else◌, is_some, not, refl, sym, true, ℕ, ◌&&◌}
 use Rattle.std.proofs.{Common.{◌||◌, ◌∙◌, ◌∷◌, ◌≡◌}, Math.Bool.{or-false, or_assoc}, lemmas.{Bool.cases_Bool, Grind.common_steps}}
 use Rattle.std.specs.{List.{AllByRecursion as All, list_any}, Prelude.{IfOk, Result, fold, option_map}}
-use Rattle.bq_core.{proofs.FiredTimerLemmas.chosen, specs.HandOuts.IsPicked}
 use Rattle.bq_job.proofs.{ChoiceLemmas.{first_of_agrees, first_of_contains}, ComputedLemmas.{next_has_seat, next_seat_waits}}
 use Rattle.bq_job.{proofs.{ListLemmas.{all_always, all_at}, WatchedLemmas.same_other}, specs.beside.AreIdsWithin}
-use Rattle.bq_job.specs.{declared.{fault.NoMemory.NoMemory, job.Job.Job}, machine.{Machine.Machine, SeatRecord, better_of, first_of}}
-use Rattle.bq_job.specs.machine.{is_job_before, is_paused, is_ready, is_ready_in, is_wait_before, is_waiting, is_waiting_for, job_with}
-use Rattle.bq_job.specs.{machine.{may_have, next_job, next_seat}, reading.TubeName.is_same_name}
+use Rattle.bq_job.specs.{declared.{fault.NoMemory.NoMemory, job.Job.Job}, machine.{SeatRecord, better_of, first_of, is_job_before}}
+use Rattle.bq_job.specs.machine.{is_paused, is_ready, is_ready_in, is_wait_before, is_waiting, is_waiting_for, job_with, may_have, next_job}
+use Rattle.bq_job.specs.{machine.{Machine.Machine, next_seat}, reading.TubeName.is_same_name}
 use Rattle.bq_jobs.specs.{JobsSeen.ranked, Seen.{IsBodyOf, IsTubeOf}}
 use Rattle.bq_state.{proofs.TubeLemmas.{paused_is, same_itself, same_name}, specs.{CoreParts.machine_of, Offers.{better_rank, offered}}}
-use Rattle.bq_state.specs.{Offers.{waits_at, with_offer, with_offers}, WantedJobs.AreKnown, declared.core_parts.CoreParts.CoreParts}
-use Rattle.bq_state.specs.declared.known.wanted.Wanted.TheVariants.{Client, Tube}
+use Rattle.bq_state.specs.{Offers.{waits_at, with_offer, with_offers}, TubesSeen.records, WantedJobs.AreKnown}
+use Rattle.bq_state.specs.declared.{core_parts.CoreParts.CoreParts, known.wanted.Wanted.TheVariants.{Client, Tube}}
+use Rattle.bq_core.{proofs.FiredTimerLemmas.chosen, specs.HandOuts.IsPicked}
 
 -- neither the order of offers nor how they are grouped matters, and the same offer counts once
 pub ranks_swap : (b x y : Option (ℕ × ℕ)) → better_rank (better_rank b x) y ≡ better_rank (better_rank b y) x
@@ -85,38 +85,38 @@ module _ (st : CoreParts) where
   abbrev paused : List ℕ → Bool
   paused name = is_paused name (machine_of st)
 
-  pub offered_is : (name : List ℕ) → offered st.store.jobs.jobs st.store.tubes.entries name
+  pub offered_is : (name : List ℕ) → offered st.store.jobs.jobs (records st.store.tubes) name
       ≡ best_of st.store.jobs.jobs (offers (λ name. is_paused name (machine_of st)) name)
   offered_is name = grind (
     arith,
     common_steps,
-    paused_is name st.store.tubes.entries st.sound.entries.order st.sound.entries.fresh,
+    paused_is name (records st.store.tubes) st.sound.entries.order st.sound.entries.fresh,
     only_if jobs (not (paused name)) (is_ready_in name),
   )
 
   with_names : (names : List (List ℕ)) (p : Job → Bool)
-      → fold (with_offer jobs st.store.tubes.entries) (best_of jobs p) names ≡ best_of jobs (λ j. p j || ready_among paused names j)
+      → fold (with_offer jobs (records st.store.tubes)) (best_of jobs p) names ≡ best_of jobs (λ j. p j || ready_among paused names j)
   with_names [] p = grind (arith, common_steps, agreed_all)
-  with_names (name ∷ names) p = ap (λ b. fold (with_offer jobs st.store.tubes.entries) b names)
+  with_names (name ∷ names) p = ap (λ b. fold (with_offer jobs (records st.store.tubes)) b names)
       (ap (better_rank (best_of jobs p)) (offered_is name) ∙ joined jobs p (offers paused name))
       ∙ with_names names (λ j. p j || offers paused name j) ∙ agreed_all jobs _ _ (one_more_name paused name names p)
 
   with_seat_at : (s : SeatRecord) (p : Job → Bool) (b : Bool)
-      → (if b then fold (with_offer jobs st.store.tubes.entries) (best_of jobs p) s.watched else best_of jobs p) ≡ best_of jobs
+      → (if b then fold (with_offer jobs (records st.store.tubes)) (best_of jobs p) s.watched else best_of jobs p) ≡ best_of jobs
       (λ j. p j || (b && may_have (machine_of st) s j))
   with_seat_at s p true = with_names s.watched p
   with_seat_at s p false = agreed_all jobs _ _ (λ j. sym (or-false (p j)))
 
-  with_seats : (seats : List SeatRecord) (p : Job → Bool) → fold (with_offers jobs st.store.tubes.entries) (best_of jobs p) seats
+  with_seats : (seats : List SeatRecord) (p : Job → Bool) → fold (with_offers jobs (records st.store.tubes)) (best_of jobs p) seats
       ≡ best_of jobs
       (λ j. p j || list_any (is_waiting_for (machine_of st) j) seats)
   with_seats [] p = agreed_all jobs _ _ (λ j. sym (or-false (p j)))
-  with_seats (s ∷ seats) p = ap (λ o. fold (with_offers jobs st.store.tubes.entries) o seats) (with_seat_at s p (is_waiting s))
+  with_seats (s ∷ seats) p = ap (λ o. fold (with_offers jobs (records st.store.tubes)) o seats) (with_seat_at s p (is_waiting s))
       ∙ with_seats seats (λ j. p j || is_waiting_for (machine_of st) j s) ∙ agreed_all jobs _ _ (λ j. or_assoc (p j) _ _)
 
-  pub next_offer : (seats : List SeatRecord) → fold (with_offers st.store.jobs.jobs st.store.tubes.entries) None seats
+  pub next_offer : (seats : List SeatRecord) → fold (with_offers st.store.jobs.jobs (records st.store.tubes)) None seats
       ≡ best_of st.store.jobs.jobs (λ j. list_any (is_waiting_for (machine_of st) j) seats)
-  next_offer seats = ap (λ o. fold (with_offers jobs st.store.tubes.entries) o seats) (only_if jobs false (λ _. true))
+  next_offer seats = ap (λ o. fold (with_offers jobs (records st.store.tubes)) o seats) (only_if jobs false (λ _. true))
       ∙ with_seats seats (λ _. false)
 
 -- the id of the best one

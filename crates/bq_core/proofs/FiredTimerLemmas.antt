@@ -13,7 +13,7 @@ use Rattle.bq_job.specs.{declared.job.{Job.Job, JobState.JobState}, machine.{Mac
 use Rattle.bq_job.specs.machine.{greatest, in_state, is_delayed, is_due, is_due_before, is_ending_lease, is_expired, is_held_by, is_holder}
 use Rattle.bq_job.specs.machine.{is_pair_before, is_reserved, is_wait_before, is_waiting, job_after_timers, job_with, next_end, with_job}
 use Rattle.bq_jobs.{proofs.Changes.{found_by_id, none_changed, others_above}, specs.{JobsSeen.ranked, Leases.deadline_of}}
-use Rattle.bq_state.specs.{Store.StoreSeen, TubeEntries.counted}
+use Rattle.bq_state.specs.{Store.StoreSeen, TubeEntries.counted, TubesSeen.records}
 use Rattle.bq_jobs.specs.Leases.{is_lease_before}
 use Rattle.bq_state.specs.{CoreParts.{Fields, OnlyCompares, count_jobs, machine_of, machine_of_fields}, EndingWaits.has_waited}
 use Rattle.bq_state.specs.{EndingWaits.{is_lease_short, is_soon}, declared.core_parts.CoreParts.CoreParts}
@@ -190,12 +190,12 @@ module _ (state : JobState) (seat : ℕ) (old new : CoreParts) (kept : StoreSeen
     (same : kept ≡ record old.store { jobs = record old.store.jobs { comparisons = kept.jobs.comparisons } })
     (after : machine_of new ≡ with_job id (in_state state) (record (machine_of old) {
       jobs = kept.jobs.jobs;
-      tubes = counted kept.tubes.entries;
+      tubes = counted (records kept.tubes);
     })) where
   gives : machine_of new ≡ with_job id (in_state state) (machine_of old)
   gives = after ∙ ap (λ (k : StoreSeen). with_job id (in_state state) (record (machine_of old) {
     jobs = k.jobs.jobs;
-    tubes = counted k.tubes.entries;
+    tubes = counted (records k.tubes);
   })) same
 
   one : Chosen (is_held_by seat) is_lease_before old.store.jobs.jobs id

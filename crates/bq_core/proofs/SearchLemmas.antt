@@ -6,7 +6,7 @@ use Rattle.bq_core.proofs.{AskLemmas.asks_more, DispatchLemmas.{agreed, best_of,
 use Rattle.bq_job.{proofs.{KeptLemmas.only_seat, ListLemmas.{all_at, all_weaker, found_passes, list_any_with}}, specs.declared.job.Job.Job}
 use Rattle.bq_job.specs.machine.{Machine.Machine, SeatRecord, is_paused, is_ready, is_waiting_for, seat_with}
 use Rattle.bq_job.specs.reading.TubeName.{is_same_name}
-use Rattle.bq_state.proofs.{ClientLemmas.some_pass, CrowdPlaces.crowd_there, TubeLemmas.same_name, WarningLemmas.none_found}
+use Rattle.bq_state.proofs.{ClientLemmas.some_pass, CountedLemmas.crowd_there, TubeLemmas.same_name, WarningLemmas.none_found}
 use Rattle.bq_state.specs.{Cost.waited_tubes, Crowds.is_waiter, Offers.{is_waited_at, next_rank, these}, SeatChanges.AreNumbered}
 use Rattle.bq_state.specs.{WantedJobs.{AreKnown, IsKnown}, declared.core_parts.CoreParts.CoreParts}
 use Rattle.bq_state.specs.declared.known.wanted.Wanted.TheVariants.{Client, Tube}
@@ -58,7 +58,10 @@ tube_entries seats name h = grind (arith, common_steps, cases_Bool, some_passes,
 
 -- the tube's count decides whether a client waits for its jobs
 pub counted_there : (name : List ℕ) (st : CoreParts) → is_waited_at name st.store.tubes ≡ list_any (is_waiter name) st.seats.items
-counted_there name st = grind (arith, common_steps, crowd_there, some_pass)
+counted_there name st =
+    let there = crowd_there name st.store.tubes st.store.jobs.jobs st.seats.items st.sound.counts st.sound.entries.of_seats st.sound.seated
+    in
+    grind (arith, common_steps, there, some_pass)
 
 -- what a search for the next job finds, and how many searches it makes
 pub ruleset offers_found = (asks_more, client_entries, counted_there, next_offer, tube_entries)

@@ -6,7 +6,7 @@ use Rattle.bq_job.specs.{declared.{request.Request.Request, step.Step.Step}, mac
 use Rattle.bq_job.specs.machine.{Machine.Machine, job_with, reserved_by, seat_with, waiting_from, with_job, with_seat}
 use Rattle.bq_jobs.specs.{JobsSeen.JobsSeen, Searching.Asks, Seen.IsBodyOf}
 use Rattle.bq_state.specs.{Asking.AsksWithin, CoreParts.{AtSeat, machine_of}, Cost.waited, Offers.with_offer, SeatStates.is_asking}
-use Rattle.bq_state.specs.WantedJobs.{is_nothing}
+use Rattle.bq_state.specs.{TubesSeen.records, WantedJobs.is_nothing}
 use Rattle.bq_state.specs.declared.core_parts.CoreParts.{CoreParts}
 use Rattle.bq_job.specs.declared.request.Request.TheVariants as requests
 use Rattle.bq_job.specs.declared.step.Step.TheVariants as steps
@@ -34,7 +34,7 @@ pub record IsHandedOver (seat id : ℕ) (body : List ℕ) (old new : CoreParts) 
 pub record TakesAtOnce (seat : ℕ) (what : Step) (id : ℕ) (body : List ℕ) (old new : CoreParts) : Type 0 where
   pub may : may_take seat what old ≡ true
   pub job : AtSeat seat old (λ s. Some id ≡ option_map (λ r. r.1)
-      (fold (with_offer old.store.jobs.jobs old.store.tubes.entries) None s.watched))
+      (fold (with_offer old.store.jobs.jobs (records old.store.tubes)) None s.watched))
   pub body_is : IsBodyOf (job_with id (machine_of old).jobs) body
   pub after : machine_of new ≡ record (with_job id (reserved_by old.moment seat) (machine_of old)) { tickets = raised old.tickets }
   pub asks : AtSeat seat old (λ s. Asks (length s.watched + 7) old.store.jobs new.store.jobs)

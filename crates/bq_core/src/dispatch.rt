@@ -11,7 +11,7 @@ ghost use Rattle.bq_jobs.specs.{Searching.Asks, Seen.IsBodyOf};
 ghost use Rattle.bq_state.specs.{Asking.AsksByTurn, CoreParts.{AtSeat, machine_of}, Cost.{waited, waited_tubes}, Keeping.{OnlySearches, SearchesStore}};
 ghost use Rattle.bq_state.specs.Offers.{better_rank, is_waited_at, next_rank, offered, these, with_offer, with_offers};
 ghost use Rattle.bq_state.specs.{SeatChanges.AreNumbered, WaitingList.{by_seat, waited_at, waiters_of}};
-ghost use Rattle.bq_state.specs.WantedJobs.{is_nothing};
+ghost use Rattle.bq_state.specs.{TubesSeen.records, WantedJobs.is_nothing};
 ghost use Rattle.bq_job.specs.declared.answer.Answer.TheVariants as answers;
 
 use crate::{acts, answering};
@@ -52,7 +52,7 @@ fn better(best: Option<Offer>, other: Option<Offer>) -> Option<Offer>
 
 // Returns the most urgent ready job in the tube, unless the tube is paused.
 fn offer_of(store: &mut Store, tube: &Tube) -> Option<Offer>
-    ensures offer { result ≡ offered store.old.jobs.jobs store.old.tubes.entries tube.now }
+    ensures offer { result ≡ offered store.old.jobs.jobs (records store.old.tubes) tube.now }
     ensures kept { SearchesStore 1 store.old store.new }
 {
     if store.is_paused(tube.name(), tube.number()) {
@@ -65,7 +65,7 @@ fn offer_of(store: &mut Store, tube: &Tube) -> Option<Offer>
 /// Returns the best of this job and those that these tubes offer.
 #[inline(always)]
 pub(crate) fn best_among(store: &mut Store, watched: &[Tube], first: Option<Offer>) -> Option<Offer>
-    ensures best { result ≡ fold (with_offer store.old.jobs.jobs store.old.tubes.entries) first watched.now }
+    ensures best { result ≡ fold (with_offer store.old.jobs.jobs (records store.old.tubes)) first watched.now }
     ensures kept { SearchesStore (length watched.now) store.old store.new }
 {
     let mut best = first;
@@ -77,7 +77,7 @@ pub(crate) fn best_among(store: &mut Store, watched: &[Tube], first: Option<Offe
 
 // Returns the best of this job and those that the client waits for.
 fn best_for(store: &mut Store, client: &SeatRecord, first: Option<Offer>) -> Option<Offer>
-    ensures best { result ≡ with_offers store.old.jobs.jobs store.old.tubes.entries first client.now }
+    ensures best { result ≡ with_offers store.old.jobs.jobs (records store.old.tubes) first client.now }
     ensures kept { SearchesStore (waited_tubes client.now) store.old store.new }
 {
     if client.is_waiting() {
@@ -92,7 +92,7 @@ fn best_for(store: &mut Store, client: &SeatRecord, first: Option<Offer>) -> Opt
 fn offer_to(store: &mut Store, tube: &Tube) -> Option<Offer>
     ensures offer { result
         ≡ (if is_waited_at tube.now store.old.tubes
-        then offered store.old.jobs.jobs store.old.tubes.entries tube.now else None) }
+        then offered store.old.jobs.jobs (records store.old.tubes) tube.now else None) }
     ensures kept { SearchesStore (if is_waited_at tube.now store.old.tubes then 1 else 0) store.old store.new }
 {
     if store.crowd_of(tube.name(), tube.number()).waiting > 0 {
@@ -113,7 +113,7 @@ fn best_of_client(
 ) -> Option<Offer>
     requires numbered { AreNumbered seats.now }
     ensures best { result
-        ≡ fold (with_offers store.old.jobs.jobs store.old.tubes.entries) first
+        ≡ fold (with_offers store.old.jobs.jobs (records store.old.tubes)) first
         (these (seat_with seat seats.now)) }
     ensures kept { SearchesStore (sum_by waited_tubes (these (seat_with seat seats.now))) store.old store.new }
 {
@@ -128,7 +128,7 @@ fn best_of_client(
 fn best_of_waiters(store: &mut Store, seats: &[SeatRecord], waiters: &[Waiter]) -> Option<Offer>
     requires numbered { AreNumbered seats.now }
     ensures best { result
-        ≡ fold (by_seat (with_offers store.old.jobs.jobs store.old.tubes.entries) seats.now) None waiters.now }
+        ≡ fold (by_seat (with_offers store.old.jobs.jobs (records store.old.tubes)) seats.now) None waiters.now }
     ensures kept { SearchesStore (sum_by (waited_at seats.now) waiters.now) store.old store.new }
 {
     let mut best = None;
@@ -143,7 +143,7 @@ fn best_of_waiters(store: &mut Store, seats: &[SeatRecord], waiters: &[Waiter]) 
 fn best_offer(store: &mut Store, seats: &[SeatRecord], waiters: &[Waiter]) -> Option<Offer>
     requires numbered { AreNumbered seats.now }
     requires waiters { waiters.now ≡ waiters_of seats.now }
-    ensures best { result ≡ fold (with_offers store.old.jobs.jobs store.old.tubes.entries) None seats.now }
+    ensures best { result ≡ fold (with_offers store.old.jobs.jobs (records store.old.tubes)) None seats.now }
     ensures kept { SearchesStore (sum_by waited_tubes seats.now) store.old store.new }
 {
     best_of_waiters(store, seats, waiters)
@@ -364,7 +364,7 @@ fn may_take(state: &CoreParts, seat: Seat, what: &Step) -> bool
 fn job_at_once(state: &mut CoreParts, seat: Seat, what: &Step) -> Option<JobId>
     ensures may { IfSome result (λ _. may_take seat what.now state.old ≡ true) }
     ensures job { IfSome result (λ id. AtSeat seat state.old (λ s. Some id
-        ≡ option_map (λ r. r.1) (fold (with_offer state.old.store.jobs.jobs state.old.store.tubes.entries) None s.watched))) }
+        ≡ option_map (λ r. r.1) (fold (with_offer state.old.store.jobs.jobs (records state.old.store.tubes)) None s.watched))) }
     ensures few { IfSome result (λ _. AtSeat seat state.old (λ s. Asks (length s.watched) state.old.store.jobs state.new.store.jobs)) }
     ensures kept { OnlySearches 8 state.old state.new }
 {

@@ -5,7 +5,7 @@ ghost use Rattle.bq_job.specs.machine.{Changes.seat_with, JobCommands.{bury_effe
 ghost use Rattle.bq_job.specs.machine.JobCommands.{kick_job_effect, new_job as job_of_put, release_effect, reserve_job_effect};
 ghost use Rattle.bq_job.specs.machine.{JobCommands.touch_effect, Limits.later as later_by, Machine.SeatRecord};
 ghost use Rattle.bq_jobs.specs.Numbering.{HasNumber};
-ghost use Rattle.bq_state.specs.{Asking.AsksAsChanged, CoreParts.machine_of, SeatStates.is_asking, TubeEntries.has_entry};
+ghost use Rattle.bq_state.specs.{Asking.AsksAsChanged, CoreParts.machine_of, SeatStates.is_asking, TubeEntries.has_entry, TubesSeen.records};
 ghost use Rattle.bq_job.specs.declared.answer.Answer.TheVariants as answers;
 ghost use Rattle.bq_job.specs.declared.request.Request.TheVariants as requests;
 ghost use Rattle.bq_job.specs.declared.step.Step.TheVariants as steps;
@@ -55,7 +55,7 @@ fn new_job(state: &CoreParts, id: JobId, tube: &Tube, new: NewJob, body: Body) -
 
 // Returns the number of a tube that has an entry.
 fn number_of(state: &CoreParts, tube: &Tube) -> TubeNumber
-    requires { has_entry tube.now state.now.store.tubes.entries ≡ true }
+    requires { has_entry tube.now (records state.now.store.tubes) ≡ true }
     ensures { HasNumber tube.now result state.now.store.tubes.numbers }
 {
     state.store.number_of(tube.name(), tube.number()).unwrap()

@@ -58,15 +58,15 @@ pub(crate) fn stats_job(
 }
 
 // Returns the statistics of the tube with this name.
-#[tactic(auto, using(bq_state::proofs::NameLemmas::lent_or, bq_state::proofs::NameLemmas::record_of_entry))]
+#[tactic(auto, using(bq_state::proofs::NameLemmas::lent_or))]
 fn tube_numbers(state: &CoreParts, tube: &TubeName, hint: TubeNumber) -> TubeNumbers
     ensures { AreOfTube result tube.now (machine_of state.now) }
 {
     let fresh = TubeEntry::new();
-    let entry = state.store.entry_of(tube, hint).unwrap_or(&fresh);
-    let crowd = state.crowd_at(tube, hint);
+    let entry = state.entry_of(tube, hint).unwrap_or(&fresh);
+    let crowd = entry.crowd();
     TubeNumbers {
-        jobs: state.tally_in(tube, hint),
+        jobs: entry.tally(),
         puts: entry.puts(),
         using: crowd.using,
         watching: crowd.watching,

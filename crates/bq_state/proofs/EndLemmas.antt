@@ -5,12 +5,11 @@ use Rattle.std.specs.{Option.option_map, Ordering.is_gt, Prelude.{fold, nat_le, 
 use Rattle.bq_index.specs.{Catalog.CatalogSeen, Order.InOrder}
 use Rattle.bq_job.{proofs.ListLemmas.{all_from_members, list_any_with}, specs.{beside.{dues_of_pause, earliest}, machine.TubeRecord}}
 use Rattle.bq_job.specs.reading.TubeName.{is_same_name}
-use Rattle.bq_jobs.proofs.{Choice.{from_least, lookup_inserted, lookup_removed}, Firsts.name_ties}
-use Rattle.bq_jobs.specs.{JobsSeen.JobsSeen, Table.Tabled}
-use Rattle.bq_state.{proofs.TubeLemmas.same_itself, specs.Dues.{first_pause_end, is_end_over, with_tube_due}}
-use Rattle.bq_state.specs.PauseEnds.{AreEnds, Ends, end_cmp, end_total, first_end}
-use Rattle.bq_state.specs.{Store.{StoreSeen, store_seen}, TubesSeen.{EntrySeen, record_at}}
-use Rattle.bq_state.specs.PauseEnds.{found_end, has_end, if_over, is_end_in, number_at, with_end, without_end}
+use Rattle.bq_jobs.{proofs.{Choice.{from_least, lookup_inserted, lookup_removed}, Firsts.name_ties}, specs.JobsSeen.JobsSeen}
+use Rattle.bq_jobs.specs.Table.{Tabled}
+use Rattle.bq_state.{proofs.TubeLemmas.same_itself, specs.{Dues.{first_pause_end, is_end_over, with_tube_due}, PauseEnds.{AreEnds, Ends}}}
+use Rattle.bq_state.specs.PauseEnds.{end_cmp, end_total, first_end, found_end, has_end, if_over, is_end_in, number_at, with_end}
+use Rattle.bq_state.specs.{PauseEnds.without_end, Store.{StoreSeen, store_seen}, TubesSeen.{EntrySeen, record_at, records}}
 use Rattle.bq_state.specs.declared.tubes.pauses.PauseEnd.{PauseEnd}
 
 -- lookups of an end after one was removed or added
@@ -96,5 +95,5 @@ module _ (kept : Tabled EntrySeen) (ends : CatalogSeen PauseEnd (Unit {0})) (h :
 
   -- The first of the ends is the first end of a pause, as contracts see the tubes.
   pub first_seen : (rows : JobsSeen) (k : StoreSeen) (r : Option ℕ) → r ≡ option_map (λ e. e.until) (first_end ends.entries)
-      → store_seen rows kept ≡ k → r ≡ first_pause_end k.tubes.entries
+      → store_seen rows kept ≡ k → r ≡ first_pause_end (records k.tubes)
   first_seen rows k r is seen = grind (arith, first_is)

@@ -1,34 +1,31 @@
 -- How the ends of pauses change when a pause changes, or a tube is added or removed.
-use Rattle.std.proofs.Common.{List, None, Option, Some, [], ap, arith, cond, false, if◌then◌else◌, is_some, length, map, refl, sym, true, ℕ}
-use Rattle.std.proofs.Common.{◌+◌, ◌<◌, ◌∙◌, ◌∷◌, ◌≡◌, ◌≤◌, ◌⊎◌, subst, rules}
-use Rattle.std.proofs.lemmas.{Bool.or_parts, Cmp.nat_list_eq_equiv, Grind.common_steps, List.length-map}
-use Rattle.std.specs.{BTreeMap.insert_entry, Cmp.Lexicographic.{nat_list_cmp_total, slice_cmp}}
-use Rattle.std.specs.List.{AllByRecursion as All, Sorted.IsStrictlySortedBy, list_any}
-use Rattle.std.specs.{Map.{keys_of, lookup, remove_entry}, Option.{ForSome, option_map}, Ordering.nat_cmp, Prelude.{count_by, nat_le, ◌&&◌}}
+use Rattle.std.proofs.Common.{List, None, Option, Some, [], ap, arith, cond, false, if◌then◌else◌, is_some, length, map, refl, rules, subst}
+use Rattle.std.proofs.{Common.{sym, true, ℕ, ◌+◌, ◌<◌, ◌∙◌, ◌∷◌, ◌≡◌, ◌≤◌, ◌⊎◌}, lemmas.{Bool.or_parts, Cmp.nat_list_eq_equiv}}
+use Rattle.std.{proofs.lemmas.{Grind.common_steps, List.length-map}, specs.{BTreeMap.insert_entry, Cmp.Lexicographic.nat_list_cmp_total}}
+use Rattle.std.specs.{Cmp.Lexicographic.slice_cmp, List.{AllByRecursion as All, Sorted.IsStrictlySortedBy, list_any}, Map.{keys_of, lookup}}
+use Rattle.std.specs.{Map.remove_entry, Option.{ForSome, option_map}, Ordering.nat_cmp, Prelude.{count_by, nat_le, ◌&&◌}}
 use Rattle.bq_index.{proofs.Order.{length_inserted, length_lost, order_remove}, specs.{Catalog.CatalogSeen, Order.InOrder}}
-use Rattle.bq_job.proofs.ListLemmas.{all_weaker, list_any_not}
-use Rattle.bq_job.specs.machine.{Pause, TubeRecord, fresh_tube, pause_after_timers, with_record}
-use Rattle.bq_job.specs.reading.TubeName.{is_same_name}
-use Rattle.bq_jobs.{proofs.Choice.lookup_removed, specs.{Names.number_in, Numbering.{Numbering, number_of}, Table.Tabled}}
-use Rattle.bq_jobs.specs.JobsSeen.{JobsSeen}
-use Rattle.bq_state.proofs.EndLemmas.{has_entered, has_left, one_over}
-use Rattle.bq_state.proofs.NamedLemmas.{edit_same, found_any, found_entry, have_numbers, in_order, ties}
+use Rattle.bq_job.{proofs.ListLemmas.{all_weaker, list_any_not}, specs.machine.{Pause, TubeRecord, fresh_tube, pause_after_timers}}
+use Rattle.bq_job.specs.{machine.with_record, reading.TubeName.is_same_name}
+use Rattle.bq_jobs.{proofs.Choice.lookup_removed, specs.{JobsSeen.JobsSeen, Names.number_in, Numbering.{Numbering, number_of}}}
+use Rattle.bq_jobs.specs.Table.{Tabled}
+use Rattle.bq_state.proofs.{EndLemmas.{has_entered, has_left, one_over}, NamedLemmas.{found_any, found_entry, have_numbers, in_order, ties}}
 use Rattle.bq_state.proofs.{NumberLemmas.{number_inserted, number_left, number_read}, TubeLemmas.{before_differs, same_itself, same_name}}
-use Rattle.bq_state.specs.TubesSeen.{EntrySeen, Named, edited_at, ended, entry_changed, is_named_at, record_at, record_of, records_ended}
 use Rattle.bq_state.specs.PauseEnds.{AreEnds, AreTold, Ends, IsTold, end_cmp, end_of, ends_at, first_end, found_end, has_end, if_over}
 use Rattle.bq_state.specs.PauseEnds.{is_end_in, is_paused, number_at, pause_at, pause_in, paused_count, with_end, without_end}
-use Rattle.bq_state.specs.{Store.AreStored, TubeEntries.{AreInOrder, has_entry}}
+use Rattle.bq_state.specs.{Store.AreStored, TubeEntries.{AreInOrder, has_entry}, TubesSeen.{EntrySeen, Named, edited_at, ended}}
+use Rattle.bq_state.specs.TubesSeen.{entry_changed, is_named_at, record_at, record_of, with_ended}
 use Rattle.bq_state.specs.declared.tubes.{entry.TubeChange.{TheVariants.{CountDelete, CountPut}, TubeChange}, pauses.PauseEnd.PauseEnd}
 
-abbrev records : Tabled EntrySeen → List TubeRecord
-records kept = map record_at kept.entries
+abbrev records_in : Tabled EntrySeen → List TubeRecord
+records_in kept = map record_at kept.entries
 
 -- At most the pause of the tube with this number changes.
 pub record Moves (number : List ℕ) (from to : Option Pause) (kept last : Tabled EntrySeen) : Type 0 where
-  pub was : (until : ℕ) → is_end_in kept.tubes.numbers (record { until = until; number = number }) (records kept) ≡ ends_at until from
-  pub is : (until : ℕ) → is_end_in last.tubes.numbers (record { until = until; number = number }) (records last) ≡ ends_at until to
+  pub was : (until : ℕ) → is_end_in kept.tubes.numbers (record { until = until; number = number }) (records_in kept) ≡ ends_at until from
+  pub is : (until : ℕ) → is_end_in last.tubes.numbers (record { until = until; number = number }) (records_in last) ≡ ends_at until to
   pub others : (q : PauseEnd) → is_same_name number q.number ≡ false
-      → is_end_in last.tubes.numbers q (records last) ≡ is_end_in kept.tubes.numbers q (records kept)
+      → is_end_in last.tubes.numbers q (records_in last) ≡ is_end_in kept.tubes.numbers q (records_in kept)
   pub count : paused_count last.entries + cond (is_some from) 1 0 ≡ paused_count kept.entries + cond (is_some to) 1 0
   pub fewer : length last.entries ≤ length kept.entries
 
@@ -113,6 +110,10 @@ module _ (name : List ℕ) (f : EntrySeen → EntrySeen) where
     told_edited [] told = tt
     told_edited (x ∷ es) told = grind (arith, told_edited es told.1)
 
+  names_edited : (es : List Named) → keys_of (edited_at name f es) ≡ keys_of es
+  names_edited [] = refl
+  names_edited (x ∷ es) = grind (arith, names_edited es)
+
   count_edited : (es : List Named)
       → paused_count (edited_at name f es) + cond (is_some (pause_at name (map record_at es))) 1 0
       ≡ paused_count es + cond (is_some (pause_at name (map record_at (edited_at name f es)))) 1 0
@@ -121,7 +122,7 @@ module _ (name : List ℕ) (f : EntrySeen → EntrySeen) where
 
   module _ (kept last : Tabled EntrySeen) (n : last.tubes ≡ kept.tubes) (e : last.entries ≡ edited_at name f kept.entries) where
     same_names : keys_of last.entries ≡ keys_of kept.entries
-    same_names = ap keys_of e ∙ edit_same name f (λ x. x.0) (λ x. refl) kept.entries
+    same_names = ap keys_of e ∙ names_edited kept.entries
 
     as_many : length last.entries ≡ length kept.entries
     as_many = grind (arith, length-map, same_names)
@@ -240,7 +241,7 @@ count_stays name what kept last ends counts n e h =
 
 -- A pause that is due ends.
 module _ (moment : ℕ) (name : List ℕ) where
-  one_after : (es : List Named) → records_ended moment (edited_at name (ended moment) es) ≡ records_ended moment es
+  one_after : (es : List Named) → with_ended moment (edited_at name (ended moment) es) ≡ with_ended moment es
   one_after [] = refl
   one_after (x ∷ es) = grind (arith, common_steps, one_after es)
 
@@ -266,7 +267,7 @@ module _ (moment : ℕ) (e : PauseEnd) (name : List ℕ) (kept last : Tabled Ent
     (edit : last.entries ≡ edited_at name (ended moment) kept.entries) where
   over_from : Some e ≡ end_of (number_at name kept.tubes.numbers) (pause_at name (map record_at kept.entries))
   over_from =
-      let ended = rw (← own) at (named_ends name kept.tubes.numbers e.until (records kept) (in_order kept.entries order) (told name)) in
+      let ended = rw (← own) at (named_ends name kept.tubes.numbers e.until (records_in kept) (in_order kept.entries order) (told name)) in
       rw (← own) (from_at e.until e.number _ (sym ended ∙ sym (h.known e) ∙ (one_over moment e ends.entries come).0))
 
   over_to : None ≡ end_of (number_at name kept.tubes.numbers) (pause_at name (map record_at last.entries))
@@ -286,5 +287,5 @@ module _ (moment : ℕ) (e : PauseEnd) (name : List ℕ) (kept last : Tabled Ent
       (Some e) None h over_moves over_from over_to
       left (λ _ _. s) spare mid refl (omega arith)
 
-  pub over_records : records_ended moment last.entries ≡ records_ended moment kept.entries
-  over_records = ap (records_ended moment) edit ∙ one_after moment name kept.entries
+  pub over_entries : with_ended moment last.entries ≡ with_ended moment kept.entries
+  over_entries = ap (with_ended moment) edit ∙ one_after moment name kept.entries

@@ -2,95 +2,82 @@
 -- listed.
 use Rattle.std.proofs.Common.{Bool, List, None, Option, Some, [], arith, false, inl, inr, length, map, refl, true, ℕ, ◌+◌, ◌∷◌, ◌≡◌, ◌≤◌}
 use Rattle.std.proofs.{Math.Bool.or-false, lemmas.{Bool.cases_Bool, Cmp.tied_itself, Grind.common_steps}}
-use Rattle.std.specs.Cmp.Lexicographic.{nat_list_cmp_total}
-use Rattle.std.specs.{Cmp.Lexicographic.slice_cmp, List.{AllByRecursion as All, Sorted.IsStrictlySortedBy, list_any}, Map.{keys_of, lookup}}
-use Rattle.std.specs.{Map.remove_entry, Option.option_map, Ordering.nat_cmp, Prelude.{filter, find, fold}}
+use Rattle.std.specs.{Cmp.Lexicographic.{nat_list_cmp_total, slice_cmp}, List.{AllByRecursion as All, Sorted.IsStrictlySortedBy, list_any}}
+use Rattle.std.specs.{Map.{keys_of, lookup, remove_entry}, Option.option_map, Ordering.nat_cmp, Prelude.{filter, find, fold}}
 use Rattle.std.specs.declared.cmp.Ordering.TheVariants.{Less}
 use Rattle.bq_index.specs.{Order.InOrder, Walk.seen_by}
-use Rattle.bq_job.{proofs.ListLemmas.{all_at, all_before_map, found_passes}, specs.{declared.job.Job.Job, machine.{SeatRecord, TubeRecord}}}
+use Rattle.bq_job.{proofs.ListLemmas.{all_at, all_before_map, all_weaker, found_passes}, specs.{declared.job.Job.Job, machine.SeatRecord}}
 use Rattle.bq_job.specs.{machine.greatest, reading.TubeName.is_same_name}
-use Rattle.bq_state.proofs.{CrowdLemmas.has_seats_of, MaybeGoneLemmas.all_kept_alive}
-use Rattle.bq_state.proofs.{MaybeGoneLemmas.others_alive, NamedLemmas.ties, TallyPlaces.has_jobs_in, TubeLemmas.same_name}
-use Rattle.bq_state.specs.{Counting.AreCounts, TubesSeen.{EntrySeen, Named, is_alive_at, is_from, is_gone_by}}
-use Rattle.bq_state.specs.TubesSeen.{entry_tally, is_gone_from, is_named_at, record_at, tubes_seen, with_alive, without_gone}
-use Rattle.bq_state.specs.{MaybeGoneTubes.AreAlive, Tallies.{tallies_of, tally_in}, TubeEntries.{AreInOrder, is_tube_of, names_alive}}
-use Rattle.bq_state.specs.declared.{known.maybe_gone.MaybeGone.TheVariants.Tube, tubes.walks.HowMany.HowMany}
+use Rattle.bq_state.proofs.{CountedLemmas.has_jobs_in, CrowdLemmas.has_seats_of, MaybeGoneLemmas.others_alive, NamedLemmas.ties}
+use Rattle.bq_state.{proofs.TubeLemmas.same_name, specs.Counting.{AreCounted, AreTallied, IsCounted, existing, forgotten}}
+use Rattle.bq_state.specs.{MaybeGoneTubes.AreAlive, TubeEntries.{AreInOrder, is_tube_of, names_alive}, TubesSeen.{EntrySeen, Named}}
+use Rattle.bq_state.specs.TubesSeen.{is_alive_at, is_from, is_gone_by, is_gone_from, is_named_at, record_at, with_alive, without_gone}
+use Rattle.bq_state.specs.declared.{known.maybe_gone.MaybeGone.{MaybeGone, TheVariants.{Any, Nothing, Tube}}, tubes.walks.HowMany.HowMany}
 
 -- The tube of an entry that is dropped has no job.
 module _ (jobs : List Job) where
-  abbrev AreTallies : List Named → Type 0
-  AreTallies es = map entry_tally es ≡ tallies_of jobs (map record_at es)
+  abbrev IsIdle : Named → Type 0
+  IsIdle e = is_alive_at e ≡ false → list_any (λ j. is_same_name e.0 j.tube) jobs ≡ false
 
-  idle : (es : List Named) → AreTallies es → All (λ x. is_alive_at x ≡ false → list_any (λ j. is_same_name x.0 j.tube) jobs ≡ false) es
-  idle [] h = tt
-  idle (x ∷ es) h = let same : x.1.tally ≡ tally_in jobs (record_at x) = (cc) in
-      (λ gone. grind (arith, common_steps, has_jobs_in x.0 jobs), idle es (cc))
+  idle : (es : List Named) → AreTallied jobs es → All IsIdle es
+  idle es all = all_weaker _ _ es (λ e tallied gone. grind (arith, common_steps, has_jobs_in e.0 jobs)) all
 
-  pub gone_has_none : (name : List ℕ) (es : List Named) → AreTallies es → true ≡ is_gone_by name (lookup (is_named_at name) es)
+  pub gone_has_none : (name : List ℕ) (es : List Named) → AreTallied jobs es → true ≡ is_gone_by name (lookup (is_named_at name) es)
       → list_any (λ j. is_same_name name j.tube) jobs ≡ false
   gone_has_none name [] h gone = absurd cc
   gone_has_none name (x ∷ es) h gone = let all = idle (x ∷ es) h in
-      grind (arith, common_steps, cases_Bool, ties name x.0, same_name name x.0, all.0, gone_has_none name es (cc))
+      grind (arith, common_steps, cases_Bool, ties name x.0, same_name name x.0, all.0, gone_has_none name es h.1)
 
-  pub found_has_none : (from : Option (List ℕ)) (name : List ℕ) (es : List Named) → AreTallies es
+  pub found_has_none : (from : Option (List ℕ)) (name : List ℕ) (es : List Named) → AreTallied jobs es
       → option_map (λ (e : Named). e.0) (find (is_gone_from from) es) ≡ Some name → list_any (λ j. is_same_name name j.tube) jobs ≡ false
   found_has_none from name [] h found = absurd (let g : None ≡ Some name = found in cc)
   found_has_none from name (x ∷ es) h found = let all = idle (x ∷ es) h in
-      grind (arith, common_steps, cases_Bool (is_gone_from from x), all.0, found_has_none from name es (cc))
-
--- Parts of entries stay a function of the records.
-pub part_left : {B : Type 0} (f : Named → B) (g : TubeRecord → B) (test : List ℕ → Bool) (es : List Named)
-    → map f es ≡ map g (map record_at es) → map f (remove_entry test es) ≡ map g (map record_at (remove_entry test es))
-part_left f g test [] h = refl
-part_left f g test (x ∷ es) h = grind (arith, part_left f g test es)
-
--- The counts are those of these jobs and seats.
-abbrev pub AreTallied : List Job → List SeatRecord → List Named → Type 0
-AreTallied jobs seats es = AreCounts (tubes_seen [] es) jobs seats
+      grind (arith, common_steps, cases_Bool (is_gone_from from x), all.0, found_has_none from name es h.1)
 
 module _ (jobs : List Job) (seats : List SeatRecord) where
-  rest_tallied : (x : Named) (es : List Named) → AreTallied jobs seats (x ∷ es) → AreTallied jobs seats es
-  rest_tallied x es h = grind (arith, h)
-
-  pub filter_tallied : (p : Named → Bool) (es : List Named) → AreTallied jobs seats es → AreTallied jobs seats (filter p es)
-  filter_tallied p [] h = (refl, refl)
-  filter_tallied p (x ∷ es) h = grind (arith, filter_tallied p es (rest_tallied x es h))
-
-  pub left_tallied : (name : List ℕ) (es : List Named) → AreTallied jobs seats es → AreTallied jobs seats (without_gone name es)
-  left_tallied name es h = grind (arith, part_left)
-
   -- By its counts a tube exists if and only if it exists by the jobs and seats.
-  alive_is : (x : Named) (es : List Named) → AreTallied jobs seats (x ∷ es) → is_alive_at x ≡ is_tube_of jobs seats x.0
-  alive_is x es h = grind (arith, h.0, h.1, has_jobs_in x.0 jobs, has_seats_of seats x.0)
+  alive_is : (e : Named) → IsCounted jobs seats e → is_alive_at e ≡ is_tube_of jobs seats e.0
+  alive_is e h = grind (arith, has_jobs_in e.0 jobs, has_seats_of seats e.0)
 
-  pub filter_records : (es : List Named) → AreTallied jobs seats es
-      → map record_at (filter (is_alive_at) es) ≡ filter (λ t. is_tube_of jobs seats t.name) (map record_at es)
-  filter_records [] h = refl
-  filter_records (x ∷ es) h = grind (arith, alive_is x es h, filter_records es (rest_tallied x es h))
+  alive_left : (es : List Named) → AreCounted jobs seats es → filter is_alive_at es ≡ existing jobs seats es
+  alive_left [] h = refl
+  alive_left (e ∷ es) h = grind (arith, alive_is e, alive_left es)
 
-  -- The tubes that exist are listed
-  pub listed_names : (es : List Named) → AreTallied jobs seats es
+  -- The tubes that exist are listed.
+  pub listed_names : (es : List Named) → AreCounted jobs seats es
       → keys_of (filter is_alive_at es) ≡ names_alive jobs seats (map record_at es)
   listed_names [] h = refl
-  listed_names (x ∷ es) h = grind (arith, alive_is x es h, listed_names es (rest_tallied x es h))
+  listed_names (e ∷ es) h = grind (arith, alive_is e, listed_names es)
 
-  -- and counted.
-  pub counted_names : (es : List Named) (n : ℕ) → AreTallied jobs seats es → n + length es ≤ greatest
-      → (fold (seen_by (λ (s : HowMany) (name : List ℕ) (t : EntrySeen). record { count = with_alive s.count name t }))
-      (record { count = n }) es).count ≡ n + length (names_alive jobs seats (map record_at es))
-  counted_names [] n h few = omega arith
-  counted_names (x ∷ es) n h few = grind (arith, rest_tallied, alive_is, counted_names es)
+  -- If no tube may have gone, all entries are kept.
+  all_existing : (es : List Named) → AreAlive Nothing jobs seats (map record_at es) → es ≡ existing jobs seats es
+  all_existing [] all = refl
+  all_existing (e ∷ es) all = grind (arith, common_steps, or-false, all_existing es)
 
   -- The entry with one name is dropped if its tube no longer exists.
-  pub one_left : (name : List ℕ) (es : List Named) → AreInOrder (map record_at es) → AreAlive (Tube name) jobs seats (map record_at es)
-      → AreTallied jobs seats es → map record_at (without_gone name es) ≡ filter (λ t. is_tube_of jobs seats t.name) (map record_at es)
+  one_left : (name : List ℕ) (es : List Named) → AreInOrder (map record_at es) → AreAlive (Tube name) jobs seats (map record_at es)
+      → AreCounted jobs seats es → without_gone name es ≡ existing jobs seats es
   one_left name [] order all h = refl
-  one_left name (x ∷ es) order all h = elim (cases_Bool (is_same_name name x.0)) [
-    | inl e ↦
-        let others = all_kept_alive jobs seats _ (others_alive name jobs seats _ (rw (same_name name x.0 e) order.0) all.1) in
-        grind (arith, common_steps, ties name x.0, same_name name x.0 e, others, alive_is x es h)
-    | inr e ↦ grind (arith, common_steps, or-false, alive_is, ties, one_left name es order.1 all.1 (rest_tallied x es h))
+  one_left name (e ∷ es) order all h = elim (cases_Bool (is_same_name name e.0)) [
+    | inl same ↦
+        let others = all_existing es (others_alive name jobs seats _ (rw (same_name name e.0 same) order.0) all.1) in
+        grind (arith, common_steps, ties name e.0, same_name name e.0 same, others, alive_is e)
+    | inr other ↦ grind (arith, common_steps, or-false, alive_is e, ties, one_left name es order.1 all.1 h.1)
   ]
+
+  -- So the tubes that exist are left.
+  pub forgotten_is : (maybe : MaybeGone) (es : List Named) → AreInOrder (map record_at es) → AreAlive maybe jobs seats (map record_at es)
+      → AreCounted jobs seats es → forgotten maybe es ≡ existing jobs seats es
+  forgotten_is Nothing es order all h = all_existing es all
+  forgotten_is (Tube gone) es order all h = one_left gone es order all h
+  forgotten_is Any es order all h = alive_left es h
+
+-- They are counted.
+pub counted_alive : (es : List Named) (n : ℕ) → n + length es ≤ greatest
+    → (fold (seen_by (λ (s : HowMany) (name : List ℕ) (t : EntrySeen). record { count = with_alive s.count name t }))
+    (record { count = n }) es).count ≡ n + length (filter is_alive_at es)
+counted_alive [] n few = omega arith
+counted_alive (e ∷ es) n few = grind (arith, counted_alive es)
 
 -- All such entries are dropped one after another.
 abbrev pub AllLeftBefore : Option (List ℕ) → List Named → Type 0
@@ -132,6 +119,3 @@ name_removed from name (x ∷ es) s h all = grind (
   found_behind x.0 (is_gone_from from) name es s.0,
   name_removed from name es s.1,
 )
-
--- which entries are left, for the answers
-pub ruleset dropped = (common_steps, all_kept_alive, one_left, filter_records)

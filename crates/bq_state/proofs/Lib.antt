@@ -1,7 +1,7 @@
 pub mod AliveLemmas
 pub mod ClientLemmas
+pub mod CountedLemmas
 pub mod CrowdLemmas
-pub mod CrowdPlaces
 pub mod CrowdWatching
 pub mod DueLemmas
 pub mod EndLemmas
@@ -23,7 +23,6 @@ pub mod PauseLemmas
 pub mod PausedLemmas
 pub mod SeatPlaces
 pub mod TallyLemmas
-pub mod TallyPlaces
 pub mod TubeLemmas
 pub mod WaitingLemmas
 pub mod WalkLemmas

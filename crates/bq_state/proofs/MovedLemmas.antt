@@ -1,16 +1,17 @@
 -- What a change of a job keeps.
-use Rattle.std.proofs.Common.{Bool, List, Some, [], ap, arith, if◌then◌else◌, length, map, refl, ℕ, ◌&&◌, ◌==◌, ◌∙◌, ◌∷◌, ◌≡◌, ◌≤◌}
+use Rattle.std.proofs.Common.{Bool, List, Some, [], ap, arith, if◌then◌else◌, length, map, refl, true, ℕ, ◌&&◌, ◌==◌, ◌∙◌, ◌∷◌, ◌≡◌, ◌≤◌}
 use Rattle.std.{proofs.lemmas.{Cmp.nat_list_eq_equiv, Grind.common_steps, List.length-map}, specs.{List.list_any, Prelude.count_by}}
 use Rattle.bq_job.specs.{beside.AreIdsWithin, declared.job.Job.Job, machine.{SeatRecord, TubeRecord, greatest, is_ready_state, job_with}}
 use Rattle.bq_job.specs.reading.TubeName.{is_same_name}
 use Rattle.bq_jobs.{proofs.Changes.{changed as changed_by_id, found_id}, specs.Changed.{IgnoresTube, KeepsId, KeepsTube, moved_by}}
 use Rattle.bq_jobs.specs.{Changed.with_changed, JobsSeen.{with_added, without}, declared.numbered_jobs.JobMove.JobMove}
-use Rattle.bq_state.proofs.{PartsLemmas.{all_filtered, all_kept}, TallyLemmas.{one_added, one_taken}, TallyPlaces.counted_by}
-use Rattle.bq_state.{proofs.{WantedLemmas.known_added, WarningLemmas.warned_added}, specs.{Crowds.is_waiter, JobChanges.changed}}
-use Rattle.bq_state.specs.{MaybeGoneTubes.AreAlive, SeatChanges.AreNumbered, Tallies.{AreCounted, count_with, count_without, tallies_at}}
-use Rattle.bq_state.specs.{Tallies.tally_moved, TubeEntries.{AreEntries, AreInOrder}, WantedJobs.{AreKnown, with_wanted}}
-use Rattle.bq_state.specs.{Warnings.{AreWarned, has_waiting_holder, with_holder_of}, declared.job_store.JobChange.JobChange}
-use Rattle.bq_state.specs.declared.known.{maybe_gone.MaybeGone.MaybeGone, tally.Tally.Tally, wanted.Wanted.Wanted, warns.Warns.Warns}
+use Rattle.bq_state.proofs.{CountedLemmas.counted_by, PartsLemmas.{all_filtered, all_kept}, TallyLemmas.{one_added, one_taken, tally_is}}
+use Rattle.bq_state.{proofs.{WantedLemmas.known_added, WarningLemmas.warned_added}, specs.{Counting.AreCounted, Crowds.is_waiter}}
+use Rattle.bq_state.specs.{JobChanges.changed, MaybeGoneTubes.AreAlive, SeatChanges.AreNumbered, Tallies.{count_with, count_without}}
+use Rattle.bq_state.specs.{Tallies.{tally_moved, tally_of}, TubeEntries.AreEntries, TubesSeen.{Named, changed_named, entry_moved}}
+use Rattle.bq_state.specs.{WantedJobs.{AreKnown, with_wanted}, Warnings.{AreWarned, has_waiting_holder, with_holder_of}}
+use Rattle.bq_state.specs.declared.{job_store.JobChange.JobChange, known.{maybe_gone.MaybeGone.MaybeGone, tally.Tally.Tally}}
+use Rattle.bq_state.specs.declared.known.{wanted.Wanted.Wanted, warns.Warns.Warns}
 
 -- no change depends on the tube
 pub tube_ignored : (change : JobChange) → IgnoresTube (changed change)
@@ -57,13 +58,22 @@ module _ (low next id : ℕ) (f : Job → Job) (keeps : KeepsId f) (stays : Keep
         → AreWarned warns jobs seats → AreWarned (if b then with_holder_of m.to.state warns else warns) (with_changed id f jobs) seats
     warned_moved warns seats b numbered e was = grind (arith, warned_added, all_filtered, made_of)
 
-  pub counted_moved : (tally : Tally) (tallies : List Tally) (jobs : List Job) (es : List TubeRecord) → AreIdsWithin low jobs next
-      → job_with id jobs ≡ Some j → AreInOrder es → length jobs ≤ greatest → AreCounted tally tallies jobs es
-      → AreCounted (tally_moved m tally) (tallies_at m.tube (tally_moved m) es tallies) (with_changed id f jobs) es
-  counted_moved tally tallies jobs es ids found order fits =
-      let made = made_of jobs ids found in
-      let fits_then : length (with_added (f j) (without id jobs)) ≤ greatest = rw (made, length-map jobs _) fits in
-      let counts = λ (p : Job → Bool). ap (count_with (p (f j))) (one_taken low next id j jobs ids found p)
-      ∙ one_added (f j) (without id jobs) fits_then p ∙ ap (count_by p) made in
-      rw is (counted_by (λ p n. count_with (p (f j)) (count_without (p j) n)) j.tube jobs (with_changed id f jobs) counts
-      (λ name p n. grind (arith, common_steps, stays j, nat_list_eq_equiv.symm name j.tube)) tally tallies es order)
+  module _ (jobs : List Job) (ids : AreIdsWithin low jobs next) (found : job_with id jobs ≡ Some j) (fits : length jobs ≤ greatest) where
+    counts_moved : (p : Job → Bool) → count_with (p (f j)) (count_without (p j) (count_by p jobs)) ≡ count_by p (with_changed id f jobs)
+    counts_moved p =
+        let made = made_of jobs ids found in
+        let fits_then : length (with_added (f j) (without id jobs)) ≤ greatest = rw (made, length-map jobs _) fits in
+        ap (count_with (p (f j))) (one_taken low next id j jobs ids found p) ∙ one_added (f j) (without id jobs) fits_then p
+        ∙ ap (count_by p) made
+
+    abbrev step : (Job → Bool) → ℕ → ℕ
+    step p n = count_with (p (f j)) (count_without (p j) n)
+
+    pub tally_of_moved : (tally : Tally) → tally ≡ tally_of jobs → tally_moved m tally ≡ tally_of (with_changed id f jobs)
+    tally_of_moved tally so_far = rw (is, so_far) (tally_is true step jobs (with_changed id f jobs) counts_moved)
+
+    pub counted_moved : (seats : List SeatRecord) (es : List Named) → AreCounted jobs seats es
+        → AreCounted (with_changed id f jobs) seats (map (changed_named m.tube (entry_moved m)) es)
+    counted_moved = rw is (counted_by step j.tube jobs (with_changed id f jobs) counts_moved
+        (λ name p n. grind (arith, common_steps, stays j, nat_list_eq_equiv.symm name j.tube)) (entry_moved (moved_by f j)) (λ t. refl)
+        (λ t. refl))

@@ -1,15 +1,18 @@
 -- The names of the tubes that exist.
-use Rattle.std.proofs.Common.{List, Option, [], ap, arith, codes, false, if◌then◌else◌, map, refl, sym, true, ℕ, ◌++◌, ◌∙◌, ◌∷◌, ◌≡◌}
-use Rattle.std.{proofs.lemmas.{Bool.{and_from, cases_Bool}, Grind.common_steps, Map.Views.any-filter_same}, specs.Borrow.Bor}
-use Rattle.std.specs.{List.{AllByRecursion as All, insert, list_any, prefix_len, slice_get}, Option.option_map, Prelude.{IsOk, Result}}
-use Rattle.std.specs.Prelude.{filter, find, flat_map, is_ok, unwrap_or}
+use Rattle.std.proofs.Common.{List, None, Option, Some, [], ap, arith, codes, false, if◌then◌else◌, map, refl, sym, true, ℕ, ◌++◌, ◌∙◌, ◌∷◌}
+use Rattle.std.{proofs.{Common.◌≡◌, lemmas.{Bool.{and_from, cases_Bool}, Grind.common_steps, Map.Views.any-filter_same}}, specs.Borrow.Bor}
+use Rattle.std.specs.{List.{AllByRecursion as All, insert, list_any, prefix_len, slice_get}, Map.keys_of, Option.option_map, Prelude.IsOk}
+use Rattle.std.specs.Prelude.{Result, filter, find, flat_map, is_ok, unwrap_or}
 use Rattle.bq_job.proofs.{ListLemmas.{all_of_map, all_weaker, list_any_not}, NameOrderLemmas.{after, first_of_order, in_order_fold}}
 use Rattle.bq_job.proofs.NameOrderLemmas.{in_order_from, listed, not_before, not_same, rest_in_order, stays_fold}
 use Rattle.bq_job.specs.{beside.is_in_order, machine.{TubeRecord, default_tube, fresh_tube, in_name_order, is_name_before, name_list}}
-use Rattle.bq_job.specs.{machine.{seated_tubes, tubes, with_name, Machine.Machine}, reading.TubeName.is_same_name, texts.Yaml.name_line}
+use Rattle.bq_job.specs.{machine.{Machine.Machine, seated_tubes, tubes, with_name}, reading.TubeName.is_same_name, texts.Yaml.name_line}
+use Rattle.bq_state.proofs.{CountedLemmas.{crowd_there, tally_there}, GoneLemmas.listed_names, NamedLemmas.found_entry}
 use Rattle.bq_state.proofs.{PartsLemmas.tube_has_entry, TubeLemmas.{before_differs, none_found, none_later, order_filtered, same_itself}}
-use Rattle.bq_state.{proofs.TubeLemmas.same_name, specs.{Names.{is_named, names_of}, TubeEntries.{AreEntries, AreInOrder}}}
-use Rattle.bq_state.specs.TubeEntries.{IsFreshUnlessCounted, counted, has_entry, is_tube_of, names_alive}
+use Rattle.bq_state.{proofs.TubeLemmas.same_name, specs.{CoreParts.{entry_in, machine_of}, Names.{is_named, names_of}}}
+use Rattle.bq_state.specs.TubeEntries.{AreEntries, AreInOrder, IsFreshUnlessCounted, counted, has_entry, is_tube_of, names_alive}
+use Rattle.bq_state.specs.TubesSeen.{EntrySeen, crowd_by, entry_at, fresh_entry, is_alive_at, record_of, records, tally_by}
+use Rattle.bq_state.specs.declared.core_parts.CoreParts.{CoreParts}
 
 -- a name differs from all names that come after it,
 none_listed : (name : List ℕ) (names : List (List ℕ)) → All (λ n. is_name_before name n ≡ true) names
@@ -60,6 +63,11 @@ alive_are_tubes m entries e =
     (λ t same. ap is (sym (same_name name t.name same))) entries
     ∙ grind (arith, common_steps, tube_has_entry m.jobs m.seats entries e name) ∙ sym (listed name m))
 
+-- So are those that exist by their counts.
+pub names_by_counts : (st : CoreParts) → keys_of (filter is_alive_at st.store.tubes.entries) ≡ tubes (machine_of st)
+names_by_counts st = listed_names st.store.jobs.jobs st.seats.items st.store.tubes.entries st.sound.counts
+    ∙ alive_are_tubes (machine_of st) _ st.sound.entries
+
 -- The record of a tube is its entry.
 pub record_of_entry : (name : List ℕ) (entries : List TubeRecord) → AreInOrder entries → All IsFreshUnlessCounted entries
     → unwrap_or (find (λ t. is_same_name name t.name) (counted entries)) (fresh_tube name) ≡ unwrap_or
@@ -68,6 +76,25 @@ record_of_entry name [] order fresh = refl
 record_of_entry name (t ∷ entries) order fresh =
     let rest = record_of_entry name entries order.1 fresh.1 in
     grind (arith, common_steps, cases_Bool, same_name name t.name, none_later t.name entries, none_found name entries)
+
+module _ (st : CoreParts) (name : List ℕ) where
+  -- what is known of a tube if it has this entry, or none
+  parts : (o : Option EntrySeen) → (unwrap_or (option_map (record_of name) o) (fresh_tube name) ≡ record_of name (unwrap_or o fresh_entry))
+      × (tally_by o ≡ (unwrap_or o fresh_entry).tally) × (crowd_by o ≡ (unwrap_or o fresh_entry).crowd)
+  parts None = (refl, refl, refl)
+  parts (Some t) = (refl, refl, refl)
+
+  -- The entry of a tube, or a fresh one, is what the model says of it.
+  pub entry_told : (r : Option EntrySeen) → r ≡ entry_at name st.store.tubes → unwrap_or r fresh_entry ≡ entry_in (machine_of st) name
+  entry_told r is =
+      let rs = records st.store.tubes in
+      let same = record_of_entry name rs st.sound.entries.order st.sound.entries.fresh in
+      let found = found_entry name st.store.tubes.entries in
+      let tally = tally_there name st.store.tubes st.store.jobs.jobs st.seats.items st.sound.counts st.sound.entries.of_jobs in
+      let crowd = crowd_there name st.store.tubes st.store.jobs.jobs st.seats.items st.sound.counts st.sound.entries.of_seats
+      st.sound.seated in
+      let of = parts r in
+      grind arith
 
 -- A name at the place of the first name that does not come before it: it is there already, or it is inserted.
 pub placed : (x : Bor (List ℕ)) (names : List (Bor (List ℕ)))

@@ -1,22 +1,21 @@
 -- What changes of the state leave unchanged.
-use Rattle.std.proofs.Common.{Bool, List, None, Some, [], ap, arith, if◌then◌else◌, inl, inr, length, map, refl, set, slice_get, rules}
-use Rattle.std.proofs.lemmas.{Bool.or_cases, Option.{get_or_from_slice_get, slice_get_within}}
-use Rattle.std.proofs.lemmas.{Bool.{and_parts, cases_Bool, eq-eqb, ne_eqb}, List.Elements.{All-from_recursion, All-set, recursion_from_All}}
-use Rattle.std.proofs.{Common.{subst, suc, sym, true, zero, ℕ, ◌++◌, ◌+◌, ◌==◌, ◌^◌, ◌||◌, ◌∙◌, ◌∷◌, ◌≡◌, ◌≤◌}, lemmas.List.length-map}
-use Rattle.std.{proofs.lemmas.Grind.common_steps, specs.{List.{AllByRecursion as All, list_any}, Prelude.{filter, find, nat_le}}}
-use Rattle.bq_job.proofs.ListLemmas.{all_always, all_at, all_from_members, all_of_filter, all_of_map, all_weaker, found_passes, keys_of_map}
-use Rattle.bq_job.specs.{declared.job.Job.Job, machine.{SeatRecord, TubeRecord, default_tube, empty_seat, fresh_tube, greatest, job_with}}
-use Rattle.bq_job.specs.{machine.{numbers, seat_with, tube_after_timers, watches, watching, with_record}, reading.TubeName.is_same_name}
-use Rattle.bq_job.{proofs.{KeptLemmas.numbers_above, LawfulLemmas.length_numbers, ListLemmas.map_all_same}, specs.beside.AreIdsWithin}
+use Rattle.std.proofs.Common.{Bool, List, None, Some, [], ap, arith, if◌then◌else◌, inl, inr, length, map, refl, rules, set, slice_get}
+use Rattle.std.proofs.{Common.{subst, suc, sym, true, zero, ℕ, ◌++◌, ◌+◌, ◌==◌, ◌^◌, ◌||◌, ◌∙◌, ◌∷◌, ◌≡◌, ◌≤◌}, lemmas.Bool.and_parts}
+use Rattle.std.proofs.lemmas.{Bool.{cases_Bool, eq-eqb, ne_eqb, or_cases}, Grind.common_steps, List.length-map}
+use Rattle.std.proofs.lemmas.{List.Elements.{All-from_recursion, All-set, recursion_from_All}, Option.get_or_from_slice_get}
+use Rattle.std.{proofs.lemmas.Option.slice_get_within, specs.{List.{AllByRecursion as All, list_any}, Prelude.{filter, find, nat_le}}}
+use Rattle.bq_job.proofs.{KeptLemmas.numbers_above, LawfulLemmas.length_numbers, ListLemmas.{all_always, all_at, all_from_members}}
+use Rattle.bq_job.proofs.ListLemmas.{all_of_filter, all_of_map, all_weaker, found_passes, keys_of_map, map_all_same}
+use Rattle.bq_job.specs.{beside.AreIdsWithin, declared.job.Job.Job, machine.{SeatRecord, TubeRecord, default_tube, empty_seat, fresh_tube}}
+use Rattle.bq_job.specs.machine.{greatest, job_with, numbers, seat_with, tube_after_timers, watches, watching, with_record}
+use Rattle.bq_job.specs.reading.TubeName.{is_same_name}
 use Rattle.bq_jobs.specs.JobsSeen.{with_added}
-use Rattle.bq_state.proofs.TubeLemmas.{all_inserted, counted_inserted, entry_filtered, found, has_inserted, order_filtered}
-use Rattle.bq_state.proofs.TubeLemmas.{order_inserted, order_kept, record_changed, same_entries, same_itself, same_name, still_has}
-use Rattle.bq_state.specs.{JobChanges.changed, SeatChanges.{AreNumbered, has_tube_of, seat_changed, seat_changed_at}, Soundness.Soundness}
-use Rattle.bq_state.specs.Store.{StoreSeen}
-use Rattle.bq_state.specs.TubeEntries.{AreEntries, HasTubes, IsFreshUnlessCounted, counted, has_entry, is_counted, is_tube_of}
-use Rattle.bq_state.specs.TubeEntries.{provided, tube_changed, tube_changed_at}
-use Rattle.bq_state.specs.declared.{core_parts.CoreParts.CoreParts, job_store.JobChange.JobChange, seats.SeatChange.SeatChange}
-use Rattle.bq_state.specs.declared.{tubes.entry.TubeChange.TubeChange}
+use Rattle.bq_state.proofs.TubeLemmas.{all_inserted, counted_inserted, entry_filtered, found, order_filtered, order_inserted, order_kept}
+use Rattle.bq_state.{proofs.TubeLemmas.{record_changed, same_entries, same_itself, same_name, still_has}, specs.JobChanges.changed}
+use Rattle.bq_state.specs.{SeatChanges.{AreNumbered, has_tube_of, seat_changed, seat_changed_at}, Soundness.Soundness, Store.StoreSeen}
+use Rattle.bq_state.specs.TubeEntries.{AreEntries, HasTubes, IsFreshUnlessCounted, counted, has_entry, is_counted, is_tube_of, provided}
+use Rattle.bq_state.specs.{TubeEntries.{tube_changed, tube_changed_at}, TubesSeen.records, declared.core_parts.CoreParts.CoreParts}
+use Rattle.bq_state.specs.declared.{job_store.JobChange.JobChange, seats.SeatChange.SeatChange, tubes.entry.TubeChange.TubeChange}
 
 -- a property of all elements is kept if each change keeps it
 pub all_kept : {A : Type 0} (P : A → Type 0) (f : A → A) → ((x : A) → P x → P (f x)) → (xs : List A) → All P xs → All P (map f xs)
@@ -94,9 +93,6 @@ entries_of_tube name what jobs seats entries e = search (rules, all_kept, all_we
 pub counted_provided : (name : List ℕ) (entries : List TubeRecord) → counted (provided name entries) ≡ counted entries
 counted_provided name entries = grind (arith, counted_inserted)
 
-pub has_provided : (name : List ℕ) (entries : List TubeRecord) → has_entry name (provided name entries) ≡ true
-has_provided name entries = grind (arith, has_inserted (fresh_tube name) entries)
-
 -- What follows from each of two tests follows if either passes,
 from_either : {a b c : Bool} → (a ≡ true → c ≡ true) → (b ≡ true → c ≡ true) → (a || b) ≡ true → c ≡ true
 from_either {a = a} {b = b} f g h = elim (or_cases a b h) [ inl e ↦ f e | inr e ↦ g e ]
@@ -168,28 +164,30 @@ all_read P xs i x all found = all_at P xs x all (i, slice_get_within xs i x foun
 pub all_set : {A : Type 0} (P : A → Type 0) (xs : List A) (i : ℕ) (y : A) → All P xs → P y → All P (set xs i y)
 all_set P xs i y all h = recursion_from_All P (set xs i y) (All-set P xs i y h (All-from_recursion P xs all))
 
--- The tubes of a state still have entries
+-- Tubes still have entries after jobs are removed,
+pub entries_of_fewer : (p : Job → Bool) (jobs : List Job) (seats : List SeatRecord) (entries : List TubeRecord)
+    → AreEntries jobs seats entries
+    → AreEntries (filter p jobs) seats entries
+entries_of_fewer p jobs seats entries e = grind (arith, all_filtered)
+
+-- and after one is added.
+pub entries_of_added : (j : Job) (jobs : List Job) (seats : List SeatRecord) (entries : List TubeRecord) → has_entry j.tube entries ≡ true
+    → AreEntries jobs seats entries → AreEntries (with_added j jobs) seats entries
+entries_of_added j jobs seats entries h e = grind (arith, all_added)
+
+-- So do those of a state
 module _ (st : CoreParts) where
-  -- after jobs are removed,
-  pub entries_of_fewer : (p : Job → Bool) → AreEntries (filter p st.store.jobs.jobs) st.seats.items st.store.tubes.entries
-  entries_of_fewer p = grind (arith, all_filtered)
-
-  -- after one is added,
-  pub entries_of_added : (j : Job) → has_entry j.tube st.store.tubes.entries ≡ true
-      → AreEntries (with_added j st.store.jobs.jobs) st.seats.items st.store.tubes.entries
-  entries_of_added j h = grind (arith, all_added)
-
   -- after a tube gets an entry,
-  pub entries_provided : (name : List ℕ) → AreEntries st.store.jobs.jobs st.seats.items (provided name st.store.tubes.entries)
+  pub entries_provided : (name : List ℕ) → AreEntries st.store.jobs.jobs st.seats.items (provided name (records st.store.tubes))
   entries_provided name = grind (arith, all_weaker, order_inserted, all_inserted IsFreshUnlessCounted (fresh_tube name), still_has)
 
   -- after timers fire,
-  pub entries_of_timers : AreEntries st.store.jobs.jobs st.seats.items (map (tube_after_timers st.moment) st.store.tubes.entries)
+  pub entries_of_timers : AreEntries st.store.jobs.jobs st.seats.items (map (tube_after_timers st.moment) (records st.store.tubes))
   entries_of_timers = grind (arith, all_weaker, order_kept, all_kept, same_entries)
 
   -- after the entries of tubes that no longer exist are dropped,
   pub entries_forgotten : AreEntries st.store.jobs.jobs st.seats.items
-      (filter (λ t. is_tube_of st.store.jobs.jobs st.seats.items t.name) st.store.tubes.entries)
+      (filter (λ t. is_tube_of st.store.jobs.jobs st.seats.items t.name) (records st.store.tubes))
   entries_forgotten =
       let is = is_tube_of st.store.jobs.jobs st.seats.items in
       let still = λ (name : List ℕ) (there : is name ≡ true). entry_filtered (λ t. is t.name) name (λ t same. ap is (sym same) ∙ there) _
@@ -207,23 +205,23 @@ module _ (st : CoreParts) where
 
   -- and after the client at a seat watches one more tube, or fewer.
   pub watching_more : (name : List ℕ) (i : ℕ) (s : SeatRecord) → slice_get st.seats.items i ≡ Some s
-      → has_entry name st.store.tubes.entries ≡ true
-      → AreEntries st.store.jobs.jobs (set st.seats.items i (watching (s.watched ++ name ∷ []) s)) st.store.tubes.entries
+      → has_entry name (records st.store.tubes) ≡ true
+      → AreEntries st.store.jobs.jobs (set st.seats.items i (watching (s.watched ++ name ∷ []) s)) (records st.store.tubes)
   watching_more name i s found h = grind (arith, common_steps, all_read)
 
   pub watching_fewer : (p : List ℕ → Bool) (i : ℕ) (s : SeatRecord) → slice_get st.seats.items i ≡ Some s
-      → AreEntries st.store.jobs.jobs (set st.seats.items i (watching (filter p s.watched) s)) st.store.tubes.entries
+      → AreEntries st.store.jobs.jobs (set st.seats.items i (watching (filter p s.watched) s)) (records st.store.tubes)
   watching_fewer p i s here =
-      let has = all_read (HasTubes st.store.tubes.entries) st.seats.items i s st.sound.entries.of_seats here in
-      let fewer = all_filtered (λ name. has_entry name st.store.tubes.entries ≡ true) p s.watched in
+      let has = all_read (HasTubes (records st.store.tubes)) st.seats.items i s st.sound.entries.of_seats here in
+      let fewer = all_filtered (λ name. has_entry name (records st.store.tubes) ≡ true) p s.watched in
       grind (arith, common_steps, has, fewer)
 
   -- A job has an entry.
-  pub has_of_job : (id : ℕ) (j : Job) → job_with id st.store.jobs.jobs ≡ Some j → has_entry j.tube st.store.tubes.entries ≡ true
+  pub has_of_job : (id : ℕ) (j : Job) → job_with id st.store.jobs.jobs ≡ Some j → has_entry j.tube (records st.store.tubes) ≡ true
   has_of_job id j found = grind (arith, common_steps, found_passes)
 
   -- The record of a tube changes as its entry does.
-  pub recorded : (name : List ℕ) (what : TubeChange) → has_entry name st.store.tubes.entries ≡ true
-      → with_record (tube_changed what (found name st.store.tubes.entries)) (counted st.store.tubes.entries)
-      ≡ counted (map (tube_changed_at name what) st.store.tubes.entries)
+  pub recorded : (name : List ℕ) (what : TubeChange) → has_entry name (records st.store.tubes) ≡ true
+      → with_record (tube_changed what (found name (records st.store.tubes))) (counted (records st.store.tubes))
+      ≡ counted (map (tube_changed_at name what) (records st.store.tubes))
   recorded name what there = grind (arith, record_changed, tube_counts, tube_name_kept)

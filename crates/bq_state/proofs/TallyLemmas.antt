@@ -17,8 +17,8 @@ pub one_taken : (low next id : ℕ) (j : Job) (jobs : List Job) → AreIdsWithin
 one_taken low next id j jobs ids found p = grind (arith, count_taken p low next id j jobs ids found)
 
 -- the counts of jobs after a change by `step` of the count of the jobs that pass
-abbrev pub tally_by : ((Job → Bool) → ℕ → ℕ) → Tally → Tally
-tally_by step t = record {
+abbrev pub tally_stepped : ((Job → Bool) → ℕ → ℕ) → Tally → Tally
+tally_stepped step t = record {
   urgent = step is_urgent t.urgent;
   ready = step is_ready t.ready;
   reserved = step (λ j. is_reserved j.state) t.reserved;
@@ -28,7 +28,7 @@ tally_by step t = record {
 
 pub tally_is : (b : Bool) (step : (Job → Bool) → ℕ → ℕ) (old new : List Job)
     → ((p : Job → Bool) → (if b then step p (count_by p old) else count_by p old) ≡ count_by p new)
-    → (if b then tally_by step (tally_of old) else tally_of old) ≡ tally_of new
+    → (if b then tally_stepped step (tally_of old) else tally_of old) ≡ tally_of new
 tally_is b step old new counts = grind arith
 
 -- how many of the chosen jobs pass

@@ -1,12 +1,12 @@
 -- What is kept of tubes: the entries and the model's records of them.
 use Rattle.std.proofs.Common.{Bool, List, None, Option, [], arith, false, if◌then◌else◌, inl, inr, is_some, length, map, not, refl, rules}
 use Rattle.std.proofs.{Common.{true, ℕ, ◌&&◌, ◌<◌, ◌∷◌, ◌≡◌}, lemmas.{Bool.{and_left, cases_Bool, or_cases, or_parts}, Grind.common_steps}}
-use Rattle.std.{proofs.lemmas.List.Sums.prefix_len-le-length, specs.Cmp.Lexicographic.bytes_decides}
-use Rattle.std.specs.{List.{AllByRecursion as All, insert, list_any, position, prefix_len}, Prelude.{filter, find, unwrap_or}}
+use Rattle.std.{proofs.lemmas.List.Sums.prefix_len-le-length, specs.{Cmp.Lexicographic.bytes_decides, List.AllByRecursion as All}}
+use Rattle.std.specs.{List.{list_any, position, prefix_len}, Prelude.{filter, find, unwrap_or}}
 use Rattle.bq_job.proofs.{ListLemmas.{all_of_filter, all_of_map, all_weaker, list_any_not, map_all_same, none_pass}, NameOrderLemmas.after}
 use Rattle.bq_job.{proofs.NameOrderLemmas.{before_trans, not_before}, specs.machine.{TubeRecord, fresh_tube, is_name_before, with_record}}
 use Rattle.bq_job.specs.reading.TubeName.{is_same_name}
-use Rattle.bq_state.specs.TubeEntries.{AreInOrder, IsFreshUnlessCounted, counted, has_entry, is_counted, provided}
+use Rattle.bq_state.specs.TubeEntries.{AreInOrder, IsFreshUnlessCounted, counted, has_entry, is_counted}
 
 pub same_name : (a b : List ℕ) → is_same_name a b ≡ true → a ≡ b
 same_name a b h = (bytes_decides a b).0 h
@@ -117,16 +117,6 @@ pub entry_filtered : (p : TubeRecord → Bool) (name : List ℕ) → ((t : TubeR
 entry_filtered p name passes [] h = absurd cc
 entry_filtered p name passes (t ∷ entries) h = grind (arith, common_steps, or_cases, same_name, entry_filtered p name passes entries)
 
--- the place of a new entry
-placed : (x : TubeRecord) (entries : List TubeRecord) → has_entry x.name entries ≡ false
-    → insert entries (prefix_len (λ t. is_name_before t.name x.name) entries) x ≡ with_record x entries
-placed x [] h = refl
-placed x (t ∷ entries) h = let parts = or_parts (is_same_name x.name t.name) (has_entry x.name entries) h in
-    elim (cases_Bool (is_name_before x.name t.name)) [
-      | inl e ↦ rw (parts.0, e, not_before _ _ e) refl
-      | inr e ↦ rw (parts.0, e, after _ _ parts.0 e) (grind (arith, placed x entries parts.1))
-    ]
-
 -- a property of all records and of a new one
 pub all_inserted : (P : TubeRecord → Type 0) (x : TubeRecord) (ts : List TubeRecord) → P x → All P ts → All P (with_record x ts)
 all_inserted P x [] h all = (h, tt)
@@ -151,10 +141,6 @@ pub still_has : (x : TubeRecord) (name : List ℕ) (entries : List TubeRecord) �
     → has_entry name entries ≡ true → has_entry name (with_record x entries) ≡ true
 still_has x name [] none h = absurd cc
 still_has x name (t ∷ entries) none h = grind (arith, common_steps, or_parts, still_has x name entries)
-
-pub provided_new : (name : List ℕ) (entries : List TubeRecord) → has_entry name entries ≡ false
-    → insert entries (prefix_len (λ t. is_name_before t.name name) entries) (fresh_tube name) ≡ provided name entries
-provided_new name entries none = rw none (placed (fresh_tube name) entries none)
 
 -- if some element passes, some are left
 pub some_left : {A : Type 0} (p : A → Bool) (xs : List A) → list_any p xs ≡ true → 0 < length (filter p xs)

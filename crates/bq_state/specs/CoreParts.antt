@@ -1,10 +1,10 @@
 -- The model that a core represents.
 use Rattle.std.specs.{Global.Global, Prelude.{Bool, List, Some, Vec, count_by, map, ℕ, ◌≡◌}}
-use Rattle.bq_job.specs.{declared.{job.Job.Job, settings.Settings.Settings}, machine.{SeatRecord, seat_with, tube_after_timers, watching}}
-use Rattle.bq_job.specs.machine.{Machine.Machine, with_seat}
+use Rattle.bq_job.specs.{declared.{job.Job.Job, settings.Settings.Settings}, machine.{SeatRecord, seat_with, tube_after_timers}}
+use Rattle.bq_job.specs.machine.{Machine.Machine, tube_record, watching, with_seat}
 use Rattle.bq_jobs.specs.JobsSeen.{JobsSeen}
-use Rattle.bq_state.specs.{TubeEntries.counted, TubesSeen.TubesSeen, WaitingList.WaitingList, declared.core_parts.CoreParts.CoreParts}
-use Rattle.bq_state.specs.declared.known.Known.{Known}
+use Rattle.bq_state.specs.{Crowds.crowd_of, Tallies.tally_in, TubeEntries.counted, TubesSeen.{EntrySeen, TubesSeen, records}}
+use Rattle.bq_state.specs.{WaitingList.WaitingList, declared.{core_parts.CoreParts.CoreParts, known.Known.Known}}
 
 -- the fields of a state, without its invariants
 pub record Fields : Type 0 where
@@ -46,7 +46,7 @@ machine_of_fields h = record {
   settings = h.config;
   jobs = h.jobs.jobs;
   seats = h.seats.items;
-  tubes = counted h.tubes.entries;
+  tubes = counted (records h.tubes);
   moment = h.moment;
   next_id = h.next_id;
   burials = h.burials;
@@ -63,6 +63,19 @@ machine_of s = machine_of_fields (fields s)
 -- the model after the pauses that are over have ended
 abbrev pub with_pauses_ended : Machine → Machine
 with_pauses_ended m = record m { tubes = map (tube_after_timers m.moment) m.tubes }
+
+-- what is kept of the tube with this name, according to the model
+abbrev pub entry_in : Machine → List ℕ → EntrySeen
+entry_in m name =
+    let t = tube_record name m in
+    record {
+      pause = t.pause;
+      puts = t.puts;
+      deletes = t.deletes;
+      pauses = t.pauses;
+      tally = tally_in m.jobs name;
+      crowd = crowd_of m.seats name;
+    }
 
 -- The state is the same except for the comparison count.
 abbrev pub OnlyCompares : CoreParts → CoreParts → Type 0

@@ -1,10 +1,8 @@
--- How many clients are at each tube.
-use Rattle.std.specs.{List.{AllByRecursion, insert, prefix_len}, Prelude.{Bool, List, None, Option, Some, [], count_by, false, fold}}
-use Rattle.std.specs.Prelude.{if◌then◌else◌, map, nat_lt, not, true, ℕ, ◌&&◌, ◌||◌, ◌∷◌, ◌≡◌}
-use Rattle.bq_job.specs.{beside.none_twice, machine.{SeatRecord, TubeRecord, is_name_before, is_waiting, watches}}
-use Rattle.bq_job.specs.reading.TubeName.{is_same_name}
-use Rattle.bq_state.specs.{SeatStates.is_connected, Tallies.{count_with, count_without}, TubeEntries.has_entry}
-use Rattle.bq_state.specs.declared.seats.SeatChange.{SeatChange, TheVariants.{Clear, Connect, End, StopWaiting, Use, Wait}}
+-- How many clients are at a tube.
+use Rattle.std.specs.Prelude.{Bool, List, Option, count_by, false, nat_lt, not, true, ℕ, ◌&&◌, ◌||◌, ◌≡◌}
+use Rattle.bq_job.specs.{beside.none_twice, machine.{SeatRecord, is_waiting, watches}, reading.TubeName.is_same_name}
+use Rattle.bq_state.specs.{SeatStates.is_connected, Tallies.{count_with, count_without}, declared.seats.SeatChange.SeatChange}
+use Rattle.bq_state.specs.declared.seats.SeatChange.TheVariants.{Clear, Connect, End, StopWaiting, Use, Wait}
 use Rattle.bq_state.specs.declared.tubes.entry.{AddOrRemove.{AddOrRemove, TheVariants.{Add, Remove}}, Crowd.Crowd, Roles.Roles}
 
 -- a connected client uses the tube, watches it, or waits for its jobs
@@ -17,20 +15,13 @@ is_watcher name s = s.connected && watches name s
 abbrev pub is_waiter : List ℕ → SeatRecord → Bool
 is_waiter name s = is_waiting s && watches name s
 
--- the counts of a tube,
+-- the counts of a tube
 abbrev pub crowd_of : List SeatRecord → List ℕ → Crowd
 crowd_of seats name = record {
   using = count_by (is_user name) seats;
   watching = count_by (is_watcher name) seats;
   waiting = count_by (is_waiter name) seats;
 }
-
--- and of each tube that has an entry, in the order of the entries
-abbrev pub crowd_in : List SeatRecord → TubeRecord → Crowd
-crowd_in seats t = crowd_of seats t.name
-
-abbrev pub crowds_of : List SeatRecord → List TubeRecord → List Crowd
-crowds_of seats entries = map (crowd_in seats) entries
 
 abbrev pub is_none : Roles → Bool
 is_none roles = not roles.using && (not roles.watching && not roles.waiting)
@@ -92,45 +83,7 @@ roles_of_watcher s = record { using = false; watching = s.connected; waiting = i
 abbrev pub roles_of_watching : List ℕ → SeatRecord → Roles
 roles_of_watching name s = record { using = false; watching = is_watcher name s; waiting = is_waiter name s }
 
--- the list of counts, parallel to the entries, with f applied at the first entry of this name
-abbrev pub crowds_at : List ℕ → (Crowd → Crowd) → List TubeRecord → List Crowd → List Crowd
-crowds_at name f [] crowds = crowds
-crowds_at name f (t ∷ entries) [] = []
-crowds_at name f (t ∷ entries) (crowd ∷ crowds) =
-    if is_same_name name t.name then f crowd ∷ crowds else crowd ∷ crowds_at name f entries crowds
-
--- and at that of each of these names
-abbrev pub crowds_at_all : List (List ℕ) → (Crowd → Crowd) → List TubeRecord → List Crowd → List Crowd
-crowds_at_all names f entries crowds = fold (λ some name. crowds_at name f entries some) crowds names
-
--- the counts after a client was counted at its tubes, or no longer counted
-abbrev pub crowds_recounted : AddOrRemove → Roles → SeatRecord → List TubeRecord → List Crowd → List Crowd
-crowds_recounted how what s entries crowds =
-    let as_user = crowds_at s.used (recounted how (roles_as_user what s)) entries crowds in
-    crowds_at_all s.watched (recounted how (roles_as_watcher what s)) entries as_user
-
--- the same, if there is a seat
-abbrev pub crowds_recounted_for : AddOrRemove → Roles → Option SeatRecord → List TubeRecord → List Crowd → List Crowd
-crowds_recounted_for how what None entries crowds = crowds
-crowds_recounted_for how what (Some s) entries crowds = crowds_recounted how what s entries crowds
-
--- the counts at the first entry of this name, if there is one
-abbrev pub crowd_at : List ℕ → List TubeRecord → List Crowd → Crowd
-crowd_at name [] crowds = no_crowd
-crowd_at name (t ∷ entries) [] = no_crowd
-crowd_at name (t ∷ entries) (crowd ∷ crowds) = if is_same_name name t.name then crowd else crowd_at name entries crowds
-
--- the counts with those of a tube that gets an entry
-abbrev pub crowds_provided : List ℕ → List TubeRecord → List Crowd → List Crowd
-crowds_provided name entries crowds =
-    if has_entry name entries then crowds else insert crowds (prefix_len (λ t. is_name_before t.name name) entries) no_crowd
-
 -- A waiting client is connected, and watches no tube twice.
 pub record IsSeated (s : SeatRecord) : Type 0 where
   pub waits : is_waiting s ≡ true → s.connected ≡ true
   pub once : none_twice s.watched ≡ true
-
--- The clients at each tube are counted.
-pub record AreCrowds (crowds : List Crowd) (seats : List SeatRecord) (entries : List TubeRecord) : Type 0 where
-  pub each : crowds ≡ crowds_of seats entries
-  pub seated : AllByRecursion IsSeated seats

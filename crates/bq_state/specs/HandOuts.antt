@@ -2,9 +2,8 @@
 use Rattle.std.specs.Prelude.{Err, List, None, Ok, Option, Result, Some, false, is_some, true, ℕ, ◌≡◌}
 use Rattle.bq_job.specs.machine.{Changes.{job_with, with_job}, Dispatch.reserved_by, SeatRecord}
 use Rattle.bq_jobs.specs.{Numbering.HasNumber, Searching.Asks, Seen.IsBodyOf, declared.numbered_jobs.JobMove.JobMove}
-use Rattle.bq_state.specs.{Counting.with_tallies_at, CoreParts.machine_of, Keeping.OnlySearches, TubesSeen.TubesSeen}
-use Rattle.bq_state.specs.{Knowledge.{is_wanted_by, with_moved}, Tallies.tally_moved, WaitingList.WaitingList}
-use Rattle.bq_state.specs.Warnings.{has_waiting_holder}
+use Rattle.bq_state.specs.{CoreParts.machine_of, Keeping.OnlySearches, Knowledge.{is_wanted_by, with_moved}, TubesSeen.TubesSeen}
+use Rattle.bq_state.specs.{TubesSeen.{entry_moved, with_entry}, WaitingList.WaitingList, Warnings.has_waiting_holder}
 use Rattle.bq_state.specs.declared.{core_parts.CoreParts.CoreParts, known.Known.Known}
 
 -- The client at the seat holds the job with this id, and this is the job's body.
@@ -24,7 +23,7 @@ HandsOutTo seat id (Some (Ok body)) old new = GoesTo seat id body old new
 abbrev pub CountsMove : JobMove → WaitingList → List SeatRecord → Known → Known → TubesSeen → TubesSeen → Type 0
 CountsMove m waiting seats known later tubes counted =
     (later ≡ with_moved m (is_wanted_by waiting tubes m) (has_waiting_holder m.to.state seats) known)
-    × (counted ≡ with_tallies_at m.tube (tally_moved m) tubes)
+    × (counted ≡ with_entry m.tube (entry_moved m) tubes)
 
 -- what a change returned that may have been refused: the number of the tube, the report, and the body
 module _ {E : Type 0} where

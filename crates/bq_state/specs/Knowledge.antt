@@ -1,29 +1,28 @@
 -- What is known without a search: that it is true, and how it changes.
 use Rattle.std.specs.Prelude.{Bool, List, None, Option, [], count_by, if◌then◌else◌, length, nat_lt, not, ℕ, ◌&&◌, ◌≡◌}
-use Rattle.bq_job.specs.{declared.job.Job.Job, machine.{SeatRecord, is_ready_state}}
+use Rattle.bq_job.specs.{declared.job.Job.Job, machine.{SeatRecord, TubeRecord, is_ready_state}}
 use Rattle.bq_jobs.specs.declared.numbered_jobs.{JobMove.JobMove, JobRemoval.JobRemoval}
-use Rattle.bq_state.specs.{Crowds.AreCrowds, SeatStates.seat_passes}
-use Rattle.bq_state.specs.{FirstTimeouts.{AreTimeouts, timeout_after}, Leaving.gone_of, TubesSeen.TubesSeen}
-use Rattle.bq_state.specs.{MaybeGoneTubes.{AreAlive, with_existing, with_gone}, Offers.is_waited_at, TubeEntries.counted}
-use Rattle.bq_state.specs.Tallies.{AreCounted, count_with, count_without, tally_left, tally_moved, tally_of, tally_with}
-use Rattle.bq_state.specs.{WaitingList.WaitingList, WantedJobs.{AreKnown, wanted_after_seat}}
-use Rattle.bq_state.specs.{WantedJobs.{wanted_after_tube, with_wanted}, Warnings.{AreWarned, warned_by_seat, with_holder_of}}
-use Rattle.bq_state.specs.declared.{known.Known.Known, seats.SeatChange.SeatChange, tubes.entry.{Roles.Roles, TubeChange.TubeChange}}
+use Rattle.bq_state.specs.{FirstTimeouts.{AreTimeouts, timeout_after}, Leaving.gone_of, MaybeGoneTubes.{AreAlive, with_existing, with_gone}}
+use Rattle.bq_state.specs.{Offers.is_waited_at, SeatStates.seat_passes, Tallies.{count_with, count_without, tally_left, tally_moved}}
+use Rattle.bq_state.specs.{Tallies.{tally_of, tally_with}, TubeEntries.counted, TubesSeen.TubesSeen, WaitingList.WaitingList}
+use Rattle.bq_state.specs.{WantedJobs.{AreKnown, wanted_after_seat, wanted_after_tube, with_wanted}, Warnings.{AreWarned, warned_by_seat}}
+use Rattle.bq_state.specs.{Warnings.with_holder_of, declared.{known.Known.Known, seats.SeatChange.SeatChange, tubes.entry.Roles.Roles}}
+use Rattle.bq_state.specs.declared.tubes.entry.TubeChange.{TubeChange}
 use Rattle.bq_state.specs.declared.known.first_timeout.FirstTimeout.TheVariants as ends
 use Rattle.bq_state.specs.declared.known.maybe_gone.MaybeGone.TheVariants as gone_tubes
 use Rattle.bq_state.specs.declared.known.wanted.Wanted.TheVariants as wanted_jobs
 use Rattle.bq_state.specs.declared.known.warns.Warns.TheVariants as holders
 
--- What is known is true of these jobs, seats and tubes, and the tubes' counts are correct.
-pub record IsSo (k : Known) (jobs : List Job) (seats : List SeatRecord) (tubes : TubesSeen) : Type 0 where
-  pub counts : AreCounted k.tally tubes.tallies jobs tubes.entries
+-- What is known is true of these jobs and seats, and of the tubes with these records.
+pub record IsSo (k : Known) (jobs : List Job) (seats : List SeatRecord) (entries : List TubeRecord) : Type 0 where
+  -- how many of the jobs are in each state
+  pub tally : k.tally ≡ tally_of jobs
   -- how many clients are connected
   pub connected : k.connected ≡ count_by (λ s. s.connected) seats
-  pub crowds : AreCrowds tubes.crowds seats tubes.entries
   -- which entries may be of tubes that have gone
-  pub alive : AreAlive k.maybe_gone jobs seats tubes.entries
+  pub alive : AreAlive k.maybe_gone jobs seats entries
   -- which jobs waiting clients may have
-  pub wanted_jobs : AreKnown k.wanted jobs seats (counted tubes.entries)
+  pub wanted_jobs : AreKnown k.wanted jobs seats (counted entries)
   -- which waiting clients may hold a job
   pub warnings : AreWarned k.warns jobs seats
   -- when the first wait times out

@@ -1,12 +1,13 @@
 -- Which tubes may have gone after a client leaves them.
 use Rattle.std.specs.Prelude.{Bool, List, None, Option, Some, [], fold, if◌then◌else◌, ℕ, ◌++◌, ◌∷◌}
 use Rattle.bq_job.specs.machine.{SeatRecord}
-use Rattle.bq_state.specs.{Crowds.{crowd_at, has_seats}, MaybeGoneTubes.with_gone, Tallies.{has_jobs, tally_at}, TubesSeen.TubesSeen}
-use Rattle.bq_state.specs.{TubeEntries.is_tube_by, declared.{known.maybe_gone.MaybeGone.MaybeGone, tubes.entry.Roles.Roles}}
+use Rattle.bq_state.specs.{Crowds.has_seats, MaybeGoneTubes.with_gone, Tallies.has_jobs, TubeEntries.is_tube_by, TubesSeen.TubesSeen}
+use Rattle.bq_state.specs.{TubesSeen.{crowd_by, entry_at, tally_by}, declared.known.maybe_gone.MaybeGone.MaybeGone}
+use Rattle.bq_state.specs.declared.tubes.entry.Roles.{Roles}
 
 -- the tube exists, according to its counts
 abbrev pub exists_in : TubesSeen → List ℕ → Bool
-exists_in k name = is_tube_by (has_jobs (tally_at name k.entries k.tallies)) (has_seats (crowd_at name k.entries k.crowds)) name
+exists_in k name = is_tube_by (has_jobs (tally_by (entry_at name k))) (has_seats (crowd_by (entry_at name k))) name
 
 -- one more tube may have gone, unless it exists
 abbrev pub gone_unless : Bool → List ℕ → MaybeGone → MaybeGone

@@ -4,7 +4,7 @@ use Rattle.std.specs.Prelude.{ℕ, ◌&&◌, ◌∷◌}
 use Rattle.bq_job.specs.{declared.job.Job.Job, machine.{SeatRecord, TubeRecord, first_of, is_job_before, is_pair_before, is_ready_in}}
 use Rattle.bq_job.specs.{machine.{Machine.Machine, is_waiting, next_job}, reading.TubeName.is_same_name}
 use Rattle.bq_jobs.specs.JobsSeen.{ranked}
-use Rattle.bq_state.specs.{Crowds.crowd_at, TubesSeen.TubesSeen}
+use Rattle.bq_state.specs.TubesSeen.{TubesSeen, crowd_by, entry_at}
 
 abbrev pub earlier_of_ranks : ℕ × ℕ → ℕ × ℕ → Option (ℕ × ℕ)
 earlier_of_ranks best other = if is_pair_before other.0 other.1 best.0 best.1 then Some other else Some best
@@ -46,4 +46,4 @@ these (Some s) = s ∷ []
 
 -- a client that waits for jobs of the tube is counted
 abbrev pub is_waited_at : List ℕ → TubesSeen → Bool
-is_waited_at name tubes = nat_lt 0 (crowd_at name tubes.entries tubes.crowds).waiting
+is_waited_at name tubes = nat_lt 0 (crowd_by (entry_at name tubes)).waiting

@@ -1,16 +1,19 @@
 -- The invariants of a core's state.
-use Rattle.std.{proofs.Props.props, specs.{Coded.{Unit-prop, le_prop, ×_prop}, Prelude.{Bool, List, [], false, ℕ, ◌∷◌, ◌≡◌, ◌≤◌}}}
+use Rattle.std.{proofs.Props.props, specs.{Coded.{Unit-prop, le_prop, ×_prop}, List.AllByRecursion, Prelude.{Bool, List, [], false, ℕ}}}
+use Rattle.std.specs.Prelude.{◌∷◌, ◌≡◌, ◌≤◌}
 use Rattle.bq_job.specs.{beside.AreIdsWithin, declared.job.Job.Job, machine.{SeatRecord, TubeRecord, last_id}}
-use Rattle.bq_state.specs.{FirstTimeouts.AreTimeouts, Knowledge.IsSo, SeatChanges.AreNumbered, TubeEntries.AreEntries, TubesSeen.TubesSeen}
-use Rattle.bq_state.specs.{TubeEntries.AreInOrder, WaitingList.{AreInTurn, WaitingList}, declared.known.Known.Known}
-use Rattle.bq_state.specs.declared.known.first_timeout.FirstTimeout.{FirstTimeout}
+use Rattle.bq_state.specs.{Counting.AreCounted, Crowds.IsSeated, FirstTimeouts.AreTimeouts, Knowledge.IsSo, SeatChanges.AreNumbered}
+use Rattle.bq_state.specs.{TubeEntries.{AreEntries, AreInOrder}, TubesSeen.{TubesSeen, records}, WaitingList.{AreInTurn, WaitingList}}
+use Rattle.bq_state.specs.declared.known.{Known.Known, first_timeout.FirstTimeout.FirstTimeout}
 use Rattle.bq_state.specs.declared.known.first_timeout.FirstTimeout.TheVariants as ends
 
 -- The fields of a state agree with each other: the jobs, seats and tubes, and what is kept besides
 -- them.
 pub record Soundness (jobs : List Job) (seats : List SeatRecord) (tubes : TubesSeen) (waiters : WaitingList) (k : Known)
     (next_id : ℕ) (draining : Bool) : Type 0 where
-  pub entries : AreEntries jobs seats tubes.entries
+  pub entries : AreEntries jobs seats (records tubes)
+  -- The counts of the tubes are those of the jobs and the seats.
+  pub counts : AreCounted jobs seats tubes.entries
   -- Seats are numbered in order.
   pub numbered : AreNumbered seats
   -- The model drains before the ids run out.
@@ -19,8 +22,9 @@ pub record Soundness (jobs : List Job) (seats : List SeatRecord) (tubes : TubesS
   pub ids : AreIdsWithin 1 jobs next_id
   -- The waiting clients are in order of their tickets.
   pub waiting : AreInTurn waiters seats
+  pub seated : AllByRecursion IsSeated seats
   -- What is known without a search is true.
-  pub known : IsSo k jobs seats tubes
+  pub known : IsSo k jobs seats (records tubes)
 
 AreInOrder-prop : (entries : List TubeRecord) → IsProp (AreInOrder entries)
 AreInOrder-prop [] = Unit-prop

@@ -2,8 +2,7 @@
 use Rattle.std.specs.Prelude.{List, [], ℕ}
 use Rattle.bq_index.specs.Catalog.{CatalogSeen}
 use Rattle.bq_jobs.specs.{JobsSeen.JobsSeen, Numbering.{AreRegistered, seen_named}, Table.Tabled}
-use Rattle.bq_state.specs.{PauseEnds.AreEnds, declared.tubes.pauses.PauseEnd.PauseEnd}
-use Rattle.bq_state.specs.TubesSeen.{EntrySeen, TubesSeen, first_tubes, tubes_seen}
+use Rattle.bq_state.specs.{PauseEnds.AreEnds, TubesSeen.{EntrySeen, TubesSeen, first_tubes}, declared.tubes.pauses.PauseEnd.PauseEnd}
 
 pub record StoreSeen : Type 0 where
   pub jobs : JobsSeen
@@ -11,7 +10,10 @@ pub record StoreSeen : Type 0 where
 
 -- from the records of the jobs, and the table of the tubes
 abbrev pub store_seen : JobsSeen → Tabled EntrySeen → StoreSeen
-store_seen rows table = record { jobs = seen_named rows table.tubes; tubes = tubes_seen table.tubes.numbers table.entries }
+store_seen rows table = record {
+  jobs = seen_named rows table.tubes;
+  tubes = record { entries = table.entries; numbers = table.tubes.numbers };
+}
 
 -- only the default tube, without jobs and clients
 abbrev pub first_store : List (List ℕ × ℕ) → StoreSeen

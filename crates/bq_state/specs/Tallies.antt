@@ -1,10 +1,9 @@
 -- How many of the jobs are in each state.
-use Rattle.std.specs.{List.{insert, prefix_len}, Prelude.{Bool, List, [], count_by, false, filter, if◌then◌else◌, map, nat_lt, true, ℕ}}
-use Rattle.std.specs.Prelude.{◌&&◌, ◌-◌, ◌||◌, ◌∷◌, ◌≡◌}
-use Rattle.bq_job.specs.{declared.job.Job.Job, machine.{TubeRecord, is_buried, is_delayed, is_name_before, is_ready, is_ready_state}}
-use Rattle.bq_job.specs.{machine.{is_reserved, is_urgent, raised}, reading.TubeName.is_same_name}
+use Rattle.std.specs.Prelude.{Bool, List, count_by, false, filter, nat_lt, true, ℕ, ◌&&◌, ◌-◌, ◌||◌}
+use Rattle.bq_job.specs.{declared.job.Job.Job, machine.{is_buried, is_delayed, is_ready, is_ready_state, is_reserved, is_urgent, raised}}
+use Rattle.bq_job.specs.reading.TubeName.{is_same_name}
 use Rattle.bq_jobs.specs.{Changed.pri_and_state, declared.numbered_jobs.{JobMove.JobMove, PriAndState.PriAndState}}
-use Rattle.bq_state.specs.{TubeEntries.has_entry, declared.known.tally.Tally.Tally}
+use Rattle.bq_state.specs.declared.known.tally.Tally.{Tally}
 
 abbrev pub tally_of : List Job → Tally
 tally_of jobs = record {
@@ -49,48 +48,13 @@ tally_left at t = record {
 abbrev pub tally_moved : JobMove → Tally → Tally
 tally_moved m t = tally_entered m.to (tally_left m.from t)
 
--- the counts including a job, and without it
+-- the counts including a job
 abbrev pub tally_with : Job → Tally → Tally
 tally_with j t = tally_entered (pri_and_state j) t
 
-abbrev pub tally_without : Job → Tally → Tally
-tally_without j t = tally_left (pri_and_state j) t
-
--- the counts of the jobs of each tube that has an entry, in the order of the entries
-abbrev pub tally_in : List Job → TubeRecord → Tally
-tally_in jobs t = tally_of (filter (λ j. is_same_name t.name j.tube) jobs)
-
-abbrev pub tallies_of : List Job → List TubeRecord → List Tally
-tallies_of jobs entries = map (tally_in jobs) entries
-
--- the counts with f applied at the first entry of this name
-abbrev pub tallies_at : List ℕ → (Tally → Tally) → List TubeRecord → List Tally → List Tally
-tallies_at name f [] tallies = tallies
-tallies_at name f (t ∷ entries) [] = []
-tallies_at name f (t ∷ entries) (tally ∷ tallies) =
-    if is_same_name name t.name then f tally ∷ tallies else tally ∷ tallies_at name f entries tallies
-
-abbrev pub tallies_with : Job → List TubeRecord → List Tally → List Tally
-tallies_with j entries tallies = tallies_at j.tube (tally_with j) entries tallies
-
-abbrev pub tallies_without : Job → List TubeRecord → List Tally → List Tally
-tallies_without j entries tallies = tallies_at j.tube (tally_without j) entries tallies
-
--- the counts at the first entry of this name, if there is one
-abbrev pub tally_at : List ℕ → List TubeRecord → List Tally → Tally
-tally_at name [] tallies = tally_of []
-tally_at name (t ∷ entries) [] = tally_of []
-tally_at name (t ∷ entries) (tally ∷ tallies) = if is_same_name name t.name then tally else tally_at name entries tallies
-
--- the counts of all jobs, and those of each tube that has an entry
-pub record AreCounted (tally : Tally) (tallies : List Tally) (jobs : List Job) (entries : List TubeRecord) : Type 0 where
-  pub whole : tally ≡ tally_of jobs
-  pub each : tallies ≡ tallies_of jobs entries
-
--- the counts including a tube that gets an entry
-abbrev pub tallies_provided : List ℕ → List TubeRecord → List Tally → List Tally
-tallies_provided name entries tallies =
-    if has_entry name entries then tallies else insert tallies (prefix_len (λ t. is_name_before t.name name) entries) (tally_of [])
+-- the counts of the jobs of the tube with this name
+abbrev pub tally_in : List Job → List ℕ → Tally
+tally_in jobs name = tally_of (filter (λ j. is_same_name name j.tube) jobs)
 
 -- whether a job is counted
 abbrev pub has_jobs : Tally → Bool

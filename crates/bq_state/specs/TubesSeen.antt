@@ -1,31 +1,14 @@
--- The records of the tubes that have an entry.
-use Rattle.std.specs.{BTreeMap.is_at, Cmp.Lexicographic.slice_cmp, Map.{lookup, remove_entry, set_value}, Ordering.{is_gt, nat_cmp}}
-use Rattle.std.specs.Prelude.{Bool, List, None, Option, Some, [], false, if◌then◌else◌, is_some, map, not, true, ℕ, ◌&&◌, ◌∷◌}
+-- The tubes that have an entry.
+use Rattle.std.specs.{BTreeMap.{insert_entry, is_at}, Cmp.Lexicographic.slice_cmp, Map.{lookup, remove_entry, set_value}, Ordering.is_gt}
+use Rattle.std.specs.{Ordering.nat_cmp, Prelude.{Bool, List, None, Option, Some, [], false, fold, if◌then◌else◌, is_some, map, not, true}}
+use Rattle.std.specs.Prelude.{ℕ, ◌&&◌, ◌∷◌}
 use Rattle.bq_index.specs.Edited.{edited_if}
-use Rattle.bq_job.specs.{declared.job.Job.Job, machine.{Pause, TubeRecord, default_tube, fresh_tube, pause_after_timers, raised}}
-use Rattle.bq_job.specs.machine.{tube_after_timers}
+use Rattle.bq_job.specs.{declared.job.Job.Job, machine.{Pause, TubeRecord, default_tube, pause_after_timers, raised}}
+use Rattle.bq_job.specs.reading.TubeName.{is_same_name}
 use Rattle.bq_jobs.specs.declared.numbered_jobs.{JobMove.JobMove, JobRemoval.JobRemoval}
 use Rattle.bq_state.specs.{Crowds.{has_seats, no_crowd, recounted}, Tallies.{has_jobs, tally_left, tally_moved, tally_of, tally_with}}
-use Rattle.bq_state.specs.{TubeEntries.{is_tube_by, tube_changed}, declared.{known.tally.Tally.Tally, tubes.entry.Crowd.Crowd}}
-use Rattle.bq_state.specs.declared.tubes.entry.{AddOrRemove.AddOrRemove, Roles.Roles}
-use Rattle.bq_state.specs.declared.tubes.entry.TubeChange.{TheVariants.{CountDelete, CountPut}, TubeChange}
-
--- what contracts see of the tubes: the entries and, parallel to them, the counts of the tubes' jobs and of their clients; and the
--- number of each tube by its name
-pub record TubesSeen : Type 0 where
-  pub entries : List TubeRecord
-  pub tallies : List Tally
-  pub crowds : List Crowd
-  pub numbers : List (List ℕ × ℕ)
-
--- only the default tube, without jobs and clients
-abbrev pub first_tubes : List (List ℕ × ℕ) → TubesSeen
-first_tubes numbers = record {
-  entries = fresh_tube default_tube ∷ [];
-  tallies = tally_of [] ∷ [];
-  crowds = no_crowd ∷ [];
-  numbers = numbers;
-}
+use Rattle.bq_state.specs.{TubeEntries.{is_tube_by, tube_changed}, declared.{known.tally.Tally.Tally, tubes.entry.AddOrRemove.AddOrRemove}}
+use Rattle.bq_state.specs.declared.tubes.entry.{Crowd.Crowd, Roles.Roles, TubeChange.{TheVariants.{CountDelete, CountPut}, TubeChange}}
 
 -- what contracts see of an entry: what is kept of a tube besides its name
 pub record EntrySeen : Type 0 where
@@ -33,12 +16,18 @@ pub record EntrySeen : Type 0 where
   pub puts : ℕ
   pub deletes : ℕ
   pub pauses : ℕ
+  -- the counts of the tube's jobs and of its clients
   pub tally : Tally
   pub crowd : Crowd
 
 -- an entry with its name
 abbrev pub Named : Type 0
 Named = List ℕ × EntrySeen
+
+-- what contracts see of the tubes: the entries, in the order of their names, and the number of each tube by its name
+pub record TubesSeen : Type 0 where
+  pub entries : List Named
+  pub numbers : List (List ℕ × ℕ)
 
 -- the record of a tube
 abbrev pub record_of : List ℕ → EntrySeen → TubeRecord
@@ -47,23 +36,17 @@ record_of name t = record { name = name; pause = t.pause; puts = t.puts; deletes
 abbrev pub record_at : Named → TubeRecord
 record_at e = record_of e.0 e.1
 
-abbrev pub entry_tally : Named → Tally
-entry_tally e = e.1.tally
-
-abbrev pub entry_crowd : Named → Crowd
-entry_crowd e = e.1.crowd
-
-abbrev pub tubes_seen : List (List ℕ × ℕ) → List Named → TubesSeen
-tubes_seen numbers es = record {
-  entries = map record_at es;
-  tallies = map entry_tally es;
-  crowds = map entry_crowd es;
-  numbers = numbers;
-}
+-- the records of the tubes that have an entry
+abbrev pub records : TubesSeen → List TubeRecord
+records k = map record_at k.entries
 
 -- the entry of a tube to which nothing has happened
 abbrev pub fresh_entry : EntrySeen
 fresh_entry = record { pause = None; puts = 0; deletes = 0; pauses = 0; tally = tally_of []; crowd = no_crowd }
+
+-- only the default tube, without jobs and clients
+abbrev pub first_tubes : List (List ℕ × ℕ) → TubesSeen
+first_tubes numbers = record { entries = (default_tube, fresh_entry) ∷ []; numbers = numbers }
 
 -- the entry after this happened to the tube
 abbrev pub entry_after : TubeRecord → EntrySeen → EntrySeen
@@ -88,6 +71,30 @@ entry_moved m t = record t { tally = tally_moved m t.tally }
 abbrev pub entry_recounted : AddOrRemove → Roles → EntrySeen → EntrySeen
 entry_recounted how roles t = record t { crowd = recounted how roles t.crowd }
 
+-- the entry after its pause has ended, if it is due
+abbrev pub ended : ℕ → EntrySeen → EntrySeen
+ended moment t = record t { pause = pause_after_timers moment t.pause }
+
+-- an entry with f applied to it if it has this name
+abbrev pub changed_named : List ℕ → (EntrySeen → EntrySeen) → Named → Named
+changed_named name f e = (e.0, if is_same_name name e.0 then f e.1 else e.1)
+
+-- the tubes with f applied to the entry of this name
+abbrev pub with_entry : List ℕ → (EntrySeen → EntrySeen) → TubesSeen → TubesSeen
+with_entry name f k = record k { entries = map (changed_named name f) k.entries }
+
+-- and to the entry of each of these names
+abbrev pub with_entries : List (List ℕ) → (EntrySeen → EntrySeen) → TubesSeen → TubesSeen
+with_entries names f k = fold (λ k name. with_entry name f k) k names
+
+-- the tubes after due pauses have ended
+abbrev pub with_ended : ℕ → List Named → List Named
+with_ended moment es = map (λ e. (e.0, ended moment e.1)) es
+
+-- the tubes after one got an entry and a number
+abbrev pub tubes_with : List ℕ → List (List ℕ × ℕ) → TubesSeen → TubesSeen
+tubes_with name numbers k = record { entries = insert_entry (slice_cmp nat_cmp) k.entries name fresh_entry; numbers = numbers }
+
 -- the test of names in a lookup of this one
 abbrev pub is_named_at : List ℕ → List ℕ → Bool
 is_named_at name = is_at (slice_cmp nat_cmp name)
@@ -99,6 +106,10 @@ edited name f found es = edited_if f (set_value (is_named_at name) es) es found
 -- the entries with f applied to the one with this name, if there is one
 abbrev pub edited_at : List ℕ → (EntrySeen → EntrySeen) → List Named → List Named
 edited_at name f es = edited name f (lookup (is_named_at name) es) es
+
+-- the entry with this name, if there is one
+abbrev pub entry_at : List ℕ → TubesSeen → Option EntrySeen
+entry_at name k = lookup (is_named_at name) k.entries
 
 -- whether a tube is paused, from its entry, if it has one
 abbrev pub is_paused_by : Option EntrySeen → Bool
@@ -113,14 +124,6 @@ tally_by (Some t) = t.tally
 abbrev pub crowd_by : Option EntrySeen → Crowd
 crowd_by None = no_crowd
 crowd_by (Some t) = t.crowd
-
--- the entry after its pause has ended, if it is due
-abbrev pub ended : ℕ → EntrySeen → EntrySeen
-ended moment t = record t { pause = pause_after_timers moment t.pause }
-
--- the records after due pauses have ended
-abbrev pub records_ended : ℕ → List Named → List TubeRecord
-records_ended moment es = map (tube_after_timers moment) (map record_at es)
 
 -- whether the tube of an entry exists
 abbrev pub is_alive_with : List ℕ → EntrySeen → Bool

@@ -9,7 +9,7 @@ ghost use Rattle.bq_job.specs.machine.{Limits.{grown, raised}, Machine.{empty_se
 ghost use Rattle.bq_job.specs.machine.Tubes.{forgetting, watches, with_tube};
 ghost use Rattle.bq_jobs.specs.{JobsSeen.{ComparesAtMost, with_added}, Names.number_in, Numbering.HasNumber, Searching.Asks};
 ghost use Rattle.bq_state.specs.{CoreParts.{AtSeat, Watches, fields, machine_of, with_pauses_ended}, Crowds.may_wait, Dues.with_warning_due};
-ghost use Rattle.bq_state.specs.{JobChanges.{changed, is_passed_by, once_deleted, passes}, TubesSeen.is_named_at};
+ghost use Rattle.bq_state.specs.{JobChanges.{changed, is_passed_by, once_deleted, passes}, TubesSeen.{is_named_at, records}};
 ghost use Rattle.bq_state.specs.{Store.first_store, Names.names_of, Offers.is_waited_at, SeatChanges.{fewer_watched, has_tube_of, more_watched, seat_changed}};
 ghost use Rattle.bq_state.specs.{SeatChanges.watches_other, TubeEntries.{has_entry, is_tube_of, tube_changed}, Warnings.may_hold};
 ghost use Rattle.bq_state.specs.Warnings.{warned_if_due, with_holder};
@@ -74,7 +74,7 @@ pub fn add(state: &mut CoreParts, job: Job, number: TubeNumber)
     requires room { 0 < state.old.store.jobs.room }
     requires given { (1 ≤ job.id) × (job.id < state.old.next_id) }
     requires free { job_with job.id (machine_of state.old).jobs ≡ None }
-    requires entry { has_entry job.tube state.old.store.tubes.entries ≡ true }
+    requires entry { has_entry job.tube (records state.old.store.tubes) ≡ true }
     requires number { HasNumber job.tube number state.old.store.tubes.numbers }
     ensures after { machine_of state.new
         ≡ record (with_tube job.tube with_put (machine_of state.old)) { jobs = with_added job (machine_of state.old).jobs } }
@@ -110,7 +110,7 @@ pub fn delete(state: &mut CoreParts, id: JobId, test: JobTest) -> bool
 }
 
 /// Changes the job with this id, if there is one.
-#[tactic(auto, using(crate::proofs::MovedLemmas::tube_ignored))]
+#[tactic(auto, using(crate::proofs::MovedLemmas::tube_ignored, crate::proofs::NamedLemmas::records_moved))]
 pub fn change_job(state: &mut CoreParts, id: JobId, what: &JobChange)
     ensures after { machine_of state.new ≡ with_job id (changed what.now) (machine_of state.old) }
     ensures asks { Asks 8 state.old.store.jobs state.new.store.jobs }
@@ -209,7 +209,7 @@ fn count_move(
 /// Changes the seat with this number. If it starts to use a tube, that tube already has an entry.
 #[inline(never)]
 pub fn change_seat(state: &mut CoreParts, seat: Seat, what: &SeatChange)
-    requires entry { has_tube_of what.now state.old.store.tubes.entries ≡ true }
+    requires entry { has_tube_of what.now (records state.old.store.tubes) ≡ true }
     requires waits { may_wait what.now (seat_with seat state.old.seats.items) ≡ true }
     requires holds { may_hold what.now seat state.old.known.warns state.old.store.jobs.jobs ≡ true }
     ensures after { machine_of state.new
@@ -244,7 +244,7 @@ pub fn start_waiting(state: &mut CoreParts, seat: Seat, ticket: u64, until: Opti
 #[inline(always)]
 #[tactic(auto, using(crate::proofs::KnowledgeLemmas::kept_by_seat))]
 fn change_seat_by(state: &mut CoreParts, seat: Seat, what: &SeatChange)
-    requires entry { has_tube_of what.now state.old.store.tubes.entries ≡ true }
+    requires entry { has_tube_of what.now (records state.old.store.tubes) ≡ true }
     requires waits { may_wait what.now (seat_with seat state.old.seats.items) ≡ true }
     requires holds { may_hold what.now seat state.old.known.warns state.old.store.jobs.jobs ≡ true }
     ensures after { machine_of state.new
@@ -312,7 +312,6 @@ pub fn settle_warnings(state: &mut CoreParts, is_due: bool)
 }
 
 /// Ends the pauses that are over. If none is, no tube is checked.
-#[tactic(auto, using(crate::proofs::TubeLemmas::filter_of_map))]
 pub fn end_pauses(state: &mut CoreParts)
     ensures after { machine_of state.new ≡ with_pauses_ended (machine_of state.old) }
     ensures jobs { state.new.store.jobs ≡ state.old.store.jobs }
@@ -325,9 +324,8 @@ pub fn end_pauses(state: &mut CoreParts)
 }
 
 /// Changes the record of a tube that has an entry. It is looked for at the number `hint` first.
-#[tactic(auto, using(crate::proofs::PartsLemmas::recorded))]
 pub fn change_tube(state: &mut CoreParts, tube: &TubeName, hint: TubeNumber, what: TubeChange)
-    requires entry { has_entry tube.now state.old.store.tubes.entries ≡ true }
+    requires entry { has_entry tube.now (records state.old.store.tubes) ≡ true }
     ensures after { machine_of state.new
         ≡ with_tube tube.now (tube_changed what) (machine_of state.old) }
     ensures jobs { state.new.store.jobs ≡ state.old.store.jobs }
@@ -338,16 +336,16 @@ pub fn change_tube(state: &mut CoreParts, tube: &TubeName, hint: TubeNumber, wha
 
 /// Ensures that a tube has an entry and a number, and returns the number. The allocations for that
 /// come before any change. Returns `NoMemory` if one fails.
-#[tactic(auto, using(crate::proofs::PartsLemmas::counted_provided, crate::proofs::PartsLemmas::has_provided))]
+#[tactic(auto, using(crate::proofs::KnowledgeLemmas::counted_new, crate::proofs::KnowledgeLemmas::has_new))]
 pub fn provide_tube(
     state: &mut CoreParts,
     alloc: Global,
     tube: &TubeName,
 ) -> Result<TubeNumber, NoMemory>
     ensures after { machine_of state.new ≡ machine_of state.old }
-    ensures entry { IfOk result (λ _. has_entry tube.now state.new.store.tubes.entries ≡ true) }
+    ensures entry { IfOk result (λ _. has_entry tube.now (records state.new.store.tubes) ≡ true) }
     ensures number { IfOk result (λ n. HasNumber tube.now n state.new.store.tubes.numbers) }
-    ensures refused { OnErr result (has_entry tube.now state.old.store.tubes.entries ≡ false) }
+    ensures refused { OnErr result (has_entry tube.now (records state.old.store.tubes) ≡ false) }
     ensures seats { state.new.seats ≡ state.old.seats }
     ensures wanted { state.new.known.wanted ≡ state.old.known.wanted }
     ensures asks { Asks 0 state.old.store.jobs state.new.store.jobs }
@@ -425,7 +423,7 @@ pub fn number_of(state: &CoreParts, tube: &TubeName) -> TubeNumber
 }
 
 /// Returns true if the tube exists. It is looked for at the number `hint` first.
-#[tactic(auto, using(crate::proofs::CrowdPlaces::tube_there))]
+#[tactic(auto, using(crate::proofs::CountedLemmas::tube_there))]
 pub fn is_tube(state: &CoreParts, tube: &TubeName, hint: TubeNumber) -> bool
     ensures { result
         ≡ is_tube_of (machine_of state.now).jobs (machine_of state.now).seats tube.now }

@@ -3,10 +3,10 @@ ghost use Rattle.std.specs.Prelude.{◌≡◌};
 ghost use Rattle.bq_state.specs.Soundness.{Soundness, Soundness-prop};
 
 use crate::job_store::JobTest;
-use crate::known::{Known, Tally};
+use crate::known::Known;
 use crate::seats::SeatRecord;
 use crate::store::Store;
-use crate::tubes::Crowd;
+use crate::tubes::TubeEntry;
 use crate::waiting::WaitingList;
 use crate::{job_store, seats};
 use bq_core_api::Config;
@@ -47,13 +47,12 @@ pub struct CoreParts {
 }
 
 impl CoreParts {
-    ghost use Rattle.std.specs.{List.list_any, Option.option_map, Prelude.{IfOk, IfSome, count_by, filter, is_some, ◌&&◌}};
+    ghost use Rattle.std.specs.{List.list_any, Option.option_map, Prelude.{IfOk, IfSome, count_by, is_some, unwrap_or, ◌&&◌}};
     ghost use Rattle.bq_job.specs.machine.{Changes.{is_held_by, is_ready, is_waiting, job_with, seat_with}, JobStates.{is_delayed, is_reserved}};
-    ghost use Rattle.bq_job.specs.reading.TubeName.{is_same_name};
     ghost use Rattle.bq_jobs.specs.{Ranks.first_in, Seen.IsBodyOf};
-    ghost use Rattle.bq_state.specs.{CoreParts.machine_of, Crowds.crowd_of, JobChanges.{is_passed_by, passes, ttr_held_by}};
+    ghost use Rattle.bq_state.specs.{CoreParts.{entry_in, machine_of}, JobChanges.{is_passed_by, passes, ttr_held_by}};
     ghost use Rattle.bq_state.specs.{Keeping.OnlySearches, SeatStates.{is_asking, is_connected, is_free}};
-    ghost use Rattle.bq_state.specs.Tallies.{tally_of};
+    ghost use Rattle.bq_state.specs.TubesSeen.{fresh_entry};
 
     /// Returns true if there is a seat with this number and no client is connected to it.
     pub fn is_free(&self, seat: Seat) -> bool
@@ -178,20 +177,13 @@ impl CoreParts {
         self.waiter_count() > 0
     }
 
-    /// Returns the counts of the jobs in the tube.
-    #[tactic(auto, using(crate::proofs::TallyPlaces::tally_there))]
-    pub fn tally_in(&self, tube: &TubeName, hint: TubeNumber) -> Tally
-        ensures { result
-            ≡ tally_of (filter (λ j. is_same_name tube.now j.tube) self.now.store.jobs.jobs) }
+    /// Returns the entry of a tube. A tube without one is not paused, nothing was counted in it, and
+    /// no job and no client is there.
+    #[tactic(auto, using(crate::proofs::NameLemmas::entry_told))]
+    pub fn entry_of(&self, tube: &TubeName, hint: TubeNumber) -> Option<&TubeEntry>
+        ensures { unwrap_or (option_map (λ t. t.now) result) fresh_entry
+            ≡ entry_in (machine_of self.now) tube.now }
     {
-        self.store.tally_of(tube, hint)
-    }
-
-    /// Returns the counts of the clients that use or watch the tube, or wait for its jobs.
-    #[tactic(auto, using(crate::proofs::CrowdPlaces::crowd_there))]
-    pub fn crowd_at(&self, tube: &TubeName, hint: TubeNumber) -> Crowd
-        ensures { result ≡ crowd_of self.now.seats.items tube.now }
-    {
-        self.store.crowd_of(tube, hint)
+        self.store.entry_of(tube, hint)
     }
 }

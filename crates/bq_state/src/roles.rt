@@ -1,6 +1,6 @@
 //! The roles of a client at the tubes that it uses and watches.
 ghost use Rattle.std.specs.{Option.option_copied, Prelude.◌≡◌};
-ghost use Rattle.bq_state.specs.{Counting.{recounted_for, with_crowds_at, with_crowds_at_all}, Crowds.{recounted, roles_as_user}};
+ghost use Rattle.bq_state.specs.{Counting.recounted_for, Crowds.roles_as_user, TubesSeen.{entry_recounted, with_entries, with_entry}};
 ghost use Rattle.bq_state.specs.Crowds.{roles_as_watcher, roles_of_watcher, roles_of_watching, touched};
 
 use crate::seats::{SeatChange, SeatRecord};
@@ -61,9 +61,9 @@ pub(crate) fn at(client: &SeatRecord, name: &TubeName) -> Roles
 
 // Counts a client with these roles at a tube, or stops counting it. Without a role no tube is searched for.
 #[inline(always)]
-#[tactic(auto, using(crate::proofs::CrowdLemmas::beside_same, crate::proofs::CrowdLemmas::none_recounted))]
+#[tactic(auto, using(crate::proofs::CrowdLemmas::same_recounted))]
 fn recount_at(store: &mut Store, tube: &Tube, how: AddOrRemove, roles: Roles)
-    ensures { store.new ≡ record store.old { tubes = with_crowds_at tube.now (recounted how roles) store.old.tubes } }
+    ensures { store.new ≡ record store.old { tubes = with_entry tube.now (entry_recounted how roles) store.old.tubes } }
 {
     if !roles.is_none() {
         store.recount(tube.name(), tube.number(), how, roles);
@@ -75,7 +75,7 @@ fn recount_at(store: &mut Store, tube: &Tube, how: AddOrRemove, roles: Roles)
 #[tactic(auto, using(crate::proofs::LoopLemmas::folded_more))]
 fn recount_all(store: &mut Store, watched: &[Tube], how: AddOrRemove, roles: Roles)
     ensures { store.new ≡ record store.old
-        { tubes = with_crowds_at_all watched.now (recounted how roles) store.old.tubes } }
+        { tubes = with_entries watched.now (entry_recounted how roles) store.old.tubes } }
 {
     for i in 0..watched.len() {
         let tube = &watched[i];
@@ -85,10 +85,10 @@ fn recount_all(store: &mut Store, watched: &[Tube], how: AddOrRemove, roles: Rol
 
 // Does the same; without a role no tube is searched for.
 #[inline(always)]
-#[tactic(auto, using(crate::proofs::CrowdLemmas::all_same, crate::proofs::CrowdLemmas::none_recounted))]
+#[tactic(auto, using(crate::proofs::CrowdLemmas::all_recounted_same))]
 fn recount_watched(store: &mut Store, watched: &[Tube], how: AddOrRemove, roles: Roles)
     ensures { store.new ≡ record store.old
-        { tubes = with_crowds_at_all watched.now (recounted how roles) store.old.tubes } }
+        { tubes = with_entries watched.now (entry_recounted how roles) store.old.tubes } }
 {
     if !roles.is_none() {
         recount_all(store, watched, how, roles);
@@ -119,7 +119,6 @@ fn as_watcher(client: &SeatRecord, what: Roles) -> Roles
 
 /// Counts a client at its tubes, or stops counting it, with those of its roles that are in `what`.
 #[inline(always)]
-#[tactic(auto, using(crate::proofs::NamedLemmas::kept_alike))]
 pub(crate) fn recount(store: &mut Store, client: Option<&SeatRecord>, how: AddOrRemove, what: Roles)
     ensures { store.new ≡ record store.old
         { tubes = recounted_for how what (option_copied client.entry) store.old.tubes } }

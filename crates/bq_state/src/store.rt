@@ -15,7 +15,7 @@ ghost use Rattle.bq_jobs.specs.{
 ghost use Rattle.bq_jobs.specs.Ranks.{first_by, first_in, is_timed, list_rank, moment_of};
 ghost use Rattle.bq_jobs.specs.{Room.{MakesRoom, RemovesIf}, Seen.{IsBodyOf, IsTubeOf, but_for_tube}};
 ghost use Rattle.bq_jobs.specs.{Sharing.SharesAndChanges, Told.{IsNamedIf, moved_told, removed_told, shared_told}};
-ghost use Rattle.bq_state.specs.{Counting.with_job_put, Keeping.SearchesStore, Room.{room_given_back, room_left}, Store.first_store};
+ghost use Rattle.bq_state.specs.{Keeping.SearchesStore, Room.{room_given_back, room_left}, Store.first_store, TubesSeen.{entry_with, with_entry}};
 
 use crate::tubes::{PauseEnds, TubeEntry};
 use crate::watch_list::default_tube;
@@ -145,7 +145,7 @@ impl Store {
         ensures ordered { AreIdsWithin 0 self.new.jobs.jobs (2 ^ 64) }
         ensures room { self.new.jobs.room + 1 ≡ self.old.jobs.room }
         ensures comparisons { ComparesAtMost 4 self.old.jobs self.new.jobs }
-        ensures tubes { self.new.tubes ≡ with_job_put job self.old.tubes }
+        ensures tubes { self.new.tubes ≡ with_entry job.tube (entry_with job) self.old.tubes }
     {
         self.count_put(&job, number);
         self.jobs.add(job.id, PackedJob::of(job, number));

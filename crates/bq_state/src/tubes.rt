@@ -1,16 +1,15 @@
 //! The tubes of a store: what is kept of each that exists.
-ghost use Rattle.std.specs.{Cmp.Lexicographic.slice_cmp, List.list_any, Map.lookup, Option.option_map, Ordering.nat_cmp, Prelude.IfOk};
-ghost use Rattle.std.specs.Prelude.{false, find, if◌then◌else◌, is_ok, is_some, length, map, ◌&&◌, ◌<◌, ◌≡◌};
+ghost use Rattle.std.specs.{Cmp.Lexicographic.slice_cmp, List.list_any, Map.{keys_of, lookup}, Option.option_map, Ordering.nat_cmp, Prelude.IfOk};
+ghost use Rattle.std.specs.Prelude.{false, filter, if◌then◌else◌, is_ok, is_some, length, ◌&&◌, ◌≡◌};
 ghost use Rattle.bq_index.specs.Order.{InOrder};
-ghost use Rattle.bq_job.specs.{machine.Timers.tube_after_timers, reading.TubeName.is_same_name};
+ghost use Rattle.bq_job.specs.reading.TubeName.{is_same_name};
 ghost use Rattle.bq_jobs.specs.{Names.number_in, Numbering.{Extends, HasNumber}};
-ghost use Rattle.bq_state.specs.Counting.{AreCounts, DropsGone, IfCounted, tubes_with, with_crowds_at, with_job_put, with_removal_counted};
-ghost use Rattle.bq_state.specs.{Counting.with_tallies_at, Crowds.{crowd_at, has_seats, recounted}, Dues.first_pause_end};
-ghost use Rattle.bq_state.specs.TubesSeen.{edited_at, entry_changed, is_named_at};
-ghost use Rattle.bq_state.specs.{Leaving.exists_in, Names.names_of, PauseEnds.AreEnds, Tallies.{has_jobs, tallies_of, tally_at}};
-ghost use Rattle.bq_state.specs.{Tallies.tally_moved, TubeEntries.{has_entry, names_alive, tube_changed_at}};
+ghost use Rattle.bq_state.specs.{Counting.{AreTallied, forgotten}, Crowds.has_seats, Dues.first_pause_end, Leaving.exists_in};
+ghost use Rattle.bq_state.specs.{Names.names_of, PauseEnds.AreEnds, TubeEntries.has_entry};
+ghost use Rattle.bq_state.specs.TubesSeen.{edited_at, entry_at, entry_changed, entry_moved, entry_recounted, entry_with, entry_without};
+ghost use Rattle.bq_state.specs.TubesSeen.{is_alive_at, is_named_at, records, tubes_with, with_ended, with_entry};
 
-use crate::known::{MaybeGone, Tally};
+use crate::known::MaybeGone;
 use crate::name_lists::Names;
 use crate::store::Store;
 use crate::watch_list::default_tube;
@@ -49,7 +48,7 @@ fn change(
 }
 
 impl Store {
-    ghost use Rattle.bq_state.specs.TubesSeen.{crowd_by, is_paused_by, record_of, tally_by};
+    ghost use Rattle.bq_state.specs.TubesSeen.{crowd_by};
 
     /// Returns the number of entries.
     pub(crate) fn tube_count(&self) -> usize
@@ -71,16 +70,16 @@ impl Store {
     #[tactic(auto, using(crate::proofs::NamedLemmas::have_numbers, crate::proofs::NamedLemmas::number_there))]
     pub fn number_of(&self, name: &TubeName, hint: TubeNumber) -> Option<TubeNumber>
         ensures number { option_map number_in result ≡ lookup (is_named_at name.now) self.now.tubes.numbers }
-        ensures there { is_some result ≡ has_entry name.now self.now.tubes.entries }
+        ensures there { is_some result ≡ has_entry name.now (records self.now.tubes) }
     {
         self.table.number_of(name, hint)
     }
 
     /// Gives an entry and a number to a tube that has none, and returns the number. The allocations
     /// for that come before any change.
-    #[tactic(auto, using(crate::proofs::NamedLemmas::new_parts, crate::proofs::NumberLemmas::number_given, bq_jobs::proofs::NamedJobs::named_more))]
+    #[tactic(auto, using(crate::proofs::NamedLemmas::none_found, crate::proofs::NumberLemmas::number_given, bq_jobs::proofs::NamedJobs::named_more))]
     pub(crate) fn provide(&mut self, alloc: Global, name: &TubeName) -> Result<TubeNumber, NoMemory>
-        requires { has_entry name.now self.old.tubes.entries ≡ false }
+        requires { has_entry name.now (records self.old.tubes) ≡ false }
         ensures after { self.new.tubes
             ≡ (if is_ok result then tubes_with name.now self.new.tubes.numbers self.old.tubes else self.old.tubes) }
         ensures extends { Extends self.old.tubes.numbers self.new.tubes.numbers }
@@ -94,33 +93,22 @@ impl Store {
 
     /// Changes the tube with this name.
     pub(crate) fn change_tube(&mut self, name: &TubeName, hint: TubeNumber, what: TubeChange)
-        ensures { self.new ≡ record self.old
-            { tubes = record self.old.tubes { entries = map (tube_changed_at name.now what) self.old.tubes.entries } } }
+        ensures { self.new ≡ record self.old { tubes = with_entry name.now (entry_changed what) self.old.tubes } }
     {
         change(&mut self.table, &mut self.ends, name, hint, what);
     }
 
     /// Ends pauses that are due.
-    #[tactic(auto, using(crate::proofs::NamedLemmas::kept_alike))]
     pub fn fire_timers(&mut self, moment: Moment)
         ensures { self.new ≡ record self.old
-            { tubes = record self.old.tubes { entries = map (tube_after_timers moment) self.old.tubes.entries } } }
+            { tubes = record self.old.tubes { entries = with_ended moment self.old.tubes.entries } } }
     {
         pauses::end_all(&mut self.table, &mut self.ends, moment);
     }
 
-    /// Returns the entry with this name, which contains how many jobs and clients the tube has, and
-    /// whether it is paused.
-    #[tactic(auto, using(crate::proofs::NamedLemmas::found_parts))]
-    pub fn entry_of(&self, name: &TubeName, hint: TubeNumber) -> Option<&TubeEntry>
-        ensures entry { option_map (λ t. record_of name.now t.now) result
-            ≡ find (λ t. is_same_name name.now t.name) self.now.tubes.entries }
-        ensures tally { tally_by (option_map (λ t. t.now) result)
-            ≡ tally_at name.now self.now.tubes.entries self.now.tubes.tallies }
-        ensures crowd { crowd_by (option_map (λ t. t.now) result)
-            ≡ crowd_at name.now self.now.tubes.entries self.now.tubes.crowds }
-        ensures pause { is_paused_by (option_map (λ t. t.now) result)
-            ≡ list_any (λ t. is_same_name name.now t.name && is_some t.pause) self.now.tubes.entries }
+    /// Returns the entry with this name.
+    pub(crate) fn entry_of(&self, name: &TubeName, hint: TubeNumber) -> Option<&TubeEntry>
+        ensures { option_map (λ t. t.now) result ≡ entry_at name.now self.now.tubes }
     {
         self.table.get(name, hint)
     }
@@ -128,12 +116,12 @@ impl Store {
     /// Returns true if the tube with this name is paused. If no tube is, nothing is searched.
     pub fn is_paused(&self, name: &TubeName, hint: TubeNumber) -> bool
         ensures { result
-            ≡ list_any (λ t. is_same_name name.now t.name && is_some t.pause) self.now.tubes.entries }
+            ≡ list_any (λ t. is_same_name name.now t.name && is_some t.pause) (records self.now.tubes) }
     {
         if self.ends.len() == 0 {
             return false;
         }
-        match self.entry_of(name, hint) {
+        match self.table.get(name, hint) {
             None => false,
             Some(entry) => entry.is_paused(),
         }
@@ -142,7 +130,7 @@ impl Store {
     /// Counts a new job in its tube, which has this number.
     pub(crate) fn count_put(&mut self, job: &Job, number: TubeNumber)
         requires { HasNumber job.now.tube number self.old.tubes.numbers }
-        ensures { self.new ≡ record self.old { tubes = with_job_put job.now self.old.tubes } }
+        ensures { self.new ≡ record self.old { tubes = with_entry job.now.tube (entry_with job.now) self.old.tubes } }
     {
         let name = GhostName::of(&job.tube);
         self.table.edit_numbered(&name, number, job);
@@ -150,12 +138,10 @@ impl Store {
 
     /// Stops counting the job of this report in its tube, which has this number, and counts its
     /// deletion. Returns whether a client uses or watches the tube.
-    #[tactic(auto, using(crate::proofs::NamedLemmas::seats_told))]
     pub(crate) fn count_removal(&mut self, removed: &JobRemoval, number: TubeNumber) -> bool
         requires { HasNumber removed.now.tube number self.old.tubes.numbers }
-        ensures after { self.new ≡ record self.old { tubes = with_removal_counted removed.now self.old.tubes } }
-        ensures seats { result
-            ≡ has_seats (crowd_at removed.now.tube self.old.tubes.entries self.old.tubes.crowds) }
+        ensures after { self.new ≡ record self.old { tubes = with_entry removed.now.tube (entry_without removed.now) self.old.tubes } }
+        ensures seats { result ≡ has_seats (crowd_by (entry_at removed.now.tube self.old.tubes)) }
     {
         self.table.edit_numbered(&removed.tube, number, removed)
     }
@@ -163,26 +149,9 @@ impl Store {
     /// A job of the tube with this number changed its state.
     pub(crate) fn move_job(&mut self, moved: &JobMove, number: TubeNumber)
         requires { HasNumber moved.now.tube number self.old.tubes.numbers }
-        ensures { self.new ≡ record self.old { tubes = with_tallies_at moved.now.tube (tally_moved moved.now) self.old.tubes } }
+        ensures { self.new ≡ record self.old { tubes = with_entry moved.now.tube (entry_moved moved.now) self.old.tubes } }
     {
         self.table.edit_numbered(&moved.tube, number, moved);
-    }
-
-    /// Returns the job counts of the tube with this name; none if it has no entry.
-    pub(crate) fn tally_of(&self, name: &TubeName, hint: TubeNumber) -> Tally
-        ensures { result ≡ tally_at name.now self.now.tubes.entries self.now.tubes.tallies }
-    {
-        match self.entry_of(name, hint) {
-            None => Tally::none(),
-            Some(entry) => entry.tally(),
-        }
-    }
-
-    /// Returns true if a job is counted in the tube with this name.
-    pub(crate) fn has_jobs_in(&self, name: &TubeName, hint: TubeNumber) -> bool
-        ensures { result ≡ has_jobs (tally_at name.now self.now.tubes.entries self.now.tubes.tallies) }
-    {
-        self.tally_of(name, hint).has_jobs()
     }
 
     /// Counts a client with these roles at the tube with this name, or stops counting it.
@@ -193,7 +162,7 @@ impl Store {
         how: AddOrRemove,
         roles: Roles,
     )
-        ensures { self.new ≡ record self.old { tubes = with_crowds_at name.now (recounted how roles) self.old.tubes } }
+        ensures { self.new ≡ record self.old { tubes = with_entry name.now (entry_recounted how roles) self.old.tubes } }
     {
         let _counted = self.table.edit(name, hint, &RolesChange { how, roles });
     }
@@ -201,7 +170,7 @@ impl Store {
     /// Returns how many clients use or watch the tube with this name or wait for its jobs; none if
     /// it has no entry.
     pub fn crowd_of(&self, name: &TubeName, hint: TubeNumber) -> Crowd
-        ensures { result ≡ crowd_at name.now self.now.tubes.entries self.now.tubes.crowds }
+        ensures { result ≡ crowd_by (entry_at name.now self.now.tubes) }
     {
         match self.entry_of(name, hint) {
             None => Crowd::none(),
@@ -210,10 +179,9 @@ impl Store {
     }
 
     /// Returns the same for a tube that is registered under this number. Nothing is searched.
-    #[tactic(auto, using(crate::proofs::NamedLemmas::crowd_of_found))]
     pub(crate) fn crowd_numbered(&self, name: &TubeName, number: TubeNumber) -> Crowd
         requires { HasNumber name.now number self.now.tubes.numbers }
-        ensures { result ≡ crowd_at name.now self.now.tubes.entries self.now.tubes.crowds }
+        ensures { result ≡ crowd_by (entry_at name.now self.now.tubes) }
     {
         self.table.get_numbered(name, number).crowd()
     }
@@ -222,38 +190,35 @@ impl Store {
     pub(crate) fn is_tube(&self, name: &TubeName, hint: TubeNumber) -> bool
         ensures { result ≡ exists_in self.now.tubes name.now }
     {
-        *name == default_tube()
-            || self.has_jobs_in(name, hint)
-            || self.crowd_of(name, hint).has_seats()
+        match self.entry_of(name, hint) {
+            None => *name == default_tube(),
+            Some(entry) => walks::is_alive(name, entry),
+        }
     }
 
-    /// Returns how many tubes exist.
-    #[tactic(auto, using(crate::proofs::GoneLemmas::counted_names))]
+    /// Returns how many tubes exist, by their counts.
+    #[tactic(auto, using(crate::proofs::GoneLemmas::counted_alive))]
     pub(crate) fn count_alive(&self) -> u64
-        ensures { IfCounted self.now.tubes
-            (λ jobs seats. result ≡ length (names_alive jobs seats self.now.tubes.entries)) }
+        ensures { result ≡ length (filter is_alive_at self.now.tubes.entries) }
     {
         let alive = self.table.walk(HowMany::none());
         alive.count()
     }
 
-    /// Returns the names of the tubes that exist, in byte order. Their memory is allocated first.
-    #[tactic(auto, using(crate::proofs::GoneLemmas::listed_names))]
+    /// Returns the names of the tubes that exist, by their counts, in byte order. Their memory is
+    /// allocated first.
     pub(crate) fn names_alive<'a>(&'a self, alloc: Global) -> Result<Names<'a>, NoMemory>
-        ensures { IfCounted self.now.tubes
-            (λ jobs seats. IfOk result
-            (λ names. names_of names.items ≡ names_alive jobs seats self.now.tubes.entries)) }
+        ensures { IfOk result
+            (λ names. names_of names.items ≡ keys_of (filter is_alive_at self.now.tubes.entries)) }
     {
         self.table.names_passing(alloc, &AliveTube)
     }
 
     /// Drops the entries and numbers of tubes that no longer exist, which are among those that may
     /// have gone.
-    #[tactic(auto, using(crate::proofs::GoneLemmas::dropped))]
     pub(crate) fn forget_gone(&mut self, maybe_gone: &MaybeGone)
-        requires tallies { self.old.tubes.tallies ≡ tallies_of self.old.jobs.jobs self.old.tubes.entries }
-        ensures after { DropsGone maybe_gone.now self.old.tubes self.new.tubes }
-        ensures kept { IfCounted self.old.tubes (AreCounts self.new.tubes) }
+        requires tallies { AreTallied self.old.jobs.jobs self.old.tubes.entries }
+        ensures after { self.new.tubes.entries ≡ forgotten maybe_gone.now self.old.tubes.entries }
         ensures jobs { self.new.jobs ≡ record self.old.jobs { tubes = self.new.jobs.tubes } }
     {
         match maybe_gone {
@@ -273,7 +238,7 @@ impl Store {
     #[inline(always)]
     #[tactic(auto, using(crate::proofs::EndLemmas::first_seen))]
     pub fn first_pause_end(&self) -> Option<Moment>
-        ensures { result ≡ first_pause_end self.now.tubes.entries }
+        ensures { result ≡ first_pause_end (records self.now.tubes) }
     {
         if self.ends.len() == 0 {
             return None;

@@ -122,14 +122,14 @@ impl TubeEntry {
     }
 
     /// Returns the counts of its jobs.
-    pub(crate) fn tally(&self) -> Tally
+    pub fn tally(&self) -> Tally
         ensures { result ≡ self.now.tally }
     {
         self.tally
     }
 
     /// Returns the counts of its clients.
-    pub(crate) fn crowd(&self) -> Crowd
+    pub fn crowd(&self) -> Crowd
         ensures { result ≡ self.now.crowd }
     {
         self.crowd

@@ -3,8 +3,8 @@ ghost use Rattle.std.specs.{Cmp.Lexicographic.slice_cmp, Map.remove_entry, Optio
 ghost use Rattle.std.specs.Prelude.{IfOk, None, Some, if◌then◌else◌, is_some, length, map, true, ◌+◌, ◌<◌, ◌≡◌, ◌≤◌};
 ghost use Rattle.bq_index.specs.Order.{InOrder};
 ghost use Rattle.bq_jobs.specs.Numbering.{IsPaired};
-ghost use Rattle.bq_state.specs.TubesSeen.{edited_at, entry_changed, entry_crowd, is_named_at};
-ghost use Rattle.bq_state.specs.{PauseEnds.{AreEnds, AreTold, end_cmp, end_of}, TubesSeen.{entry_tally, record_at, records_ended}};
+ghost use Rattle.bq_state.specs.TubesSeen.{edited_at, entry_changed, is_named_at};
+ghost use Rattle.bq_state.specs.{PauseEnds.{AreEnds, AreTold, end_cmp, end_of}, TubesSeen.{record_at, with_ended}};
 ghost use Rattle.bq_state.specs.PauseEnds.{first_end, found_end, has_end, if_over, is_end_in, number_at, pause_at, paused_count};
 ghost use Rattle.bq_state.specs.PauseEnds.{with_end, without_end};
 
@@ -80,10 +80,7 @@ fn end_pause(kept: &mut TubeTable<TubeEntry>, ends: &mut PauseEnds, end: PauseEn
     requires first { Some end ≡ if_over moment (first_end ends.old.entries) }
     requires ordered { InOrder end_cmp ends.old.entries }
     ensures tubes { kept.new.tubes ≡ kept.old.tubes }
-    ensures records { records_ended moment kept.new.entries
-        ≡ records_ended moment kept.old.entries }
-    ensures tallies { map entry_tally kept.new.entries ≡ map entry_tally kept.old.entries }
-    ensures crowds { map entry_crowd kept.new.entries ≡ map entry_crowd kept.old.entries }
+    ensures kept { with_ended moment kept.new.entries ≡ with_ended moment kept.old.entries }
     ensures fewer { paused_count kept.new.entries < paused_count kept.old.entries }
     ensures ends { AreEnds kept.new ends.new }
 {
@@ -93,13 +90,11 @@ fn end_pause(kept: &mut TubeTable<TubeEntry>, ends: &mut PauseEnds, end: PauseEn
 }
 
 /// Ends pauses that are due. No other tube is accessed.
-#[tactic(auto, using(crate::proofs::EndLemmas::none_over_yet, crate::proofs::PauseLemmas::no_pause_ends, crate::proofs::PauseLemmas::none_over))]
+#[tactic(auto, using(crate::proofs::EndLemmas::none_over_yet, crate::proofs::PauseLemmas::none_ended, crate::proofs::PauseLemmas::none_over))]
 pub(crate) fn end_all(kept: &mut TubeTable<TubeEntry>, ends: &mut PauseEnds, moment: Moment)
     requires { AreEnds kept.old ends.old }
     ensures tubes { kept.new.tubes ≡ kept.old.tubes }
-    ensures records { map record_at kept.new.entries ≡ records_ended moment kept.old.entries }
-    ensures tallies { map entry_tally kept.new.entries ≡ map entry_tally kept.old.entries }
-    ensures crowds { map entry_crowd kept.new.entries ≡ map entry_crowd kept.old.entries }
+    ensures kept { kept.new.entries ≡ with_ended moment kept.old.entries }
     ensures ends { AreEnds kept.new ends.new }
 {
     while let Some(end) = first_over(ends, moment) {

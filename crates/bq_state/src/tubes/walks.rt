@@ -4,8 +4,8 @@ ghost use Rattle.std.specs.Prelude.{false, filter, find, map, ◌≡◌};
 ghost use Rattle.bq_index.specs.Order.{InOrder};
 ghost use Rattle.bq_job.specs.reading.TubeName.{is_same_name};
 ghost use Rattle.bq_jobs.specs.Numbering.{named};
-ghost use Rattle.bq_state.specs.TubesSeen.{entry_tally, is_alive_at, is_alive_with, is_gone_by, is_gone_from, is_named_at, record_at};
-ghost use Rattle.bq_state.specs.{Store.AreStored, Tallies.tallies_of, TubesSeen.{with_alive, without_gone}};
+ghost use Rattle.bq_state.specs.TubesSeen.{is_alive_at, is_alive_with, is_gone_by, is_gone_from, is_named_at};
+ghost use Rattle.bq_state.specs.{Counting.AreTallied, Store.AreStored, TubesSeen.{with_alive, without_gone}};
 
 use super::entry::TubeEntry;
 use super::pauses::{self, PauseEnds};
@@ -118,8 +118,7 @@ pub(crate) fn forget_one(
     tube: &Tube,
 )
     requires stored { AreStored jobs.now catalog.old ends.old }
-    requires tallies { map entry_tally catalog.old.entries
-        ≡ tallies_of (map (named catalog.old.tubes) jobs.now.jobs) (map record_at catalog.old.entries) }
+    requires tallies { AreTallied (map (named catalog.old.tubes) jobs.now.jobs) catalog.old.entries }
     ensures stored { AreStored jobs.now catalog.new ends.new }
     ensures kept { catalog.new.entries ≡ without_gone tube.now catalog.old.entries }
     ensures jobs { map (named catalog.new.tubes) jobs.now.jobs ≡ map (named catalog.old.tubes) jobs.now.jobs }
@@ -153,8 +152,7 @@ pub(crate) fn forget_all(
     jobs: &NumberedJobs,
 )
     requires stored { AreStored jobs.now catalog.old ends.old }
-    requires tallies { map entry_tally catalog.old.entries
-        ≡ tallies_of (map (named catalog.old.tubes) jobs.now.jobs) (map record_at catalog.old.entries) }
+    requires tallies { AreTallied (map (named catalog.old.tubes) jobs.now.jobs) catalog.old.entries }
     ensures stored { AreStored jobs.now catalog.new ends.new }
     ensures kept { catalog.new.entries ≡ filter is_alive_at catalog.old.entries }
     ensures jobs { map (named catalog.new.tubes) jobs.now.jobs ≡ map (named catalog.old.tubes) jobs.now.jobs }

@@ -3,7 +3,7 @@ use Rattle.bq_core.proofs.{DispatchLemmas.{next_offer, offered_is, only_if}, Sea
 use Rattle.bq_job.specs.machine.{seat_with}
 use Rattle.bq_jobs.specs.JobsSeen.{ranked}
 use Rattle.bq_state.{proofs.WantedLemmas.none_known, specs.{CoreParts.machine_of, Crowds.is_waiter, Offers.{these, with_offers}}}
-use Rattle.bq_state.specs.WantedJobs.{is_nothing}
+use Rattle.bq_state.specs.{TubesSeen.records, WantedJobs.is_nothing}
 use Rattle.bq_core.proofs.dispatch.next_offer.Goals as goal
 
 pub returns-in-Nothing-clause-next : goal.returns-in-Nothing-clause-next
@@ -24,6 +24,6 @@ returns-in-Client-clause-next c =
     let o = seat_with c.in-Client.seat st.seats.items in
     let known = rw c.in-Client.is at st.sound.known.wanted_jobs in
     c.best_of_client.ensures.best
-    ∙ ap (λ ss. fold (with_offers st.store.jobs.jobs st.store.tubes.entries) None (these (seat_with c.in-Client.seat ss)))
+    ∙ ap (λ ss. fold (with_offers st.store.jobs.jobs (records st.store.tubes)) None (these (seat_with c.in-Client.seat ss)))
     c.as_slice.ensures.value
     ∙ next_offer st (these o) ∙ sym (client_waits (machine_of st) _ o st.sound.numbered refl known)

@@ -1,9 +1,18 @@
-use Rattle.bq_state.proofs.{KnowledgeLemmas.so_with_tube, PartsLemmas.entries_of_tube}
+use Rattle.std.proofs.Common.{arith}
+use Rattle.bq_state.proofs.{KnowledgeLemmas.sound_with_tube, NamedLemmas.{change_kept, records_changed}, PartsLemmas.recorded}
+use Rattle.bq_state.specs.{TubeEntries.tube_changed, TubesSeen.entry_changed}
 use Rattle.bq_state.proofs.changes.change_tube.Goals as goal
 
 pub invariant_of-state : goal.invariant_of-state
-invariant_of-state c =
+invariant_of-state c = grind (arith, sound_with_tube c.args.state.now c.args.tube.now c.args.what c.requires.entry)
+
+pub returns-clause-after : goal.returns-clause-after
+returns-clause-after c =
     let st = c.args.state.now in
-    let entries = entries_of_tube c.args.tube.now c.args.what st.store.jobs.jobs st.seats.items st.store.tubes.entries st.sound.entries in
-    let so = so_with_tube st c.args.tube.now c.args.what c.requires.entry in
-    rw (c.change_tube-2.ensures, c.change_tube.ensures) assumption
+    let name = c.args.tube.now in
+    let what = c.args.what in
+    rw (
+      c.change_tube.ensures,
+      records_changed name (entry_changed what) (tube_changed what) (change_kept what) st.store.tubes.entries,
+      recorded st name what c.requires.entry,
+    )

@@ -1,7 +1,7 @@
-use Rattle.std.proofs.{Common.{List, arith, filter, length, not, refl, ℕ, ◌≤◌}, lemmas.Option.slice_get_read}
-use Rattle.bq_job.specs.{machine.{greatest, watching}, reading.TubeName.is_same_name}
-use Rattle.bq_state.proofs.{KnowledgeLemmas.so_ignoring, PartsLemmas.{changed_there, seat_there, watching_fewer, watching_numbered}}
-use Rattle.bq_state.{proofs.WaitingLemmas.in_turn_watching, specs.SeatChanges.fewer_watched}
+use Rattle.std.proofs.{Common.{arith, length, refl, ◌≤◌}, lemmas.Option.slice_get_read}
+use Rattle.bq_job.specs.machine.{greatest, watching}
+use Rattle.bq_state.proofs.{KnowledgeLemmas.sound_ignoring, NamedLemmas.records_counting, PartsLemmas.{changed_there, seat_there}}
+use Rattle.bq_state.specs.SeatChanges.{fewer_watched}
 use Rattle.bq_state.proofs.changes.ignore_tube.Goals as goal
 
 pub returns-then-from-len-clause-after : goal.returns-then-from-len-clause-after
@@ -9,6 +9,7 @@ returns-then-from-len-clause-after c s found =
     let there = seat_there _ _ _ c.args.state.now.sound.numbered found in
     rw (
       c.recount.ensures,
+      records_counting,
       c.ignore.ensures.ignored s there,
       changed_there _ _ _ (watching (fewer_watched c.args.tube.now s)) c.args.state.now.sound.numbered there,
     )
@@ -21,11 +22,7 @@ invariant_of-state c =
     let t = c.index.result.now in
     let here = slice_get_read st.seats.items _ n t refl (omega arith) (rw c.from-then-from-len.ensures at c.index.ensures) in
     let few : length st.seats.items ≤ greatest = omega (arith, c.len.ensures) in
-    let fewer = λ (other : List ℕ). not (is_same_name name other) in
-    let entries = watching_fewer st fewer n t here in
-    let numbered = watching_numbered (filter fewer t.watched) n t st.seats.items here st.sound.numbered in
-    let waiting = in_turn_watching (filter fewer t.watched) n t st.waiting st.seats.items here st.sound.numbered st.sound.waiting in
-    grind (arith, so_ignoring)
+    grind (arith, sound_ignoring st name n t here few)
 
 pub returns-then-from-len-clause-count : goal.returns-then-from-len-clause-count
 returns-then-from-len-clause-count c s found = c.ignore.ensures.count s (seat_there _ _ _ c.args.state.now.sound.numbered found)

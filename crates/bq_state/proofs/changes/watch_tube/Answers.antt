@@ -1,8 +1,8 @@
-use Rattle.std.proofs.{Common.{[], ap, rules, arith, length, refl, set, ◌++◌, ◌∷◌, ◌≤◌}, lemmas.Option.get_or_from_slice_get}
+use Rattle.std.proofs.{Common.{[], ap, arith, length, refl, rules, set, ◌++◌, ◌∷◌, ◌≤◌}, lemmas.Option.get_or_from_slice_get}
 use Rattle.std.proofs.lemmas.Option.{slice_get_read}
 use Rattle.bq_job.specs.machine.{Machine.Machine, greatest, watching}
-use Rattle.bq_state.proofs.{KnowledgeLemmas.so_watching, PartsLemmas.{changed_there, seat_read, seat_there, watching_more}}
-use Rattle.bq_state.proofs.{PartsLemmas.watching_numbered, WaitingLemmas.in_turn_watching}
+use Rattle.bq_state.proofs.{KnowledgeLemmas.sound_watching, NamedLemmas.records_counting, PartsLemmas.{changed_there, seat_read}}
+use Rattle.bq_state.proofs.PartsLemmas.{seat_there}
 use Rattle.bq_state.proofs.changes.watch_tube.Goals as goal
 
 pub returns-in-Ok-clause-count : goal.returns-in-Ok-clause-count
@@ -16,6 +16,7 @@ returns-in-Ok-clause-watched c s found =
     let change = watching (s.watched ++ c.args.tube.now ∷ []) in
     rw (
       c.recount.ensures,
+      records_counting,
       c.in-Ok.ensures.watched s (rw p.seats here),
       c.new-watched.ensures,
       p.seats,
@@ -36,7 +37,4 @@ invariant_of-state c =
     let here = slice_get_read mid.seats.items _ n t refl (omega arith) (rw c.from-2.ensures at c.index.ensures) in
     let fresh = c.requires.fresh t (rw p.seats at (seat_read mid.seats.items n t mid.sound.numbered here)) in
     let few : length mid.seats.items ≤ greatest = omega (arith, c.len.ensures) in
-    let entries = watching_more mid name n t here p.entry in
-    let numbered = watching_numbered (t.watched ++ name ∷ []) n t mid.seats.items here mid.sound.numbered in
-    let waiting = in_turn_watching (t.watched ++ name ∷ []) n t mid.waiting mid.seats.items here mid.sound.numbered mid.sound.waiting in
-    grind (arith, so_watching)
+    grind (arith, sound_watching mid name n t here few fresh p.entry)

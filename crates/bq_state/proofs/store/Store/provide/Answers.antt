@@ -1,6 +1,6 @@
 use Rattle.std.proofs.{Common.arith, lemmas.Grind.common_steps}
 use Rattle.bq_jobs.proofs.NamedJobs.{registered_more}
-use Rattle.bq_state.{proofs.{EndMoves.ends_provided, NamedLemmas.new_part, TubeLemmas.provided_new}, specs.TubesSeen.record_at}
+use Rattle.bq_state.proofs.{EndMoves.ends_provided, NamedLemmas.records_with}
 use Rattle.bq_state.proofs.store.Store.provide.Goals as goal
 
 pub invariant_of-self-2 : goal.invariant_of-self-2
@@ -11,7 +11,6 @@ invariant_of-self-2 c =
       arith,
       common_steps,
       registered,
-      new_part c.args.name.now record_at c.self.inside.table.entries,
-      provided_new,
+      records_with c.args.name.now c.self.inside.table.entries,
       ends_provided c.args.name.now,
     )
