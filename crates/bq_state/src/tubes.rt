@@ -1,12 +1,11 @@
 //! The tubes of a store: what is kept of each that exists.
-ghost use Rattle.std.specs.{Cmp.Lexicographic.slice_cmp, List.list_any, Map.{keys_of, lookup}, Option.option_map, Ordering.nat_cmp, Prelude.IfOk};
+ghost use Rattle.std.specs.{List.list_any, Map.{keys_of, lookup}, Option.option_map, Prelude.IfOk};
 ghost use Rattle.std.specs.Prelude.{false, filter, if◌then◌else◌, is_ok, is_some, length, ◌&&◌, ◌≡◌};
-ghost use Rattle.bq_index.specs.Order.{InOrder};
 ghost use Rattle.bq_job.specs.reading.TubeName.{is_same_name};
 ghost use Rattle.bq_jobs.specs.{Names.number_in, Numbering.{Extends, HasNumber}};
 ghost use Rattle.bq_state.specs.{Counting.{AreTallied, forgotten}, Crowds.has_seats, Dues.first_pause_end, Leaving.exists_in};
-ghost use Rattle.bq_state.specs.{Names.names_of, PauseEnds.AreEnds, TubeEntries.has_entry};
-ghost use Rattle.bq_state.specs.TubesSeen.{edited_at, entry_at, entry_changed, entry_moved, entry_recounted, entry_with, entry_without};
+ghost use Rattle.bq_state.specs.{Names.names_of, TubeEntries.has_entry};
+ghost use Rattle.bq_state.specs.TubesSeen.{entry_at, entry_changed, entry_moved, entry_recounted, entry_with, entry_without};
 ghost use Rattle.bq_state.specs.TubesSeen.{is_alive_at, is_named_at, records, tubes_with, with_ended, with_entry};
 
 use crate::known::MaybeGone;
@@ -14,7 +13,7 @@ use crate::name_lists::Names;
 use crate::store::Store;
 use crate::watch_list::default_tube;
 use bq_job::{Job, Moment, NoMemory, TubeName};
-use bq_jobs::{GhostName, JobMove, JobRemoval, TubeNumber, TubeTable};
+use bq_jobs::{GhostName, JobMove, JobRemoval, TubeNumber};
 pub use entry::{Crowd, Pausing, TubeChange, TubeEntry};
 pub(crate) use entry::{AddOrRemove, Roles, RolesChange};
 pub(crate) use pauses::PauseEnds;
@@ -24,28 +23,6 @@ use walks::{AliveTube, HowMany};
 mod entry;
 mod pauses;
 mod walks;
-
-// Changes the tube with this name. The ends of pauses are accessed only if it is paused.
-fn change(
-    kept: &mut TubeTable<TubeEntry>,
-    ends: &mut PauseEnds,
-    name: &TubeName,
-    hint: TubeNumber,
-    what: TubeChange,
-)
-    requires { AreEnds kept.old ends.old }
-    ensures tubes { kept.new.tubes ≡ kept.old.tubes }
-    ensures kept { kept.new.entries ≡ edited_at name.now (entry_changed what) kept.old.entries }
-    ensures ends { AreEnds kept.new ends.new }
-    ensures ordered { InOrder (slice_cmp nat_cmp) kept.old.entries }
-{
-    match what {
-        TubeChange::Pause(_, _) => pauses::pause(kept, ends, name, hint, what),
-        TubeChange::CountPut | TubeChange::CountDelete => {
-            let _changed = kept.edit(name, hint, &what);
-        }
-    }
-}
 
 impl Store {
     ghost use Rattle.bq_state.specs.TubesSeen.{crowd_by};
@@ -95,7 +72,7 @@ impl Store {
     pub(crate) fn change_tube(&mut self, name: &TubeName, hint: TubeNumber, what: TubeChange)
         ensures { self.new ≡ record self.old { tubes = with_entry name.now (entry_changed what) self.old.tubes } }
     {
-        change(&mut self.table, &mut self.ends, name, hint, what);
+        pauses::change(&mut self.table, &mut self.ends, name, hint, what);
     }
 
     /// Ends pauses that are due.

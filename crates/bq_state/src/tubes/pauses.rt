@@ -36,9 +36,9 @@ fn tube_of(kept: &TubeTable<TubeEntry>, end: &PauseEnd) -> Tube
     Tube::new(kept.name_of(end.number).unwrap(), end.number)
 }
 
-/// Pauses the tube with this name, or ends its pause.
+/// Changes the tube with this name. The ends of pauses are accessed only if it is paused.
 #[tactic(auto, using(crate::proofs::EndMoves::end_held))]
-pub(crate) fn pause(
+pub(crate) fn change(
     kept: &mut TubeTable<TubeEntry>,
     ends: &mut PauseEnds,
     name: &TubeName,
@@ -51,11 +51,18 @@ pub(crate) fn pause(
     ensures ends { AreEnds kept.new ends.new }
     ensures ordered { InOrder (slice_cmp nat_cmp) kept.old.entries }
 {
-    let from = end_of(kept, name, hint);
-    leave(ends, from);
-    let _changed = kept.edit(name, hint, &what);
-    let to = end_of(kept, name, hint);
-    enter(ends, to);
+    match what {
+        TubeChange::Pause(_, _) => {
+            let from = end_of(kept, name, hint);
+            leave(ends, from);
+            let _changed = kept.edit(name, hint, &what);
+            let to = end_of(kept, name, hint);
+            enter(ends, to);
+        }
+        TubeChange::CountPut | TubeChange::CountDelete => {
+            let _changed = kept.edit(name, hint, &what);
+        }
+    }
 }
 
 /// Drops the entry with this name, if there is one.
