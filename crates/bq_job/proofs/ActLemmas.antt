@@ -14,7 +14,7 @@ use Rattle.bq_job.specs.{machine.with_seat, Types.{Answer, Job, Request, Step}}
 use Rattle.bq_job.specs.declared.answer.Answer.TheVariants as answers
 use Rattle.bq_job.proofs.KeptLemmas.{kept_of_jobs, kept_of_seat, numbers_above, only_seat}
 use Rattle.bq_job.proofs.EffectKinds.{IsFreeOrOwn, Kind, adds, changes_jobs, changes_seat, changes_tube, deletes, passes, tells, waits}
-use Rattle.bq_job.proofs.{BecomeLemmas.free_by_delay, CommandKinds.kind_of, EachEvent.{IsSeat, each_event}}
+use Rattle.bq_job.proofs.{BecomeLemmas.free_by_delay, CommandKinds.kind_of, EachEvent.{each_event}}
 
 abbrev pub answer_count : Option Answer → ℕ
 answer_count None = 0
@@ -52,7 +52,7 @@ holder_stays m s j k there c h held = grind (arith, common_steps, held_here)
 -- A seat changes, and its client waits as before.
 pub kept_of_quiet_seat : (number : ℕ) (f : SeatRecord → SeatRecord) (m : Machine) → Keeps m → ((s : SeatRecord) → (f s).number ≡ s.number)
     → ((s : SeatRecord) → (f s).connected ≡ s.connected) → ((s : SeatRecord) → (f s).wait ≡ s.wait) → Keeps (with_seat number f m)
-kept_of_quiet_seat number f m h same stays waits_as = grind (arith, all_always, kept_of_seat number f h)
+kept_of_quiet_seat number f m h same stays waits_as = grind (arith, all_always, kept_of_seat h number f)
 
 -- A change of one seat that makes no client wait does not add a waiting client.
 no_more_wait : (number : ℕ) (f : SeatRecord → SeatRecord) (m : Machine) → ((s : SeatRecord) → is_waiting (f s) ≡ true → is_waiting s ≡ true)
@@ -96,7 +96,7 @@ one_more_waits f low (suc n) number (s ∷ seats) e =
 leaves_reserve : (until : Option ℕ) (m : Machine) (s : SeatRecord) → Keeps m → IsThere m s → s.connected ≡ true
     → Leaves m (reserve_effect until m s)
 leaves_reserve until m s h there c =
-    grind (arith, kept_of_seat s.number (waiting_from (raised m.tickets) until) h, all_weaker, waits, one_more_waits)
+    grind (arith, kept_of_seat h s.number (waiting_from (raised m.tickets) until), all_weaker, waits, one_more_waits)
 
 -- every kind of command
 leaves_kind : (request : Request) (m : Machine) (s : SeatRecord) {e : Effect} → Kind m s request e → Keeps m → IsThere m s
@@ -109,33 +109,23 @@ leaves_kind request m s (adds pri delay ttr body one accepts free) h there c =
 leaves_kind request m s (deletes id j asks found free) h there c = search (leaves_jobs, kept_of_filter)
 leaves_kind request m s (changes_jobs answer f burials says changes) h there c =
     leaves_jobs m (record m { jobs = map f m.jobs; burials = burials }) answer
-    (kept_of_jobs f h changes.same (λ j held. holder_stays m s j (f j) there.seated c (changes.holder j) held)) refl
+    (kept_of_jobs h f changes.same (λ j held. holder_stays m s j (f j) there.seated c (changes.holder j) held)) refl
 leaves_kind request m s (changes_seat answer f says changes) h there c = search leaves_seat
 leaves_kind request m s (changes_tube tube seconds one) h there c = grind (arith, common_steps, leaves_jobs)
-
-leaves_connect : (m : Machine) (seat : ℕ) → Keeps m → Leaves m (silent (after_connect m seat))
-leaves_connect m seat h =
-    leaves_silent m (after_connect m seat)
-    (kept_of_seat seat (λ s. record (empty_seat s.number) { connected = true }) h
-    (all_always _ m.seats (λ s e. record { number = refl; stays = λ d. refl; waits = λ w. refl })))
-    (no_more_wait seat (λ s. record (empty_seat s.number) { connected = true }) m (λ s w. absurd cc))
-
-leaves_close : (m : Machine) (seat : ℕ) → Keeps m → Leaves m (telling answers.Closed (after_close m seat))
-leaves_close m seat h =
-    leaves_telling m (after_close m seat) answers.Closed
-    (kept_of_close (state_once_left m) seat (free_by_delay m.settings.requeue_delay m.moment) h)
-    (no_more_wait seat (λ s. empty_seat s.number) m (λ s w. absurd cc))
-
-there_of : (m : Machine) (seat : ℕ) (s : SeatRecord) → Keeps m → IsSeat m seat s → IsThere m s
-there_of m seat s h is = grind (arith, all_weaker, only_seat 0 m.settings.seats seat m.seats s h.seated is.found)
 
 -- every event
 pub leaves_effect : (m : Machine) (seat : ℕ) (what : Step) → Keeps m → Leaves m (effect m seat what)
 leaves_effect m seat what h = each_event m seat (λ what e. Leaves m e) (record {
   nothing = λ what. (leaves_silent m m h (omega arith));
-  connects = λ s is. leaves_connect m s.number h;
-  asks = λ request s is c w. leaves_kind request m s (kind_of request m s) h (there_of m seat s h is) c;
+  connects = λ s is. leaves_silent m (after_connect m s.number)
+      (kept_of_seat h s.number (λ t. record (empty_seat t.number) { connected = true })
+      (all_always _ m.seats (λ t e. record { number = refl; stays = λ d. refl; waits = λ w. refl })))
+      (no_more_wait s.number (λ t. record (empty_seat t.number) { connected = true }) m (λ t w. absurd cc));
+  asks = λ request s is c w. leaves_kind request m s (kind_of request m s) h
+      (grind (arith, all_weaker, only_seat 0 m.settings.seats seat m.seats s h.seated is.found)) c;
   ends = search (leaves_silent, kept_of_quiet_seat, no_more_wait);
-  closes = λ s is. leaves_close m s.number h;
+  closes = λ s is. leaves_telling m (after_close m s.number) answers.Closed
+      (kept_of_close h (state_once_left m) s.number (free_by_delay m.settings.requeue_delay m.moment))
+      (no_more_wait s.number (λ t. empty_seat t.number) m (λ t w. absurd cc));
   drains = leaves_silent m (record m { draining = true }) (kept_of_drain h) (omega arith);
 }) what

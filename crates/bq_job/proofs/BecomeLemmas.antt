@@ -5,7 +5,7 @@ use Rattle.std.proofs.lemmas.Grind.{common_steps}
 use Rattle.std.specs.{List.{AllByRecursion as All, Contains, list_any}, Prelude.{◌==◌, filter, take}}
 use Rattle.bq_job.specs.machine.{delayed_by, in_order, is_buried, is_buried_before, is_buried_in, is_delayed}
 use Rattle.bq_job.specs.machine.{is_held_by, is_ready, is_reserved, job_with, kickable, kicked_first}
-use Rattle.bq_job.specs.{beside.AreIdsWithin, laws.{change, disturbs, given_up}}
+use Rattle.bq_job.specs.{beside.AreIdsWithin}
 use Rattle.bq_job.specs.{machine.put_in_order, Types.{Job, JobState, Step}}
 use Rattle.bq_job.proofs.{ChangeLemmas.{Becomes, becomes_itself}, ListLemmas.{all_from_members, all_of_filter}}
 use Rattle.bq_job.proofs.{ListLemmas.all_weaker, LookupLemmas.job_found}
@@ -19,11 +19,6 @@ held_not_ready seat j h i = grind (arith, common_steps)
 
 pub put_aside_not_held : (s : JobState) → (is_buried s || is_delayed s) ≡ true → is_reserved s ≡ true → ⊥
 put_aside_not_held s h i = grind (arith, common_steps, cases_Bool)
-
--- If a holder gives up a job, that is recorded.
-pub told_if_given_up : (what : Step) (id : ℕ) (before after : JobState) → is_reserved before ≡ true → is_reserved after ≡ false
-    → list_any (disturbs id) (given_up what id) ≡ true → list_any (disturbs id) (change what id before after) ≡ true
-told_if_given_up what id before after held free told = grind (arith, common_steps, cases_Bool)
 
 -- what holds of all elements holds of them in order, and of the first of them
 all_put_in_order : (P : Job → Type 0) (before : Job → Job → Bool) (j : Job) (jobs : List Job) → P j → All P jobs

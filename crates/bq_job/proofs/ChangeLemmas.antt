@@ -1,30 +1,23 @@
 -- What a command does to the list of jobs, and the happenings that are recorded.
 use Rattle.std.proofs.Common.{ℕ, suc, ◌≡◌, Bool, true, false, not, cond, List, [], ◌∷◌, ◌++◌, map}
-use Rattle.std.proofs.Common.{arith, refl, sym, ap, ◌∙◌, subst, inl, inr, ◌⊎◌, Option, Some, None, rules}
+use Rattle.std.proofs.Common.{arith, refl, sym, ap, ◌∙◌, subst, Option, Some, None, rules}
 use Rattle.std.proofs.lemmas.Bool.{or_left, or_right, or_cases, both_ways, cond_both, eqb-true, eq-eqb, false_from_ne_true, cases_Bool}
 use Rattle.std.proofs.{Common.map-id, lemmas.{Grind.common_steps, List.Folds.list_any-append}}
 use Rattle.std.specs.Prelude.{filter, flat_map, is_none, option_map, ◌==◌}
 use Rattle.std.specs.List.{AllByRecursion as All, Contains, list_any}
 use Rattle.bq_job.specs.{beside.AreIdsWithin, laws.{change, change_or_removal, changes, deleted, disturbs}}
-use Rattle.bq_job.specs.{laws.removed, machine.{is_full, is_ready, is_reserved}}
+use Rattle.bq_job.specs.{laws.removed, machine.{is_full, is_ready}}
 use Rattle.bq_job.specs.{machine.{job_with, Machine.Machine}, Types.{Job, Step}}
-use Rattle.bq_job.proofs.JobMoves.{Fate, Move, quiet, is_plain}
+use Rattle.bq_job.proofs.JobMoves.{Fate, GoesOnAs, Move, quiet, is_plain}
 use Rattle.bq_job.proofs.ListLemmas.{all_from_members, all_of_append, all_of_filter, all_of_map, all_weaker, list_any_with}
 use Rattle.bq_job.proofs.LookupLemmas.{found_job, job_found, job_in_map, job_in_more, job_in_rest}
 
--- The command makes `k` of the job `j`: same id, tube and body. If it was ready it still is, and if
--- it was held it still is; otherwise what happened to it is recorded.
-pub record Becomes (what : Step) (j k : Job) : Type 0 where
-  pub id : k.id ≡ j.id
-  pub tube : k.tube ≡ j.tube
-  pub body : k.body ≡ j.body
-  pub ready : is_ready j ≡ true → ((is_ready k ≡ true) × (k.pri ≡ j.pri))
-      ⊎ (list_any (disturbs j.id) (change what j.id j.state k.state) ≡ true)
-  pub held : is_reserved j.state ≡ true → (is_reserved k.state ≡ true)
-      ⊎ (list_any (disturbs j.id) (change what j.id j.state k.state) ≡ true)
+-- The command makes `k` of the job `j`, as far as what is recorded does not disturb it.
+abbrev pub Becomes : Step → Job → Job → Type 0
+Becomes what j k = GoesOnAs j.id j k (change what j.id j.state k.state)
 
 pub becomes_itself : (what : Step) (j : Job) → Becomes what j j
-becomes_itself what j = record { id = refl; tube = refl; body = refl; ready = λ h. inl (h, refl); held = λ h. inl h }
+becomes_itself what j = record { same = refl; tube = refl; body = refl; ready = λ h still. (h, refl); held = λ h still. h }
 
 -- the jobs and the next id before and after a command: jobs changed, one was removed, or one was
 -- added within the limit
@@ -56,8 +49,7 @@ none_kept p [] h = refl
 none_kept p (x ∷ xs) h = rw h.0 (none_kept p xs h.1)
 
 last_kept : {X : Type 0} (p : X → Bool) (xs : List X) (x : X) → All (λ x. p x ≡ false) xs → p x ≡ true → filter p (xs ++ x ∷ []) ≡ x ∷ []
-last_kept p [] x h i = rw i refl
-last_kept p (y ∷ xs) x h i = rw h.0 (last_kept p xs x h.1 i)
+last_kept p xs x h i = grind (arith, common_steps, none_kept)
 
 none_of_parts : {X Y : Type 0} (g : X → List Y) (xs : List X) → All (λ x. g x ≡ []) xs → flat_map g xs ≡ []
 none_of_parts g [] h = refl
@@ -90,16 +82,9 @@ changed_fate what before after f id (Some j) e g becomes =
     let disturbed : list_any (disturbs j.id) (change what j.id j.state (f j).state) ≡ true
     → list_any (disturbs id) (changes what before after) ≡ true =
     grind (arith, common_steps, list_any-append, or_left, any_in_parts, list_any_with) in
-    record {
-      same = b.id;
-      tube = b.tube;
-      body = b.body;
-      ready = λ h still. elim (b.ready h) [
-        | inl r ↦ r
-        | inr r ↦ absurd (both_ways (list_any (disturbs id) (changes what before after)) still (disturbed r))
-      ];
-      held = grind arith;
-    }
+    let still = λ (none : list_any (disturbs id) (changes what before after) ≡ false).
+    false_from_ne_true _ (λ d. both_ways _ none (disturbed d)) in
+    record { same = b.same; tube = b.tube; body = b.body; ready = λ h none. b.ready h (still none); held = λ h none. b.held h (still none) }
 
 removed_fate : (what : Step) (before after : List Job) (gone id : ℕ) (o : Option Job) → removed what gone ≡ deleted gone ∷ []
     → job_with id before ≡ o → job_with id after ≡ cond (id == gone) None o

@@ -1,13 +1,13 @@
 -- The first of those that pass a test: it is in the list, it passes, and no other that passes comes
 -- before it.
 use Rattle.std.proofs.Common.{◌||◌, ◌∙◌, ◌∷◌, ◌≡◌, ◌⊎◌, Bool, List, None, Option, Some, []}
-use Rattle.std.proofs.Common.{ℕ, ap, arith, false, inl, inr, refl, sym, true}
+use Rattle.std.proofs.Common.{ℕ, ap, arith, false, inl, refl, sym, true}
 use Rattle.std.proofs.{Common.◌==◌, lemmas.Bool.{and_parts, cases_Bool, Decides.nat_tests}}
 use Rattle.std.proofs.lemmas.Grind.{common_steps}
 use Rattle.std.proofs.{lemmas.List.Folds.list_any-from_Any, Math.Bool.or_assoc}
-use Rattle.std.specs.{Cmp.IsStrictWeakOrder, List.{AllByRecursion, Contains, list_any}, Prelude.{IfSome, fold, is_some}}
+use Rattle.std.specs.{Cmp.IsStrictWeakOrder, List.{AllByRecursion, Contains, list_any}, Prelude.{fold, is_some}}
 use Rattle.bq_job.specs.machine.{better_of, first_of, is_pair_before}
-use Rattle.bq_job.proofs.ListLemmas.{contains_tail}
+use Rattle.bq_job.proofs.ListLemmas.{contains_head, contains_tail}
 
 -- pairs of numbers, ordered by the first and then by the second
 pub pair_order : {X : Type 0} (first second : X → ℕ) → IsStrictWeakOrder (λ x y. is_pair_before (first x) (second x) (first y) (second y))
@@ -35,26 +35,21 @@ pub first_of_is_least : {X : Type 0} (passes : X → Bool) {before : X → X →
     → first_of passes before xs ≡ Some z → Contains xs y → passes y ≡ true → before y z ≡ false
 first_of_is_least passes {before = before} order xs z y h i p = grind (arith, common_steps, fold_is_least passes order None xs z h)
 
-fold_passes : {X : Type 0} (passes : X → Bool) (before : X → X → Bool) (best : Option X) (xs : List X) → IfSome best (λ b. passes b ≡ true)
-    → IfSome (fold (better_of passes before) best xs) (λ b. passes b ≡ true)
-fold_passes passes before best [] h = h
-fold_passes passes before best (x ∷ xs) h = grind (arith, and_parts, fold_passes passes before (better_of passes before best x) xs)
+fold_chosen : {X : Type 0} (passes : X → Bool) (before : X → X → Bool) (best : Option X) (xs : List X) (z : X)
+    → fold (better_of passes before) best xs ≡ Some z → (best ≡ Some z) ⊎ (Contains xs z × (passes z ≡ true))
+fold_chosen passes before best [] z h = inl h
+fold_chosen passes before best (x ∷ xs) z h =
+    grind (arith, common_steps, and_parts, contains_head, contains_tail, fold_chosen passes before (better_of passes before best x) xs z h)
 
 -- the chosen one passes
 pub first_of_passes : {X : Type 0} (passes : X → Bool) (before : X → X → Bool) (xs : List X) (z : X)
     → first_of passes before xs ≡ Some z → passes z ≡ true
-first_of_passes passes before xs z h = rw h at (fold_passes passes before None xs tt)
-
-fold_contains : {X : Type 0} (passes : X → Bool) (before : X → X → Bool) (best : Option X) (xs : List X) (z : X)
-    → fold (better_of passes before) best xs ≡ Some z → (best ≡ Some z) ⊎ Contains xs z
-fold_contains passes before best [] z h = inl h
-fold_contains passes before best (x ∷ xs) z h =
-    grind (arith, contains_tail, fold_contains passes before (better_of passes before best x) xs z h)
+first_of_passes passes before xs z h = grind (arith, fold_chosen passes before None xs z h)
 
 -- the chosen one is in the list
 pub first_of_contains : {X : Type 0} (passes : X → Bool) (before : X → X → Bool) (xs : List X) (z : X)
     → first_of passes before xs ≡ Some z → Contains xs z
-first_of_contains passes before xs z h = elim (fold_contains passes before None xs z h) [ inl e ↦ absurd cc | inr i ↦ i ]
+first_of_contains passes before xs z h = grind (arith, fold_chosen passes before None xs z h)
 
 fold_is_some : {X : Type 0} (passes : X → Bool) (before : X → X → Bool) (best : Option X) (xs : List X)
     → is_some (fold (better_of passes before) best xs) ≡ (is_some best || list_any passes xs)

@@ -15,7 +15,7 @@ use Rattle.bq_job.specs.declared.step.Step.TheVariants as steps
 use Rattle.bq_job.proofs.Trace.{of_serves, steady}
 use Rattle.bq_job.proofs.ListLemmas.{all_at, all_both, all_pass, all_weaker, list_any_not, none_pass}
 use Rattle.bq_job.proofs.OneClientLemmas.{Found, Passes, answers_append, changed_none, changed_numbers, changed_quiet, changed_some}
-use Rattle.bq_job.proofs.OneClientLemmas.{connected_in, finds, one_for, passes_serves, unclosed_append, waits_in}
+use Rattle.bq_job.proofs.OneClientLemmas.{connected_in, finds, one_for, passes, unclosed_append, waits_in}
 use Rattle.bq_job.proofs.{ChoiceLemmas.first_of_none, KeptLemmas.is_open_wait}
 use Rattle.bq_job.proofs.{LawfulLemmas.step_is_lawful, ReplyLemmas.{replies_acted, replies_effect}}
 use Rattle.bq_job.proofs.ReplyLemmas.{stays_acted, told, told_elsewhere}
@@ -34,8 +34,8 @@ pub record Parts (client : ℕ) (first last : Machine) (seat : ℕ) (what : Step
 pub parts_of : (client : ℕ) (first last : Machine) (at seat : ℕ) (what : Step) (outcome : Outcome) (given : List GivenAnswer)
     → IsStep first at seat what outcome given last → Parts client first last seat what given
 parts_of client first last at seat what outcome given s =
-    let begin = passes_serves client (forgetting (after_timers (at_moment at first))) s.handed s.ended s.before s.serves in
-    let goes = passes_serves client s.after s.handed_then s.ended_then last s.serves_then in
+    let begin = of_serves (passes client) (forgetting (after_timers (at_moment at first))) s.handed s.ended s.before s.serves in
+    let goes = of_serves (passes client) s.after s.handed_then s.ended_then last s.serves_then in
     grind (arith, common_steps, append_assoc)
 
 -- A command gives the client no answer, and the client waits and is connected as before.
@@ -72,58 +72,88 @@ unconnected_waits_not seat seats waits c =
     list_any_not _ seats (all_weaker _ _ seats (λ s h. grind (arith, common_steps, cases_Bool))
     (all_both _ _ seats waits (none_pass (λ s. s.number == seat && s.connected) seats c)))
 
--- the seat that the step is at, before the command's own effect
-found_before : (first last : Machine) (seat : ℕ) (what : Step) (given : List GivenAnswer) → IsLawful first → seat < first.settings.seats
-    → (p : Parts seat first last seat what given) → Found seat (p.before).seats
-found_before first last seat what given h there p = finds first.settings.seats seat (p.before).seats (p.comes.numbers ∙ h.seats) there
-
--- the effect of a command that allocates nothing and shares no body, and how the step goes on from there
-own_effect : (seat : ℕ) (first last : Machine) (what : Step) (given : List GivenAnswer) (p : Parts seat first last seat what given)
-    (e : Effect) → step_takes_memory what ≡ false → shares_body e.answer ≡ false → effect p.before seat what ≡ e
-    → (acted p.memory p.before seat what ≡ e) × Passes seat (e.machine).seats last.seats p.late
-own_effect seat first last what given p e takes shares is = grind arith
+over_by_end : (waits soon past ended : Bool) → ended ≡ true → (waits && (soon || (past || ended))) ≡ false → waits ≡ false
+over_by_end waits soon past ended e h = grind (arith, common_steps, cases_Bool)
 
 abbrev seated : SeatRecord → SeatRecord
 seated s = record (empty_seat s.number) { connected = true }
 
-gives_connect : (first last : Machine) (seat : ℕ) (given : List GivenAnswer) → IsLawful first → seat < first.settings.seats
-    → Parts seat first last seat steps.Connect given → connected_in seat first.seats ≡ false
-    → (answers_to seat given ≡ []) × (owing seat last ≡ 0) × (is_connected_at seat last ≡ true)
-gives_connect first last seat given h there p c =
-    let m = p.before in
-    let f = found_before first last seat steps.Connect given h there p in
-    let s = f.client in
-    let waits_first : waits_in seat first.seats ≡ false =
-    unconnected_waits_not seat first.seats (all_pass is_open_wait first.seats h.waits) c in
-    let begin : ((length (answers_to seat p.early)) ≡ 0) × ((waits_in seat m.seats) ≡ false) = grind (arith, common_steps, cases_Bool) in
-    let gone : s.connected ≡ false = sym f.connected ∙ p.comes.connected ∙ c in
-    let e = own_effect seat first last steps.Connect given p (silent (after_connect m s.number)) refl refl (grind (arith, common_steps)) in
-    let waits_after = changed_none seat s.number seated is_waiting m.seats f.number (λ t. refl) in
-    let connected_after = changed_some seat seated (λ t. t.connected) m.seats s f.number f.there (λ t. refl) (λ t. refl) in
-    grind (arith, common_steps, answers_of_parts)
+-- the client whose seat takes the step
+module _ (first last : Machine) (seat : ℕ) (given : List GivenAnswer) (h : IsLawful first) (there : seat < first.settings.seats) where
+  -- the seat, before the command's own effect
+  found_before : {what : Step} (p : Parts seat first last seat what given) → Found seat (p.before).seats
+  found_before p = finds first.settings.seats seat (p.before).seats (p.comes.numbers ∙ h.seats) there
 
-gives_answer : (first last : Machine) (seat : ℕ) (request : Request) (given : List GivenAnswer) → IsLawful first
-    → seat < first.settings.seats → Parts seat first last seat (steps.Ask request) given → connected_in seat first.seats ≡ true
-    → owing seat first ≡ 0 → GetsAnswer first last seat request (answers_to seat given)
-gives_answer first last seat request given h there p c none =
-    let m = p.before in
-    let f = found_before first last seat (steps.Ask request) given h there p in
-    let begin : ((length (answers_to seat p.early)) ≡ 0) × ((waits_in seat m.seats) ≡ false) = grind (arith, common_steps, cases_Bool) in
-    let reply = replies_acted p.memory m seat request begin.1 p.possible
-    (replies_effect m seat request f (p.comes.connected ∙ c) begin.1) in
-    grind (arith, common_steps, answers_of_parts, unclosed_append)
+  -- the effect of a command that allocates nothing and shares no body, and how the step goes on from there
+  own_effect : {what : Step} (p : Parts seat first last seat what given) (e : Effect) → step_takes_memory what ≡ false
+      → shares_body e.answer ≡ false → effect p.before seat what ≡ e
+      → (acted p.memory p.before seat what ≡ e) × Passes seat (e.machine).seats last.seats p.late
+  own_effect p e takes shares is = grind arith
 
-gives_closed : (first last : Machine) (seat : ℕ) (given : List GivenAnswer) → IsLawful first → seat < first.settings.seats
-    → Parts seat first last seat steps.Close given → connected_in seat first.seats ≡ true
-    → GetsClosed first last seat (answers_to seat given)
-gives_closed first last seat given h there p c =
-    let f = found_before first last seat steps.Close given h there p in
-    let s = f.client in
-    let e = own_effect seat first last steps.Close given p (telling answers.Closed (after_close p.before s.number)) refl refl
-    (grind (arith, common_steps)) in
-    let waits_after = changed_none seat s.number (λ t. empty_seat t.number) is_waiting p.before.seats f.number (λ t. refl) in
-    let connected_after = changed_none seat s.number (λ t. empty_seat t.number) (λ t. t.connected) p.before.seats f.number (λ t. refl) in
-    grind (arith, common_steps, answers_of_parts)
+  gives_connect : Parts seat first last seat steps.Connect given → connected_in seat first.seats ≡ false
+      → (answers_to seat given ≡ []) × (owing seat last ≡ 0) × (is_connected_at seat last ≡ true)
+  gives_connect p c =
+      let m = p.before in
+      let f = found_before p in
+      let s = f.client in
+      let waits_first : waits_in seat first.seats ≡ false =
+      unconnected_waits_not seat first.seats (all_pass is_open_wait first.seats h.waits) c in
+      let begin : ((length (answers_to seat p.early)) ≡ 0) × ((waits_in seat m.seats) ≡ false) = grind (arith, common_steps, cases_Bool) in
+      let gone : s.connected ≡ false = sym f.connected ∙ p.comes.connected ∙ c in
+      let e = own_effect p (silent (after_connect m s.number)) refl refl
+      (grind (arith, common_steps)) in
+      let waits_after = changed_none seat s.number seated is_waiting m.seats f.number (λ t. refl) in
+      let connected_after = changed_some seat seated (λ t. t.connected) m.seats s f.number f.there (λ t. refl) (λ t. refl) in
+      grind (arith, common_steps, answers_of_parts)
+
+  -- A connected client makes a request, whether it waits or not.
+  gives_answer : (request : Request) → Parts seat first last seat (steps.Ask request) given → connected_in seat first.seats ≡ true
+      → GetsAtMost first last seat request (answers_to seat given)
+      × (owing seat first ≡ 0 → GetsAnswer first last seat request (answers_to seat given))
+  gives_answer request p c =
+      let m = p.before in
+      let f = found_before p in
+      let o = (acted p.memory m seat (steps.Ask request)).answer in
+      let all : answers_to seat given ≡ answers_to seat p.early ++ (told o ++ answers_to seat p.late) =
+      answers_of_parts seat o p.early p.late given p.given_is in
+      elim (cases_Bool (waits_in seat m.seats)) [
+        | inl w ↦ grind (arith, common_steps, length-append, unclosed_append)
+        | inr w ↦
+            let reply = replies_acted p.memory m seat request w p.possible (replies_effect m seat request f (p.comes.connected ∙ c) w) in
+            let before : one_for (waits_in seat m.seats) ≡ 0 = ap one_for w in
+            ((grind (arith, common_steps, length-append, unclosed_append)), (λ none. grind (arith, common_steps, unclosed_append)))
+      ]
+
+  gives_closed : Parts seat first last seat steps.Close given → connected_in seat first.seats ≡ true
+      → GetsClosed first last seat (answers_to seat given)
+  gives_closed p c =
+      let f = found_before p in
+      let s = f.client in
+      let e = own_effect p (telling answers.Closed (after_close p.before s.number)) refl refl
+      (grind (arith, common_steps)) in
+      let waits_after = changed_none seat s.number (λ t. empty_seat t.number) is_waiting p.before.seats f.number (λ t. refl) in
+      let connected_after = changed_none seat s.number (λ t. empty_seat t.number) (λ t. t.connected) p.before.seats f.number (λ t. refl) in
+      grind (arith, common_steps, answers_of_parts)
+
+  -- A client that sends no more does not wait: no wait would end after the step.
+  gives_end : IsLawful last → Parts seat first last seat steps.End given → connected_in seat first.seats ≡ true → owing seat last ≡ 0
+  gives_end i p c =
+      let m = p.before in
+      let f = found_before p in
+      let s = f.client in
+      let here : s.connected ≡ true = sym f.connected ∙ p.comes.connected ∙ c in
+      let e = own_effect p (silent (with_seat s.number with_end m)) refl refl
+      (grind (arith, common_steps)) in
+      let ended_after = changed_some seat with_end (λ t. t.ended) m.seats s f.number f.there (λ t. refl) (λ t. refl) in
+      let same = changed_numbers s.number with_end m.seats (λ t. refl) in
+      let g = finds first.settings.seats seat last.seats (e.1.numbers ∙ same ∙ p.comes.numbers ∙ h.seats) there in
+      let r = g.client in
+      let is_over : r.ended ≡ true = sym g.ended ∙ e.1.ended ∙ ended_after in
+      let ends_not : ends_waiting last r ≡ false =
+      all_at (λ t. ends_waiting last t ≡ false) last.seats r
+      (none_pass (ends_waiting last) last.seats (first_of_none (ends_waiting last) is_wait_before last.seats i.wait_ends)) g.there in
+      ap one_for (g.waits ∙ over_by_end (is_waiting r) (is_deadline_soon last r) (is_until_over last.moment r.wait) r.ended is_over
+      ends_not)
 
 -- A tick at any seat gives to any client what it waits for.
 pub tick_gives_client : (first last : Machine) (at seat client : ℕ) (outcome : Outcome) (given : List GivenAnswer)
@@ -131,41 +161,20 @@ pub tick_gives_client : (first last : Machine) (at seat client : ℕ) (outcome :
 tick_gives_client first last at seat client outcome given s =
     gets_quiet client first last seat steps.Tick given (search parts_of) refl (λ m. refl) (λ m. refl) (λ m. refl)
 
-over_by_end : (waits soon past ended : Bool) → ended ≡ true → (waits && (soon || (past || ended))) ≡ false → waits ≡ false
-over_by_end waits soon past ended e h = grind (arith, common_steps, cases_Bool)
-
--- A client that sends no more does not wait: no wait would end after the step.
-gives_end : (first last : Machine) (seat : ℕ) (given : List GivenAnswer) → IsLawful first → IsLawful last → seat < first.settings.seats
-    → Parts seat first last seat steps.End given → connected_in seat first.seats ≡ true → owing seat last ≡ 0
-gives_end first last seat given h i there p c =
-    let m = p.before in
-    let f = found_before first last seat steps.End given h there p in
-    let s = f.client in
-    let here : s.connected ≡ true = sym f.connected ∙ p.comes.connected ∙ c in
-    let e = own_effect seat first last steps.End given p (silent (with_seat s.number with_end m)) refl refl (grind (arith, common_steps)) in
-    let ended_after = changed_some seat with_end (λ t. t.ended) m.seats s f.number f.there (λ t. refl) (λ t. refl) in
-    let same = changed_numbers s.number with_end m.seats (λ t. refl) in
-    let g = finds first.settings.seats seat last.seats (e.1.numbers ∙ same ∙ p.comes.numbers ∙ h.seats) there in
-    let r = g.client in
-    let is_over : r.ended ≡ true = sym g.ended ∙ e.1.ended ∙ ended_after in
-    let ends_not : ends_waiting last r ≡ false =
-    all_at (λ t. ends_waiting last t ≡ false) last.seats r
-    (none_pass (ends_waiting last) last.seats (first_of_none (ends_waiting last) is_wait_before last.seats i.wait_ends)) g.there in
-    ap one_for (g.waits ∙ over_by_end (is_waiting r) (is_deadline_soon last r) (is_until_over last.moment r.wait) r.ended is_over ends_not)
-
 -- What a step gives to the client at its seat.
 pub step_gives_client : (first last : Machine) (at seat : ℕ) (what : Step) (outcome : Outcome) (given : List GivenAnswer) → IsLawful first
     → seat < first.settings.seats → IsStep first at seat what outcome given last → GivesClient seat first what given last
 step_gives_client first last at seat steps.Connect outcome given h there s =
-    λ c. gives_connect first last seat given h there (parts_of seat first last at seat steps.Connect outcome given s) c
-step_gives_client first last at seat (steps.Ask request) outcome given h there s = search (gives_answer, parts_of)
+    gives_connect first last seat given h there (parts_of seat first last at seat steps.Connect outcome given s)
+step_gives_client first last at seat (steps.Ask request) outcome given h there s = λ c.
+    (gives_answer first last seat given h there request (parts_of seat first last at seat (steps.Ask request) outcome given s) c).1
 step_gives_client first last at seat steps.Close outcome given h there s = search (gives_closed, parts_of)
 step_gives_client first last at seat steps.End outcome given h there s =
     let p = parts_of seat first last at seat steps.End outcome given s in (
       gets_quiet seat first last seat steps.End given p refl
           (λ m. end_untold m (seat_with seat m.seats)) (λ m. end_quiet seat is_waiting (λ s. refl) m (seat_with seat m.seats))
           (λ m. end_quiet seat (λ s. s.connected) (λ s. refl) m (seat_with seat m.seats)),
-      λ c. gives_end first last seat given h (step_is_lawful first last at seat steps.End outcome given h s) there p c,
+      gives_end first last seat given h there (step_is_lawful first last at seat steps.End outcome given h s) p,
     )
 step_gives_client first last at seat steps.Drain outcome given h there s =
     gets_quiet seat first last seat steps.Drain given (search parts_of) refl (λ m. refl) (λ m. refl) (λ m. refl)
@@ -178,20 +187,7 @@ pub asks_at_most : (first last : Machine) (at seat : ℕ) (request : Request) (o
     → seat < first.settings.seats → is_connected_at seat first ≡ true → IsStep first at seat (steps.Ask request) outcome given last
     → GetsAtMost first last seat request (answers_to seat given)
 asks_at_most first last at seat request outcome given h there c step =
-    let p : Parts seat first last seat (steps.Ask request) given =
-    parts_of seat first last at seat (steps.Ask request) outcome given step in
-    let m = p.before in
-    let f = found_before first last seat (steps.Ask request) given h there p in
-    let o = (acted p.memory m seat (steps.Ask request)).answer in
-    let all : answers_to seat given ≡ answers_to seat p.early ++ (told o ++ answers_to seat p.late) =
-    answers_of_parts seat o p.early p.late given p.given_is in
-    elim (cases_Bool (waits_in seat m.seats)) [
-      | inl w ↦ grind (arith, common_steps, length-append, unclosed_append)
-      | inr w ↦
-          let reply = replies_acted p.memory m seat request w p.possible (replies_effect m seat request f (p.comes.connected ∙ c) w) in
-          let before : one_for (waits_in seat m.seats) ≡ 0 = ap one_for w in
-          grind (arith, common_steps, length-append, unclosed_append)
-    ]
+    (gives_answer first last seat given h there request (parts_of seat first last at seat (steps.Ask request) outcome given step) c).0
 
 -- A step of another seat gives the client what it waits for, and nothing else.
 pub others_give : (first last : Machine) (at seat client : ℕ) (what : Step) (outcome : Outcome) (given : List GivenAnswer)

@@ -1,4 +1,7 @@
 -- The kind of each command: the only case split over all requests.
+use Rattle.std.proofs.lemmas.Bool.{cases_Bool}
+use Rattle.bq_job.proofs.WatchedLemmas.{none_twice_behind}
+use Rattle.std.proofs.lemmas.Bool.{and_from}
 use Rattle.std.proofs.Common.{◌||◌, ◌≡◌, ◌≤◌, Bool, List, None, Some, ℕ, arith, cond, false, inl, inr, not, refl, true}
 use Rattle.std.proofs.lemmas.{Bool.{and_parts, cond_both, eq-eqb}, Grind.common_steps}
 use Rattle.std.specs.{List.list_any, Prelude.{◌==◌, filter, length, take}}
@@ -13,11 +16,11 @@ use Rattle.bq_job.specs.declared.answer.Answer.TheVariants as answers
 use Rattle.bq_job.specs.declared.request.Request.TheVariants as requests
 use Rattle.bq_job.specs.declared.step.Step.TheVariants as steps
 use Rattle.bq_job.proofs.BecomeLemmas.{IsAside, all_of_take, chosen_not_held, free_by_delay, held_not_ready}
-use Rattle.bq_job.proofs.BecomeLemmas.{kickable_aside, one_becomes, put_aside_not_held, told_if_given_up}
+use Rattle.bq_job.proofs.BecomeLemmas.{kickable_aside, one_becomes, put_aside_not_held}
 use Rattle.bq_job.proofs.EffectKinds.{IsFreeOrOwn, Kind, SaysDone, adds, changes_jobs, changes_seat}
 use Rattle.bq_job.proofs.EffectKinds.{changes_tube, deletes, is_common, passes, tells, waits}
 use Rattle.bq_job.proofs.{ChangeLemmas.{Becomes, becomes_itself}, LookupLemmas.{found_job, job_found}}
-use Rattle.bq_job.proofs.WatchedLemmas.{none_twice_filter, watched_still}
+use Rattle.bq_job.proofs.WatchedLemmas.{none_twice_filter}
 
 -- an answer that says that the command was carried out, other than RESERVED
 says : {request : Request} (answer : Answer) → answers_wanted request ≡ 1 → is_closed_answer answer ≡ false → is_refusal answer ≡ false
@@ -46,14 +49,6 @@ reserve_job_kind id m s =
     (grind (arith, common_steps, found_job)) (λ h. h) (λ k. refl) (λ k. inr (eq-eqb s.number s.number refl))
     (grind (arith, common_steps, found_job, eq-eqb)))
 
-delete_kind : (id : ℕ) (m : Machine) (s : SeatRecord) → Kind m s (requests.Delete id) (asked (requests.Delete id) m s)
-delete_kind id m s = grind (arith, common_steps, on_one, deletes)
-
-release_kind : (id pri delay : ℕ) (m : Machine) (s : SeatRecord)
-    → Kind m s (requests.Release id pri delay) (asked (requests.Release id pri delay) m s)
-release_kind id pri delay m s =
-    grind (arith, common_steps, on_one, one_changes, says, free_by_delay, held_not_ready, told_if_given_up, found_job, eq-eqb)
-
 kick_kind : (bound : ℕ) (m : Machine) (s : SeatRecord) → Kind m s (requests.Kick bound) (asked (requests.Kick bound) m s)
 kick_kind bound m s =
     let chosen = take bound (kickable s.used m.jobs) in
@@ -75,10 +70,7 @@ kick_job_kind id m s =
     (λ j e p.
     one_changes (requests.KickJob id) m s answers.Kicked id kicked m.burials j e (says answers.Kicked refl refl refl refl) (λ h. h)
     (λ k. refl) (λ k. inl refl)
-    (record { id = refl; tube = refl; body = refl; ready = λ h. inl (refl, refl); held = λ h. absurd (put_aside_not_held j.state p h) }))
-
-watch_kind : (tube : List ℕ) (m : Machine) (s : SeatRecord) → Kind m s (requests.Watch tube) (asked (requests.Watch tube) m s)
-watch_kind tube m s = changes_seat _ (watching (watched_with tube s)) (grind (arith, says)) (grind (arith, watched_still))
+    (grind (arith, common_steps, put_aside_not_held)))
 
 ignore_kind : (tube : List ℕ) (m : Machine) (s : SeatRecord) → Kind m s (requests.Ignore tube) (asked (requests.Ignore tube) m s)
 ignore_kind tube m s =
@@ -95,16 +87,18 @@ kind_of (requests.Put pri delay ttr body) m s = grind (arith, common_steps, tell
 kind_of requests.Reserve m s = waits None refl refl
 kind_of (requests.ReserveWithTimeout seconds) m s = waits (Some (later m.moment seconds)) refl refl
 kind_of (requests.ReserveJob id) m s = reserve_job_kind id m s
-kind_of (requests.Delete id) m s = delete_kind id m s
-kind_of (requests.Release id pri delay) m s = release_kind id pri delay m s
-kind_of (requests.Bury id pri) m s = grind
-    (arith, common_steps, on_one, one_changes, says, held_not_ready, told_if_given_up, found_job, eq-eqb)
+kind_of (requests.Delete id) m s = grind (arith, common_steps, on_one, deletes)
+kind_of (requests.Release id pri delay) m s = grind
+    (arith, common_steps, on_one, one_changes, says, free_by_delay, held_not_ready, cases_Bool, found_job, eq-eqb)
+kind_of (requests.Bury id pri) m s = grind (arith, common_steps, on_one, one_changes, says, held_not_ready, cases_Bool, found_job, eq-eqb)
 kind_of (requests.Touch id) m s = grind (arith, common_steps, on_one, one_changes, says, eq-eqb, held_not_ready)
 kind_of (requests.Kick bound) m s = kick_kind bound m s
 kind_of (requests.KickJob id) m s = kick_job_kind id m s
 kind_of (requests.Use tube) m s = grind (arith, common_steps, changes_seat, says)
 kind_of requests.ListTubeUsed m s = tells (answers.Using s.used) refl refl refl
-kind_of (requests.Watch tube) m s = watch_kind tube m s
+kind_of (requests.Watch tube) m s =
+    changes_seat _ (watching (watched_with tube s)) (grind (arith, says))
+    (grind (arith, common_steps, and_parts, cond_both, and_from, none_twice_behind))
 kind_of (requests.Ignore tube) m s = ignore_kind tube m s
 kind_of (requests.Peek id) m s = grind (arith, common_steps, tells)
 kind_of requests.PeekReady m s = grind (arith, common_steps, tells)

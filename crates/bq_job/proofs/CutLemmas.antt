@@ -1,10 +1,10 @@
 -- Answers connection by connection: where a list of them is cut.
-use Rattle.std.proofs.Common.{◌++◌, ◌+◌, ◌∷◌, ◌≡◌, ◌≤◌, List, [], ℕ, ap, arith, false, length, refl, suc}
+use Rattle.std.proofs.Common.{◌++◌, ◌+◌, ◌∷◌, ◌≡◌, ◌≤◌, List, [], ℕ, arith, false, length, refl}
 use Rattle.std.proofs.lemmas.{Bool.or_parts, Grind.common_steps}
 use Rattle.bq_job.specs.{beside.{AreLinesServed, closes}, machine.has_closed, promise.LineOver, Types.Answer}
 use Rattle.bq_job.specs.Types.{Step}
 use Rattle.bq_job.specs.declared.answer.Answer.TheVariants as answers
-use Rattle.bq_job.proofs.{GivenLemmas.{AreParts, most_of_lines}, ListLemmas.heads}
+use Rattle.bq_job.proofs.ListLemmas.{heads}
 
 pub closes_append : (xs ys : List Answer) → closes (xs ++ ys) ≡ closes xs + closes ys
 closes_append [] ys = omega arith
@@ -21,21 +21,11 @@ closes_unclosed [] h = refl
 closes_unclosed (answers.Closed ∷ xs) h = absurd (omega arith)
 closes_unclosed (x ∷ xs) h = closes_unclosed xs h
 
--- there is one `Closed` for each connection, and all of them were taken
-pub parts_close : (mosts : List ℕ) (given : List Answer) → AreParts mosts given → closes given ≡ length mosts
-parts_close [] given h = ap closes h
-parts_close (most ∷ mosts) given h = grind (arith, common_steps, closes_append, unclosed_closes, parts_close mosts h.1 h.5)
-
-pub lines_close : (size : ℕ) (lines : List LineOver) (own : List Step) (taken : List Answer) (h : AreLinesServed size lines own taken)
-    → length (most_of_lines size lines own taken h) ≤ closes taken
+-- there is at least one `Closed` for each connection
+pub lines_close : (size : ℕ) (lines : List LineOver) (own : List Step) (taken : List Answer) → AreLinesServed size lines own taken
+    → length lines ≤ closes taken
 lines_close size [] own taken h = omega arith
 lines_close size (line ∷ lines) own taken h = grind (arith, closes_append, lines_close size lines h.1 h.3 h.7)
-
--- each connection has its most
-pub lines_number : (size : ℕ) (lines : List LineOver) (own : List Step) (taken : List Answer) (h : AreLinesServed size lines own taken)
-    → length (most_of_lines size lines own taken h) ≡ length lines
-lines_number size [] own taken h = refl
-lines_number size (line ∷ lines) own taken h = ap suc (lines_number size lines h.1 h.3 h.7)
 
 -- A list is cut at its first `Closed` in only one way. Splitting by kind of answer would need a
 -- case for each pair of kinds.

@@ -1,25 +1,17 @@
--- What the seats did fits what the core did: the answers that a run gives a seat, connection by
--- connection, are those that the seat took.
+-- What a run gives one seat: step by step of that seat, and to each of its connections.
 use Rattle.std.proofs.Common.{◌≡◌, ℕ, ◌+◌, ◌≤◌, ◌<◌, Bool, true, false, ◌&&◌, not, List, [], ◌∷◌, ◌++◌}
-use Rattle.std.proofs.Common.{map, length, refl, sym, ap, ◌∙◌, arith, subst, inl, inr, ◌⊎◌, append_assoc, rules}
-use Rattle.std.proofs.lemmas.{Bool.{and_parts, both_ways, cases_Bool}, Grind.common_steps, List.length-append}
-use Rattle.std.specs.Prelude.{◌==◌}
-use Rattle.bq_job.specs.promise.{Entry, LineHeard, LineOver, MayTellEnd, Run, answered_count, answers_to, answers_wanted}
-use Rattle.bq_job.specs.beside.{AreLinesServed, GetsAtMost, GetsClosed, GetsWhatWaits, IsLawful, owing}
+use Rattle.std.proofs.Common.{map, length, refl, ap, ◌∙◌, arith, subst, inl, inr, append_assoc, rules}
+use Rattle.std.proofs.lemmas.{Bool.{and_parts, both_ways, cases_Bool, eqb-true}, Grind.common_steps, List.length-append}
+use Rattle.std.specs.{List.list_all, Prelude.◌==◌}
+use Rattle.bq_job.specs.promise.{Entry, LineHeard, MayTellEnd, Run, answered_count, answers_to}
+use Rattle.bq_job.specs.beside.{GetsAtMost, GetsClosed, GetsWhatWaits, GivesClient, IsLawful, owing}
 use Rattle.bq_job.specs.machine.{GivenAnswer, IsStep, Outcome, has_closed, is_connected_at, Machine.Machine}
-use Rattle.bq_job.specs.{promise.{heard, is_gone, is_tick, steps_at, wanted}, Types.{Answer, Request, Step}}
+use Rattle.bq_job.specs.{promise.{is_gone, is_tick, steps_at, wanted}, Types.{Answer, Request, Step}}
 use Rattle.bq_job.specs.declared.answer.Answer.TheVariants as answers
 use Rattle.bq_job.specs.declared.step.Step.TheVariants as steps
 use Rattle.bq_job.proofs.ClientStepLemmas.{asks_at_most, others_give, step_gives_client, step_settings, tick_gives_client}
-use Rattle.bq_job.proofs.{LawfulLemmas.step_is_lawful, ListLemmas.heads, OneClientLemmas.answers_append}
+use Rattle.bq_job.proofs.{LawfulLemmas.step_is_lawful, OneClientLemmas.answers_append}
 use Rattle.bq_job.proofs.{OneClientLemmas.unclosed_append, RunLemmas.{run_first, run_of_none}}
-
--- the entry is a step of this seat
-abbrev pub is_here : ℕ → Entry → Bool
-is_here t e = not (is_tick e.what) && e.seat == t
-
-pub first_here : (t : ℕ) (e : Entry) (history : List Entry) → is_here t e ≡ true → steps_at t (e ∷ history) ≡ e.what ∷ steps_at t history
-first_here t e history h = grind (arith, common_steps, and_parts, cases_Bool)
 
 -- the model serves this seat
 pub record Serves (t : ℕ) (m : Machine) : Type 0 where
@@ -31,10 +23,99 @@ serves_on : (t : ℕ) (m next : Machine) (at seat : ℕ) (what : Step) (outcome 
 serves_on t m next at seat what outcome given s step =
     grind (arith, step_is_lawful m next at seat what outcome given s.lawful step, step_settings m next at seat what outcome given step)
 
-elsewhere : (t : ℕ) (m next : Machine) (at seat : ℕ) (what : Step) (outcome : Outcome) (given : List GivenAnswer) → Serves t m
+-- What happens between the steps of a seat: its client gets at most what it waits for.
+pub record Meanwhile (t : ℕ) (m next : Machine) (given : List Answer) : Type 0 where
+  pub gets : GetsWhatWaits m next t given
+  pub serves : Serves t m → Serves t next
+
+-- a step of the seat, and what follows it
+pub record Own (t : ℕ) (what : Step) (Rest : Machine → List Answer → Type 0) (m : Machine) (given : List Answer) : Type 0 where
+  pub moment : ℕ
+  pub outcome : Outcome
+  pub now : List GivenAnswer
+  pub next : Machine
+  pub step : IsStep m moment t what outcome now next
+  pub later : List Answer
+  pub given_is : given ≡ answers_to t now ++ later
+  pub rest : Rest next later
+
+-- Other seats take steps, and this holds afterwards.
+abbrev pub Later : ℕ → (Machine → List Answer → Type 0) → Machine → List Answer → Type 0
+Later t Holds m given =
+    (before : Machine) × (early rest : List Answer) × Meanwhile t m before early × (given ≡ early ++ rest) × Holds before rest
+
+-- A run from this model as a seat sees it: the steps of the seat, and the answers that it is given.
+abbrev pub Along : ℕ → List Step → Machine → List Answer → Type 0
+Along t [] = Later t (λ m given. given ≡ [])
+Along t (what ∷ more) = Later t (Own t what (Along t more))
+
+elsewhere : (t : ℕ) (m next : Machine) (at seat : ℕ) (what : Step) (outcome : Outcome) (given : List GivenAnswer)
     → (not (is_tick what) && seat == t) ≡ false → IsStep m at seat what outcome given next → GetsWhatWaits m next t (answers_to t given)
-elsewhere t m next at seat steps.Tick outcome given s h step = tick_gives_client m next at seat t outcome given step
-elsewhere t m next at seat what outcome given s h step = search (rules, others_give)
+elsewhere t m next at seat steps.Tick outcome given h step = tick_gives_client m next at seat t outcome given step
+elsewhere t m next at seat what outcome given h step = search (rules, others_give)
+
+nothing_yet : (t : ℕ) (m : Machine) → Meanwhile t m m []
+nothing_yet t m = record { gets = record { count = omega arith; unclosed = refl; connected = refl }; serves = λ s. s }
+
+meanwhile_then : (t : ℕ) (m n last : Machine) (xs ys : List Answer) → Meanwhile t m n xs → Meanwhile t n last ys
+    → Meanwhile t m last (xs ++ ys)
+meanwhile_then t m n last xs ys h i = grind (arith, common_steps, length-append, unclosed_append)
+
+later_after : (t : ℕ) (Holds : Machine → List Answer → Type 0) (m n : Machine) (xs given : List Answer) → Meanwhile t m n xs
+    → Later t Holds n given → Later t Holds m (xs ++ given)
+later_after t Holds m n xs given h (before, early, rest, i, is, holds) =
+    (before, xs ++ early, rest, meanwhile_then t m n before xs early h i, grind (arith, append_assoc), holds)
+
+along_after : (t : ℕ) (ss : List Step) (m n : Machine) (xs given : List Answer) → Meanwhile t m n xs → Along t ss n given
+    → Along t ss m (xs ++ given)
+along_after t [] m n xs given h a = later_after t (λ m given. given ≡ []) m n xs given h a
+along_after t (what ∷ ss) m n xs given h a = later_after t (Own t what (Along t ss)) m n xs given h a
+
+pub run_along : (t : ℕ) (m last : Machine) (history : List Entry) (given : List GivenAnswer) → Run m history given last
+    → Along t (steps_at t history) m (answers_to t given)
+run_along t m last [] given r = (m, [], [], nothing_yet t m, ap (answers_to t) ((run_of_none m last given r).0), refl)
+run_along t m last (e ∷ history) given r =
+    let b = run_first m last e history given r in
+    let rest = run_along t b.next last history b.more b.rest in
+    let all = ap (answers_to t) b.given_is ∙ answers_append t b.now b.more in
+    let serves : Serves t m → Serves t b.next = λ s. serves_on t m b.next e.moment e.seat e.what b.outcome b.now s b.step in
+    elim (cases_Bool (not (is_tick e.what) && e.seat == t)) [
+      | inl h ↦
+          let own : e.seat ≡ t = eqb-true e.seat t (and_parts (not (is_tick e.what)) (e.seat == t) h).1 in
+          let step = subst (λ n. IsStep m e.moment n e.what b.outcome b.now b.next) own b.step in
+          let first : steps_at t (e ∷ history) ≡ e.what ∷ steps_at t history = grind (arith, common_steps, and_parts, cases_Bool) in
+          rw first (
+            m,
+            [],
+            answers_to t given,
+            nothing_yet t m,
+            refl,
+            record {
+              moment = e.moment;
+              outcome = b.outcome;
+              now = b.now;
+              next = b.next;
+              step = step;
+              later = answers_to t b.more;
+              given_is = all;
+              rest = rest;
+            },
+          )
+      | inr h ↦
+          let gets = elsewhere t m b.next e.moment e.seat e.what b.outcome b.now h b.step in
+          let same : steps_at t (e ∷ history) ≡ steps_at t history = grind (arith, common_steps, cases_Bool) in
+          rw (same, all) (along_after t (steps_at t history) m b.next (answers_to t b.now) (answers_to t b.more)
+          (record { gets = gets; serves = serves }) rest)
+    ]
+
+-- what a step of the seat gives its client
+module _ {t : ℕ} {what : Step} {Rest : Machine → List Answer → Type 0} {m : Machine} {given : List Answer} (a : Own t what Rest m given)
+    (s : Serves t m) where
+  own_gives : GivesClient t m what a.now a.next
+  own_gives = step_gives_client m a.next a.moment t what a.outcome a.now s.lawful s.within a.step
+
+  serves_next : Serves t a.next
+  serves_next = serves_on t m a.next a.moment t what a.outcome a.now s a.step
 
 -- a request, or that the client sends no more
 abbrev pub is_within : Step → Bool
@@ -42,210 +123,88 @@ is_within (steps.Ask request) = true
 is_within steps.End = true
 is_within _ = false
 
-abbrev pub are_within : List Step → Bool
-are_within [] = true
-are_within (step ∷ taken) = is_within step && are_within taken
+-- no client is connected at the seat, and none waits
+pub record IsFree (t : ℕ) (m : Machine) : Type 0 where
+  pub serves : Serves t m
+  pub free : is_connected_at t m ≡ false
+  pub owes : owing t m ≡ 0
 
--- The run goes on from here: no client is connected at the seat, and none waits.
-pub record GoesOn (t : ℕ) (more : List Step) (later : List Answer) (last : Machine) : Type 0 where
-  pub first : Machine
-  pub history : List Entry
-  pub given : List GivenAnswer
-  pub serves : Serves t first
-  pub free : is_connected_at t first ≡ false
-  pub owes : owing t first ≡ 0
-  pub runs : Run first history given last
-  pub steps_are : steps_at t history ≡ more
-  pub answers_are : answers_to t given ≡ later
+-- The run goes on like that while no client is connected at the seat.
+abbrev pub GoesOn : ℕ → List Step → List Answer → Type 0
+GoesOn t ss given = (m : Machine) × IsFree t m × Along t ss m given
 
 -- The connection at the seat ends: it got at most as many answers as it wanted, then a `Closed`,
 -- and the run goes on.
-pub record LineEnds (t : ℕ) (most : ℕ) (more : List Step) (given : List Answer) (last : Machine) : Type 0 where
+pub record LineEnds (t : ℕ) (most : ℕ) (more : List Step) (given : List Answer) : Type 0 where
   pub part : List Answer
   pub later : List Answer
   pub given_is : given ≡ part ++ answers.Closed ∷ later
   pub unclosed : has_closed part ≡ false
   pub few : length part ≤ most
-  pub goes : GoesOn t more later last
+  pub goes : GoesOn t more later
 
--- answers in front of the rest of a connection
-ends_after : {t less : ℕ} {more : List Step} {given : List Answer} {last : Machine} (most : ℕ) (now all : List Answer)
-    → has_closed now ≡ false → length now + less ≤ most → all ≡ now ++ given → LineEnds t less more given last
-    → LineEnds t most more all last
-ends_after most now all unclosed few is r =
-    grind (arith, append_assoc, unclosed_append now r.part unclosed r.unclosed, length-append now r.part)
-
-at_least : {a : ℕ} (b : ℕ) → a ≤ b → a ≤ b + 0
-at_least b e = omega arith
-
--- The first entry of a history: it is a step of this seat, or gives it at most what it waits for. A
--- run follows it.
-record OneEntry (t : ℕ) (m last : Machine) (e : Entry) (history : List Entry) (given : List Answer) : Type 0 where
-  outcome : Outcome
-  now : List GivenAnswer
-  rest : List GivenAnswer
-  next : Machine
-  all : given ≡ answers_to t now ++ answers_to t rest
-  serves : Serves t next
-  runs : Run next history rest last
-  whose : ((steps_at t (e ∷ history) ≡ e.what ∷ steps_at t history) × IsStep m e.moment t e.what outcome now next)
-      ⊎ ((steps_at t (e ∷ history) ≡ steps_at t history) × GetsWhatWaits m next t (answers_to t now))
-
-one_entry : (t : ℕ) (m last : Machine) (e : Entry) (history : List Entry) (given : List GivenAnswer)
-    → Serves t m → Run m (e ∷ history) given last → OneEntry t m last e history (answers_to t given)
-one_entry t m last e history given s r =
-    let b = run_first m last e history given r in
-    record {
-      outcome = b.outcome;
-      now = b.now;
-      rest = b.more;
-      next = b.next;
-      all = ap (answers_to t) b.given_is ∙ answers_append t b.now b.more;
-      serves = serves_on t m b.next e.moment e.seat e.what b.outcome b.now s b.step;
-      runs = b.rest;
-      whose = elim (cases_Bool (is_here t e)) [
-        | inl h ↦ grind (arith, common_steps, first_here)
-        | inr h ↦ inr ((grind (arith, common_steps, cases_Bool)), elsewhere t m b.next e.moment e.seat e.what b.outcome b.now s h b.step)
-      ];
-    }
-
--- the entry is a step of its seat
-own_entry : {t : ℕ} {m last : Machine} {e : Entry} {history : List Entry} {given : List Answer} (o : OneEntry t m last e history given)
-    (what : Step) → e.what ≡ what → IsStep m e.moment t e.what o.outcome o.now o.next → IsStep m e.moment t what o.outcome o.now o.next
-own_entry {t = t} {m = m} {e = e} o what is step = subst (λ (x : Step). IsStep m e.moment t x o.outcome o.now o.next) is step
+-- the answers of a step of the seat, and those before it, in front of the rest of its connection
+ends_after : {t : ℕ} {m before : Machine} {early later given : List Answer} {more : List Step} (less most : ℕ) (now : List Answer)
+    → Meanwhile t m before early → has_closed now ≡ false → length early + (length now + less) ≤ most → given ≡ early ++ (now ++ later)
+    → LineEnds t less more later → LineEnds t most more given
+ends_after {early = early} less most now h unclosed few is r = record {
+  part = early ++ (now ++ r.part);
+  later = r.later;
+  given_is = grind (arith, append_assoc);
+  unclosed = grind (arith, unclosed_append, h.gets);
+  few = let y = r.few in omega (arith, length-append early (now ++ r.part), length-append now r.part);
+  goes = r.goes;
+}
 
 -- A client that is connected stays so until its connection ends.
-pub line_ends : (t : ℕ) (m last : Machine) (history : List Entry) (given : List GivenAnswer) (ss more : List Step)
-    → Serves t m → is_connected_at t m ≡ true → are_within ss ≡ true → Run m history given last
-    → steps_at t history ≡ ss ++ steps.Close ∷ more
-    → LineEnds t (owing t m + wanted ss) more (answers_to t given) last
-line_ends t m last [] given [] more s c w r is = absurd cc
-line_ends t m last [] given (x ∷ ss) more s c w r is = absurd cc
-line_ends t m last (e ∷ history) given ss more s c w r is =
-    let o = one_entry t m last e history given s r in
-    let behind = λ (ss' : List Step) (c' : is_connected_at t o.next ≡ true) (w' : are_within ss' ≡ true)
-    (tail : steps_at t history ≡ ss' ++ steps.Close ∷ more).
-    line_ends t o.next last history o.rest ss' more o.serves c' w' o.runs tail in
-    elim o.whose [
-      | inl h ↦ own o behind ss w (sym h.0 ∙ is) h.1
-      | inr h ↦ grind (arith, common_steps, ends_after)
-    ]
-  where
-    own : (o : OneEntry t m last e history (answers_to t given))
-        → ((ss' : List Step) → is_connected_at t o.next ≡ true → are_within ss' ≡ true
-        → steps_at t history ≡ ss' ++ steps.Close ∷ more → LineEnds t (owing t o.next + wanted ss') more (answers_to t o.rest) last)
-        → (ss : List Step) → are_within ss ≡ true → e.what ∷ steps_at t history ≡ ss ++ steps.Close ∷ more
-        → IsStep m e.moment t e.what o.outcome o.now o.next → LineEnds t (owing t m + wanted ss) more (answers_to t given) last
-    own o behind [] w both step =
-        let is = heads e.what steps.Close (steps_at t history) more both in
-        let g : GetsClosed m o.next t (answers_to t o.now) =
-        step_gives_client m o.next e.moment t steps.Close o.outcome o.now s.lawful s.within (own_entry o steps.Close is.0 step) c in
-        let later = answers_to t o.rest in
-        grind (arith, common_steps, append_assoc, at_least)
-    own o behind (steps.Ask request ∷ ss) w both step =
-        let is = heads e.what (steps.Ask request) (steps_at t history) (ss ++ steps.Close ∷ more) both in
-        let g : GetsAtMost m o.next t request (answers_to t o.now) =
-        asks_at_most m o.next e.moment t request o.outcome o.now s.lawful s.within c (own_entry o (steps.Ask request) is.0 step) in
-        let few : (length (answers_to t o.now)) + ((owing t o.next) + (wanted ss)) ≤ (owing t m) +
-        ((answers_wanted request) + (wanted ss)) = omega arith in
-        let r' = behind ss g.connected w is.1 in
-        ends_after (owing t m + wanted (steps.Ask request ∷ ss)) (answers_to t o.now) (answers_to t given) g.unclosed few o.all r'
-    own o behind (steps.End ∷ ss) w both step =
-        let is = heads e.what steps.End (steps_at t history) (ss ++ steps.Close ∷ more) both in
-        let g : GetsWhatWaits m o.next t (answers_to t o.now) =
-        (step_gives_client m o.next e.moment t steps.End o.outcome o.now s.lawful s.within (own_entry o steps.End is.0 step)).0 in
-        let few : (length (answers_to t o.now)) + ((owing t o.next) + (wanted ss)) ≤ (owing t m) + (wanted ss) = omega arith in
-        let r' = behind ss (g.connected ∙ c) w is.1 in
-        ends_after (owing t m + wanted ss) (answers_to t o.now) (answers_to t given) g.unclosed few o.all r'
-    own o behind (x ∷ ss) w both step = absurd (both_ways false refl w)
+line_ends : (t : ℕ) (ss more : List Step) (m : Machine) (given : List Answer) → Serves t m → is_connected_at t m ≡ true
+    → list_all is_within ss ≡ true → Along t (ss ++ steps.Close ∷ more) m given → LineEnds t (owing t m + wanted ss) more given
+line_ends t [] more m given s c w (before, early, rest, h, is, a) =
+    let b = h.serves s in
+    let g : GetsClosed before a.next t (answers_to t a.now) = own_gives a b (h.gets.connected ∙ c) in
+    let free : IsFree t a.next = record { serves = serves_next a b; free = g.gone; owes = g.none } in
+    ends_after 0 (owing t m + 0) g.early h g.unclosed (let x = h.gets.count in let y = g.count in omega arith)
+    (grind (arith, append_assoc)) (record {
+      part = [];
+      later = a.later;
+      given_is = refl;
+      unclosed = refl;
+      few = omega arith;
+      goes = (a.next, free, a.rest);
+    })
+line_ends t (steps.Ask request ∷ ss) more m given s c w (before, early, rest, h, is, a) =
+    let b = h.serves s in
+    let g : GetsAtMost before a.next t request (answers_to t a.now) =
+    asks_at_most before a.next a.moment t request a.outcome a.now b.lawful b.within (h.gets.connected ∙ c) a.step in
+    ends_after (owing t a.next + wanted ss) (owing t m + wanted (steps.Ask request ∷ ss)) (answers_to t a.now) h g.unclosed
+    (let x = h.gets.count in let y = g.count in omega arith) (is ∙ ap (λ (xs : List Answer). early ++ xs) a.given_is)
+    (line_ends t ss more a.next a.later (serves_next a b) g.connected w a.rest)
+line_ends t (steps.End ∷ ss) more m given s c w (before, early, rest, h, is, a) =
+    let b = h.serves s in
+    let g : GetsWhatWaits before a.next t (answers_to t a.now) = (own_gives a b).0 in
+    ends_after (owing t a.next + wanted ss) (owing t m + wanted ss) (answers_to t a.now) h g.unclosed
+    (let x = h.gets.count in let y = g.count in omega arith) (is ∙ ap (λ (xs : List Answer). early ++ xs) a.given_is)
+    (line_ends t ss more a.next a.later (serves_next a b) (g.connected ∙ h.gets.connected ∙ c) w a.rest)
+line_ends t (x ∷ ss) more m given s c w a = absurd (both_ways false refl w)
 
--- A client connects, and gets no answer before that or from it.
-pub record Connects (t : ℕ) (more : List Step) (given : List Answer) (last : Machine) : Type 0 where
-  pub first : Machine
-  pub history : List Entry
-  pub rest : List GivenAnswer
-  pub serves : Serves t first
-  pub connected : is_connected_at t first ≡ true
-  pub owes : owing t first ≡ 0
-  pub runs : Run first history rest last
-  pub steps_are : steps_at t history ≡ more
-  pub answers_are : given ≡ answers_to t rest
+-- a connection from its beginning
+pub whole_line : (t : ℕ) (ss more : List Step) (given : List Answer) → list_all is_within ss ≡ true
+    → GoesOn t (steps.Connect ∷ (ss ++ steps.Close ∷ more)) given → LineEnds t (wanted ss) more given
+whole_line t ss more given w (m, f, (before, early, rest, h, is, a)) =
+    let b = h.serves f.serves in
+    let g = own_gives a b (h.gets.connected ∙ f.free) in
+    ends_after (owing t a.next + wanted ss) (wanted ss) (answers_to t a.now) h (rw g.0 refl)
+    (let x = h.gets.count in let y = f.owes in let z = ap length g.0 in let u = g.1 in omega arith)
+    (is ∙ ap (λ (xs : List Answer). early ++ xs) a.given_is) (line_ends t ss more a.next a.later (serves_next a b) g.2 w a.rest)
 
--- nothing comes before the rest
-nothing_first : (now rest all : List Answer) → all ≡ now ++ rest → now ≡ [] → all ≡ rest
-nothing_first now rest all is none = is ∙ ap (λ (xs : List Answer). xs ++ rest) none
-
-pub connects : (t : ℕ) (m last : Machine) (history : List Entry) (given : List GivenAnswer) (more : List Step)
-    → Serves t m → is_connected_at t m ≡ false → owing t m ≡ 0 → Run m history given last → steps_at t history ≡ steps.Connect ∷ more
-    → Connects t more (answers_to t given) last
-connects t m last [] given more s free none r is = absurd cc
-connects t m last (e ∷ history) given more s free none r is =
-    let o = one_entry t m last e history given s r in
-    let now = answers_to t o.now in
-    let rest = answers_to t o.rest in
-    elim o.whose [
-      | inl h ↦
-          let both = heads e.what steps.Connect (steps_at t history) more (sym h.0 ∙ is) in
-          let step = own_entry o steps.Connect both.0 h.1 in
-          let g = step_gives_client m o.next e.moment t steps.Connect o.outcome o.now s.lawful s.within step free in
-          let quiet = nothing_first now rest (answers_to t given) o.all g.0 in
-          record {
-            first = o.next;
-            history = history;
-            rest = o.rest;
-            serves = o.serves;
-            connected = g.2;
-            owes = g.1;
-            runs = o.runs;
-            steps_are = both.1;
-            answers_are = quiet;
-          }
-      | inr h ↦
-          let quiet : (now ≡ []) × (owing t o.next ≡ 0) = grind (arith, common_steps) in
-          grind (arith, connects t o.next last history o.rest more o.serves (h.1.connected ∙ free) quiet.1 o.runs (sym h.0 ∙ is))
-    ]
-
--- the steps only report that no more come
-abbrev pub are_gone : List Step → Bool
-are_gone [] = true
-are_gone (step ∷ taken) = is_gone step && are_gone taken
-
--- No answer comes after the last connection.
-pub nothing_behind : (t : ℕ) (m last : Machine) (history : List Entry) (given : List GivenAnswer)
-    → Serves t m → owing t m ≡ 0 → Run m history given last → are_gone (steps_at t history) ≡ true → answers_to t given ≡ []
-nothing_behind t m last [] given s none r gone = ap (answers_to t) ((run_of_none m last given r).0)
-nothing_behind t m last (e ∷ history) given s none r gone =
-    let o = one_entry t m last e history given s r in
-    let finish : GetsWhatWaits m o.next t (answers_to t o.now) → are_gone (steps_at t history) ≡ true → answers_to t given ≡ [] = λ g gone'.
-    grind (arith, common_steps, nothing_behind t o.next last history o.rest o.serves) in
-    elim o.whose [
-      | inl h ↦
-          let parts = and_parts (is_gone e.what) (are_gone (steps_at t history)) (ap are_gone (sym h.0) ∙ gone) in
-          finish (gone_gives e.what o.outcome o.now o.next h.1 parts.0) parts.1
-      | inr h ↦ finish h.1 (ap are_gone (sym h.0) ∙ gone)
-    ]
-  where
-    gone_gives : (what : Step) (outcome : Outcome) (now : List GivenAnswer) (next : Machine)
-        → IsStep m e.moment t what outcome now next → is_gone what ≡ true → GetsWhatWaits m next t (answers_to t now)
-    gone_gives steps.Gone outcome now next step h = step_gives_client m next e.moment t steps.Gone outcome now s.lawful s.within step
-    gone_gives what outcome now next step h = absurd (both_ways false refl h)
-
--- The answers, connection by connection: each part is at most this long, and ends with `Closed`.
--- What comes after the last part has this property.
-abbrev pub ArePartsBefore : (List Answer → Type 0) → List ℕ → List Answer → Type 0
-ArePartsBefore P [] given = P given
-ArePartsBefore P (most ∷ mosts) given =
-    (part later : List Answer) × (has_closed part ≡ false) × (length part ≤ most) × (given ≡ part ++ answers.Closed ∷ later)
-    × ArePartsBefore P mosts later
-
--- nothing comes after the last part
-abbrev pub AreParts : List ℕ → List Answer → Type 0
-AreParts mosts given = ArePartsBefore (λ later. later ≡ []) mosts given
-
-abbrev pub most_of_lines : (size : ℕ) (lines : List LineOver) (own : List Step) (taken : List Answer)
-    → AreLinesServed size lines own taken → List ℕ
-most_of_lines size [] own taken h = []
-most_of_lines size (line ∷ lines) own taken h = answered_count h.4.line_owed.steps.asked ∷ most_of_lines size lines h.1 h.3 h.7
+-- No answer comes after the last connection, if the steps only report that no more come.
+pub nothing_behind : (t : ℕ) (ss : List Step) (m : Machine) (given : List Answer) → Serves t m → owing t m ≡ 0 → list_all is_gone ss ≡ true
+    → Along t ss m given → given ≡ []
+nothing_behind t [] m given s none gone (before, early, rest, h, is, a) = grind (arith, common_steps)
+nothing_behind t (steps.Gone ∷ ss) m given s none gone (before, early, rest, h, is, a) =
+    let g : GetsWhatWaits before a.next t (answers_to t a.now) = own_gives a (h.serves s) in
+    grind (arith, common_steps, nothing_behind t ss a.next a.later (serves_next a (h.serves s)))
+nothing_behind t (x ∷ ss) m given s none gone a = absurd (both_ways false refl gone)
 
 pub wanted_append : (xs ys : List Step) → wanted (xs ++ ys) ≡ wanted xs + wanted ys
 wanted_append [] ys = omega arith
@@ -253,43 +212,12 @@ wanted_append (steps.Ask r ∷ xs) ys = omega (arith, wanted_append xs ys)
 wanted_append (step ∷ xs) ys = wanted_append xs ys
 
 -- the requests of an open connection: they are within the connection, and want this many answers
-within_asked : (asked : List Request) (told : List Step) → are_within told ≡ true → are_within (map steps.Ask asked ++ told) ≡ true
+pub within_asked : (asked : List Request) (told : List Step) → list_all is_within told ≡ true
+    → list_all is_within (map steps.Ask asked ++ told) ≡ true
 within_asked [] told h = h
 within_asked (r ∷ asked) told h = within_asked asked told h
 
-told_wants : (seen : LineHeard) (asked : List Request) (told : List Step) → MayTellEnd seen asked told → wanted told ≡ 0
-told_wants seen asked told h = grind (arith, common_steps, cases_Bool)
-
-line_wants : (seen : LineHeard) (asked : List Request) (told : List Step) → MayTellEnd seen asked told
+pub line_wants : (seen : LineHeard) (asked : List Request) (told : List Step) → MayTellEnd seen asked told
     → wanted (map steps.Ask asked ++ told) ≡ answered_count asked
-line_wants seen asked told e = omega (arith, wanted_append (map steps.Ask asked) told, told_wants seen asked told e)
-
--- What the run gives after the connections of a seat: no client is connected then, none waits, and
--- these are the steps that follow.
-abbrev pub GivesAfter : (List Answer → Type 0) → ℕ → List Step → Machine → Type 0
-GivesAfter P t tail last = (m : Machine) (history : List Entry) (given : List GivenAnswer) → Serves t m → owing t m ≡ 0
-    → Run m history given last → steps_at t history ≡ tail → P (answers_to t given)
-
--- nothing, if the steps only report that no more come
-pub gives_nothing : (t : ℕ) (tail : List Step) (last : Machine) → are_gone tail ≡ true → GivesAfter (λ later. later ≡ []) t tail last
-gives_nothing t tail last gone m history given s none r is = nothing_behind t m last history given s none r (ap are_gone is ∙ gone)
-
-pub gives_parts : (P : List Answer → Type 0) (t : ℕ) (size : ℕ) (lines : List LineOver) (own : List Step) (taken : List Answer)
-    (h : AreLinesServed size lines own taken)
-    → (m last : Machine) (history : List Entry) (given : List GivenAnswer) → Serves t m → is_connected_at t m ≡ false → owing t m ≡ 0
-    → (tail : List Step) → GivesAfter P t tail last → Run m history given last → steps_at t history ≡ own ++ tail
-    → ArePartsBefore P (most_of_lines size lines own taken h) (answers_to t given)
-gives_parts P t size [] own taken h m last history given s free none tail after r is = grind arith
-gives_parts P t size (line ∷ lines) own taken h m last history given s free none tail after r is =
-    let l = h.4.line_owed.steps in
-    let ss = map steps.Ask l.asked ++ l.end_steps in
-    let more = h.1 ++ tail in
-    let whole : own ++ tail ≡ steps.Connect ∷ (ss ++ steps.Close ∷ more) = grind (arith, common_steps) in
-    let c = connects t m last history given (ss ++ steps.Close ∷ more) s free none r (is ∙ whole) in
-    let e = line_ends t c.first last c.history c.rest ss more c.serves c.connected
-    (grind (arith, common_steps, cases_Bool, within_asked)) c.runs c.steps_are in
-    let g = e.goes in
-    let later =
-    gives_parts P t size lines h.1 h.3 h.7 g.first last g.history g.given g.serves g.free g.owes tail after g.runs g.steps_are in
-    let w = line_wants (heard line.seen) l.asked l.end_steps l.ends in
-    grind arith
+line_wants seen asked told e =
+    let none : wanted told ≡ 0 = grind (arith, common_steps, cases_Bool) in omega (arith, wanted_append (map steps.Ask asked) told)

@@ -1,24 +1,17 @@
 -- The headline as a whole, from a history and the laws of runs.
-use Rattle.std.proofs.{Common.{Bool, List, Option, ℕ, arith, rules}, lemmas.Grind.common_steps}
+use Rattle.std.proofs.{Common.{Bool, List, Option, ℕ, arith, rules, ◌++◌, ◌∷◌, ◌≡◌}, lemmas.Grind.common_steps}
 use Rattle.bq_job.specs.laws.{AreJobsServed, AreJobsServedIn, HeadlineHolds, LineHeadlineHolds, happenings, parts_of_run}
 use Rattle.bq_job.specs.promise.{Entry, GoesBy, IsHistoryOf, IsHistoryOfLine, IsRun, LineOver, Transition}
 use Rattle.bq_job.specs.machine.{GivenAnswer, Machine.Machine, Settings, new_machine}
 use Rattle.bq_job.proofs.AnswerPlaces.{none_after_drain, none_after_last_id, run_deletes, run_gives_least}
-use Rattle.bq_job.proofs.{KeptJobLemmas.{accepted_is_kept, held_by_one_always}, RunLawLemmas.{at_most_once, in_order}}
+use Rattle.bq_job.proofs.{KeptJobLemmas.{accepted_is_kept, held_by_one_always}, OrderLemmas.{at_most_once, in_order}}
 
 jobs_served : (settings : Settings) (taken : List Transition) (last : Machine) → GoesBy (new_machine settings) taken last
     → AreJobsServed taken (happenings (parts_of_run taken))
 jobs_served settings taken last goes =
-    record {
-      least = search run_gives_least;
-      once = search at_most_once;
-      in_order = search in_order;
-      kept = search accepted_is_kept;
-      held = search held_by_one_always;
-      deleted = search run_deletes;
-      drained = grind (arith, none_after_drain);
-      last_id_given = search none_after_last_id;
-    }
+    let drained = λ (early more : List Transition) (t : Transition) (split : taken ≡ early ++ t ∷ more).
+    none_after_drain (new_machine settings) early t more last (rw split at goes) in
+    search (run_gives_least, at_most_once, in_order, accepted_is_kept, held_by_one_always, run_deletes, none_after_last_id)
 
 pub jobs_served_in : (settings : Settings) (readings : List (Option ℕ)) (history : List Entry) (given : List GivenAnswer) (last : Machine)
     → (run : IsRun settings readings history given last) → AreJobsServedIn run

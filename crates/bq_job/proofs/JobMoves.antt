@@ -1,7 +1,8 @@
 -- What a part of a step may do to jobs, as moves: a quiet one, a put, and a job that dispatch hands out.
-use Rattle.std.proofs.Common.{ℕ, suc, ◌≡◌, ◌<◌, Bool, true, false, cond, List, [], ◌∷◌, ◌++◌, map, subst, Option, Some, None}
+use Rattle.std.proofs.Common.{ℕ, suc, ◌≡◌, ◌<◌, Bool, true, false, cond, List, [], ◌∷◌, ◌++◌, map, Option, Some, None}
+use Rattle.std.proofs.Common.{append-nil, append_assoc}
 use Rattle.std.specs.{List.{AllByRecursion as All, Contains, list_any}, Prelude.◌==◌}
-use Rattle.bq_job.specs.{beside.AreIdsWithin, declared.job.Job.Job, laws.{Happening, Part, disturbs, handed_out}}
+use Rattle.bq_job.specs.{beside.AreIdsWithin, declared.job.Job.Job, laws.{Happening, disturbs, handed_out}}
 use Rattle.bq_job.specs.{laws.{is_deletion, put}, machine.{is_job_before, is_ready, is_reserved, job_with}}
 use Rattle.bq_job.specs.machine.{reserved_by, Machine.Machine}
 
@@ -55,11 +56,14 @@ pub data Move (m : Machine) (happened : List Happening) (n : Machine) : Type 0 w
   putting : IsPutMove m happened n → Move m happened n
   handing : IsHandOutMove m happened n → Move m happened n
 
--- one move after another
-abbrev pub Moves : Machine → List Part → Machine → Type 0
-Moves m [] n = n ≡ m
-Moves m (p ∷ parts) n = Move m p.happened p.machine × Moves p.machine parts n
+-- The model goes on by moves, in which this happens to jobs.
+pub data Goes : Machine → List Happening → Machine → Type 0 where
+  stops : {m : Machine} → Goes m [] m
+  moves : {m n : Machine} (k : Machine) (xs ys : List Happening) → Move m xs k → Goes k ys n → Goes m (xs ++ ys) n
 
-pub moves_append : (m k n : Machine) (parts more : List Part) → Moves m parts k → Moves k more n → Moves m (parts ++ more) n
-moves_append m k n [] more h i = subst (λ l. Moves l more n) h i
-moves_append m k n (p ∷ parts) more h i = (h.0, moves_append p.machine k n parts more h.1 i)
+pub goes_one : (m : Machine) (happened : List Happening) (n : Machine) → Move m happened n → Goes m happened n
+goes_one m happened n move = rw append-nil at (moves n happened [] move stops)
+
+pub goes_then : (m k n : Machine) (xs ys : List Happening) → Goes m xs k → Goes k ys n → Goes m (xs ++ ys) n
+goes_then m k n [] ys stops g = g
+goes_then m k n _ ys (moves l us vs move rest) g = rw append_assoc (moves l us (vs ++ ys) move (goes_then l k n vs ys rest g))

@@ -52,29 +52,11 @@ pub ids_of_push : (low next : ℕ) (jobs : List Job) (j : Job) → j.id ≡ next
 ids_of_push low next [] j e h = (omega arith, omega arith)
 ids_of_push low next (k ∷ jobs) j e h = (h.0, ids_of_push (suc k.id) next jobs j e h.1)
 
--- Jobs change, each keeps its id, and every holder is connected.
-pub kept_of_jobs : {places next : ℕ} {jobs : List Job} {seats : List SeatRecord} {draining : Bool} (f : Job → Job)
-    → Kept places jobs seats next draining → ((j : Job) → (f j).id ≡ j.id)
-    → ((j : Job) → has_holder seats j ≡ true → has_holder seats (f j) ≡ true) → Kept places (map f jobs) seats next draining
-kept_of_jobs {next = next} {jobs = jobs} {seats = seats} f h same held = search (ids_of_map, all_of_map, all_weaker)
-
--- the same if the job of one id changes
-pub kept_of_job : {places next : ℕ} {jobs : List Job} {seats : List SeatRecord} {draining : Bool} (id : ℕ) (f : Job → Job)
-    → Kept places jobs seats next draining → ((j : Job) → (f j).id ≡ j.id) → ((j : Job) → has_holder seats (f j) ≡ true)
-    → Kept places (map (λ j. cond (j.id == id) (f j) j) jobs) seats next draining
-kept_of_job {seats = seats} id f h same held =
-    kept_of_jobs (λ j. cond (j.id == id) (f j) j) h
-    (λ j. cond_both (j.id == id) (f j) j (λ k. k.id ≡ j.id) (λ e. same j) (λ e. refl))
-    (λ j i. cond_both (j.id == id) (f j) j (λ k. has_holder seats k ≡ true) (λ e. held j) (λ e. i))
-
 -- what a change of a seat may do
 pub record IsMild (s t : SeatRecord) : Type 0 where
   pub number : t.number ≡ s.number
   pub stays : s.connected ≡ true → t.connected ≡ true
   pub waits : is_open_wait s ≡ true → is_open_wait t ≡ true
-
-pub mild_itself : (s : SeatRecord) → IsMild s s
-mild_itself s = record { number = refl; stays = λ h. h; waits = λ h. h }
 
 -- A change of seats after which each holder is still connected.
 held_through : (f : SeatRecord → SeatRecord) (seats : List SeatRecord) (j : Job)
@@ -86,30 +68,57 @@ held_through f seats j stays h =
       | inr e ↦ or_right (not (is_reserved j.state)) _ (list_any_of_map _ _ f seats stays e)
     ]
 
-still_held : (f : SeatRecord → SeatRecord) (seats : List SeatRecord) (j : Job) → All (λ s. IsMild s (f s)) seats → has_holder seats j ≡ true
-    → has_holder (map f seats) j ≡ true
-still_held f seats j mild = grind (arith, held_through, all_weaker)
+-- a job when the client at this seat disconnects
+held_elsewhere : (seat : ℕ) (seats : List SeatRecord) (j : Job) → is_held_by seat j ≡ false → has_holder seats j ≡ true
+    → has_holder (map (λ s. cond (s.number == seat) (empty_seat s.number) s) seats) j ≡ true
+held_elsewhere seat seats j e = grind (arith, held_through, all_always)
 
--- Seats change mildly.
-pub kept_of_seats : {places next : ℕ} {jobs : List Job} {seats : List SeatRecord} {draining : Bool} (f : SeatRecord → SeatRecord)
-    → Kept places jobs seats next draining → All (λ s. IsMild s (f s)) seats → Kept places jobs (map f seats) next draining
-kept_of_seats {jobs = jobs} {seats = seats} f h mild = record {
-  ids = h.ids;
-  accepts = h.accepts;
-  fits = h.fits;
-  holders = all_weaker _ _ jobs (λ j. still_held f seats j mild) h.holders;
-  seated = keys_of_map (λ s. s.number) f seats (all_weaker _ _ seats (λ s c. c.number) mild) ∙ h.seated;
-  waits = all_of_map _ f seats (all_weaker _ _ seats (λ s c. c.0.waits c.1) (all_both _ _ seats mild h.waits));
-}
+-- what keeps the invariant
+module _ {places next : ℕ} {jobs : List Job} {seats : List SeatRecord} {draining : Bool} (h : Kept places jobs seats next draining) where
+  -- Jobs change, each keeps its id, and every holder is connected.
+  pub kept_of_jobs : (f : Job → Job) → ((j : Job) → (f j).id ≡ j.id)
+      → ((j : Job) → has_holder seats j ≡ true → has_holder seats (f j) ≡ true) → Kept places (map f jobs) seats next draining
+  kept_of_jobs f same held = search (ids_of_map, all_of_map, all_weaker)
 
--- the same if the seat of one number changes
-pub kept_of_seat : {places next : ℕ} {jobs : List Job} {seats : List SeatRecord} {draining : Bool} (number : ℕ)
-    (f : SeatRecord → SeatRecord) → Kept places jobs seats next draining → All (λ s. s.number ≡ number → IsMild s (f s)) seats
-    → Kept places jobs (map (λ s. cond (s.number == number) (f s) s) seats) next draining
-kept_of_seat {seats = seats} number f h mild =
-    kept_of_seats (λ s. cond (s.number == number) (f s) s) h
-    (all_weaker _ _ seats (λ s c. cond_both (s.number == number) (f s) s (IsMild s) (λ e. c (eqb-true s.number number e))
-    (λ e. mild_itself s)) mild)
+  -- The job of one id changes.
+  pub kept_of_job : (id : ℕ) (f : Job → Job) → ((j : Job) → (f j).id ≡ j.id) → ((j : Job) → has_holder seats (f j) ≡ true)
+      → Kept places (map (λ j. cond (j.id == id) (f j) j) jobs) seats next draining
+  kept_of_job id f same held =
+      kept_of_jobs (λ j. cond (j.id == id) (f j) j) (λ j. cond_both (j.id == id) (f j) j (λ k. k.id ≡ j.id) (λ e. same j) (λ e. refl))
+      (λ j i. cond_both (j.id == id) (f j) j (λ k. has_holder seats k ≡ true) (λ e. held j) (λ e. i))
+
+  -- Jobs are removed.
+  pub kept_of_filter : (p : Job → Bool) → Kept places (filter p jobs) seats next draining
+  kept_of_filter p = grind (arith, ids_of_filter, all_weaker, all_of_filter)
+
+  -- Seats change mildly.
+  pub kept_of_seats : (f : SeatRecord → SeatRecord) → All (λ s. IsMild s (f s)) seats → Kept places jobs (map f seats) next draining
+  kept_of_seats f mild = record {
+    ids = h.ids;
+    accepts = h.accepts;
+    fits = h.fits;
+    holders = all_weaker _ _ jobs (λ j. held_through f seats j (grind (arith, all_weaker, mild))) h.holders;
+    seated = keys_of_map (λ s. s.number) f seats (all_weaker _ _ seats (λ s c. c.number) mild) ∙ h.seated;
+    waits = all_of_map _ f seats (all_weaker _ _ seats (λ s c. c.0.waits c.1) (all_both _ _ seats mild h.waits));
+  }
+
+  -- The seat of one number changes.
+  pub kept_of_seat : (number : ℕ) (f : SeatRecord → SeatRecord) → All (λ s. s.number ≡ number → IsMild s (f s)) seats
+      → Kept places jobs (map (λ s. cond (s.number == number) (f s) s) seats) next draining
+  kept_of_seat number f mild =
+      kept_of_seats (λ s. cond (s.number == number) (f s) s) (all_weaker _ _ seats
+      (λ s c. cond_both (s.number == number) (f s) s (IsMild s) (λ e. c (eqb-true s.number number e))
+      (λ e. record { number = refl; stays = λ c. c; waits = λ w. w })) mild)
+
+  -- A client disconnects: no client holds its jobs, and its seat is empty.
+  pub kept_of_close : (state : JobState) (seat : ℕ) → is_reserved state ≡ false
+      → Kept places (map (given_back state seat) jobs) (map (λ s. cond (s.number == seat) (empty_seat s.number) s) seats) next draining
+  kept_of_close state seat free = grind
+      (arith, common_steps, ids_of_map, cond_both, all_of_map, all_weaker, held_elsewhere, keys_of_map, all_always)
+
+  -- Draining begins.
+  pub kept_of_drain : Kept places jobs seats next true
+  kept_of_drain = record { ids = h.ids; accepts = λ e. absurd cc; fits = h.fits; holders = h.holders; seated = h.seated; waits = h.waits }
 
 -- the numbers from `low` on are at least `low`
 pub numbers_above : (low n : ℕ) (seats : List SeatRecord) → map (λ s. s.number) seats ≡ numbers low n → All (λ s. low ≤ s.number) seats
@@ -134,28 +143,3 @@ only_seat low (suc n) number (t ∷ seats) s e f =
           )
       | inr b ↦ (λ i. absurd (eqb-false t.number number b i), only_seat (suc low) n number seats s rest (rw b at f))
     ]
-
--- a seat and a job when the client at this seat disconnects
-abbrev emptied : ℕ → SeatRecord → SeatRecord
-emptied seat s = cond (s.number == seat) (empty_seat s.number) s
-
-held_elsewhere : (seat : ℕ) (seats : List SeatRecord) (j : Job) → is_held_by seat j ≡ false → has_holder seats j ≡ true
-    → has_holder (map (emptied seat) seats) j ≡ true
-held_elsewhere seat seats j e = grind (arith, held_through, all_always)
-
--- A client disconnects: no client holds its jobs, and its seat is empty.
-pub kept_of_close : {places next : ℕ} {jobs : List Job} {seats : List SeatRecord} {draining : Bool} (state : JobState) (seat : ℕ)
-    → is_reserved state ≡ false → Kept places jobs seats next draining
-    → Kept places (map (given_back state seat) jobs) (map (λ s. cond (s.number == seat) (empty_seat s.number) s) seats) next draining
-kept_of_close {next = next} {jobs = jobs} {seats = seats} state seat free h = grind
-    (arith, common_steps, ids_of_map, cond_both, all_of_map, all_weaker, held_elsewhere, keys_of_map, all_always)
-
--- Jobs are removed.
-pub kept_of_filter : {places next : ℕ} {jobs : List Job} {seats : List SeatRecord} {draining : Bool} (p : Job → Bool)
-    → Kept places jobs seats next draining → Kept places (filter p jobs) seats next draining
-kept_of_filter {next = next} {jobs = jobs} {seats = seats} p h = grind (arith, ids_of_filter, all_weaker, all_of_filter)
-
--- Draining begins.
-pub kept_of_drain : {places next : ℕ} {jobs : List Job} {seats : List SeatRecord} {draining : Bool} → Kept places jobs seats next draining
-    → Kept places jobs seats next true
-kept_of_drain h = record { ids = h.ids; accepts = λ e. absurd cc; fits = h.fits; holders = h.holders; seated = h.seated; waits = h.waits }

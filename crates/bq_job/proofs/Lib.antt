@@ -23,7 +23,6 @@ pub mod ListLemmas
 pub mod LookupLemmas
 pub mod NameOrderLemmas
 pub mod NameWords
-pub mod NextDueLemmas
 pub mod OneClientLemmas
 pub mod ClientStepLemmas
 pub mod OpenRunLemmas
@@ -33,13 +32,10 @@ pub mod OwnAnswerLemmas
 pub mod QuietLemmas
 pub mod ReadsLemmas
 pub mod RecordLemmas
-pub mod RefusalLemmas
 pub mod ReplyLemmas
 pub mod ReplayLemmas
-pub mod RunLawLemmas
 pub mod RunLemmas
 pub mod SendLemmas
-pub mod SpentLemmas
 pub mod StepMoves
 pub mod UnitLemmas
 pub mod UnitsLemmas

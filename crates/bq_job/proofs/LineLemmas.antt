@@ -23,13 +23,9 @@ first_line_is [] l e = cc
 first_line_is (a ∷ []) l e = cc
 first_line_is (a ∷ b ∷ bytes) l e =
     elim (first_line_cases (are_line_end a b) a bytes (first_line (b ∷ bytes)) l e) [
-      | inl h ↦ line_here a b bytes l h.0 h.1
+      | inl h ↦ rw (← h.1) (let end = h.0 in grind (arith, nat_tests))
       | inr h ↦ rw (← h.3) (ap (λ bs. a ∷ bs) (first_line_is (b ∷ bytes) h.0 h.2))
     ]
-  where
-    line_here : (a b : ℕ) (bytes : List ℕ) (l : List ℕ × List ℕ) → are_line_end a b ≡ true → ([], bytes) ≡ l
-        → (a ∷ b ∷ bytes) ≡ l.0 ++ 13 ∷ 10 ∷ l.1
-    line_here a b bytes l t e = rw (← e) (grind (arith, nat_tests))
 
 -- a byte in front of a command line and its rest
 first_line-onto : (a b : ℕ) (bytes after other line : List ℕ) → are_line_end a b ≡ false → b ∷ bytes ≡ line ++ 13 ∷ 10 ∷ after

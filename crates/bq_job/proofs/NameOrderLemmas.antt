@@ -2,12 +2,13 @@
 use Rattle.std.proofs.Common.{◌++◌, ◌||◌, ◌∙◌, ◌∷◌, ◌≡◌, Bool, List, [], ℕ, ap}
 use Rattle.std.proofs.Common.{append-nil, append_assoc, arith, false, map, refl, rules, sym, true}
 use Rattle.std.proofs.lemmas.{Bool.{and_parts, cases_Bool}, Cmp.nat_list_cmp_total, Grind.common_steps}
+use Rattle.std.proofs.lemmas.List.Elements.{Contains-append_right}
 use Rattle.std.proofs.{lemmas.Map.Lookups.exact_bytes, Math.Bool.or-false}
 use Rattle.std.specs.{Cmp.Lexicographic.slice_cmp, List.{AllByRecursion as All, list_any}, Prelude.{flat_map, fold}}
 use Rattle.std.specs.{declared.cmp.Ordering.{Ordering, TheVariants.Less}, Ordering.{is_lt, nat_cmp, ordering_reverse}}
 use Rattle.bq_job.specs.machine.{Machine.Machine, SeatRecord, is_name_before, is_seated_at, is_tube, seated_tubes, tubes}
 use Rattle.bq_job.specs.{beside.is_in_order, declared.job.Job.Job, machine.with_name, reading.TubeName.is_same_name}
-use Rattle.bq_job.proofs.ListLemmas.{all_weaker}
+use Rattle.bq_job.proofs.ListLemmas.{all_at, all_weaker, contains_head}
 
 is_Less : (r : Ordering) → is_lt r ≡ true → r ≡ Less
 is_Less r e = grind (arith, common_steps, cases_Bool)
@@ -35,18 +36,13 @@ in_order_behind : (p n : List ℕ) (names : List (List ℕ)) → is_name_before 
 in_order_behind p n [] b h = rw b refl
 in_order_behind p n (o ∷ names) b h = grind (arith, common_steps, and_parts, after, in_order_behind o n names)
 
-in_order_with : (n : List ℕ) (names : List (List ℕ)) → is_in_order names ≡ true → is_in_order (with_name names n) ≡ true
+pub in_order_with : (n : List ℕ) (names : List (List ℕ)) → is_in_order names ≡ true → is_in_order (with_name names n) ≡ true
 in_order_with n [] h = refl
 in_order_with n (o ∷ names) h = grind (arith, common_steps, in_order_behind, after)
 
 pub in_order_fold : (names so_far : List (List ℕ)) → is_in_order so_far ≡ true → is_in_order (fold with_name so_far names) ≡ true
 in_order_fold [] so_far h = h
 in_order_fold (n ∷ names) so_far h = in_order_fold names (with_name so_far n) (in_order_with n so_far h)
-
--- the first of names in order comes before each later one
-first_before : (o n : List ℕ) (names more : List (List ℕ)) → is_in_order (o ∷ (names ++ n ∷ more)) ≡ true → is_name_before o n ≡ true
-first_before o n [] more h = (and_parts _ _ h).0
-first_before o n (x ∷ names) more h = let k = and_parts _ _ h in before_trans o x n k.0 (first_before x n names more k.1)
 
 pub rest_in_order : (o : List ℕ) (names : List (List ℕ)) → is_in_order (o ∷ names) ≡ true → is_in_order names ≡ true
 rest_in_order o names h = grind (arith, common_steps, cases_Bool, and_parts)
@@ -55,6 +51,11 @@ rest_in_order o names h = grind (arith, common_steps, cases_Bool, and_parts)
 pub first_of_order : (o : List ℕ) (names : List (List ℕ)) → is_in_order (o ∷ names) ≡ true → All (λ n. is_name_before o n ≡ true) names
 first_of_order o [] h = tt
 first_of_order o (x ∷ names) h = grind (arith, and_parts, all_weaker, before_trans, first_of_order x names)
+
+-- the first of names in order comes before each later one
+first_before : (o n : List ℕ) (names more : List (List ℕ)) → is_in_order (o ∷ (names ++ n ∷ more)) ≡ true → is_name_before o n ≡ true
+first_before o n names more h =
+    all_at _ _ n (first_of_order o (names ++ n ∷ more) h) (Contains-append_right names (n ∷ more) n (contains_head n more))
 
 pub in_order_from : (o : List ℕ) (names : List (List ℕ)) → All (λ n. is_name_before o n ≡ true) names → is_in_order names ≡ true
     → is_in_order (o ∷ names) ≡ true

@@ -2,7 +2,7 @@
 use Rattle.std.proofs.Common.{◌++◌, ◌+◌, ◌*◌, ◌-◌, ◌<◌, ◌≤◌, ◌∙◌, ◌∷◌, ◌≡◌, List, [], ℕ}
 use Rattle.std.proofs.Common.{drop, get_or, zero, suc, ap, arith, length, refl, replicate, sym, take, true}
 use Rattle.std.proofs.lemmas.Grind.{common_steps}
-use Rattle.std.proofs.lemmas.{Bool.{and_parts, cases_Bool, cases_order, Decides.nat_tests}, List.take-replicate, Nat.mul-le}
+use Rattle.std.proofs.lemmas.{Bool.{and_parts, cases_order, Decides.nat_tests}, List.take-replicate, Nat.mul-le}
 use Rattle.std.proofs.Math.Seq.{take-append-add}
 use Rattle.std.specs.Cmp.Lexicographic.{slice_cmp}
 use Rattle.std.specs.Int.{from_be_bytes, w64}
@@ -24,19 +24,33 @@ one_more_times a b p h = grind (arith, common_steps, mul-le)
 digit : (p a b x y : ℕ) → x < p → y < p → nat_cmp (a * p + x) (b * p + y) ≡ ordering_then (nat_cmp a b) (nat_cmp x y)
 digit p a b x y small others = grind (arith, common_steps, cases_order, less_is, one_more_times, more_is)
 
--- eight digits, one after another
-abbrev worth_of : ℕ → ℕ → ℕ → ℕ → ℕ → ℕ → ℕ → ℕ → ℕ
-worth_of a b c d e f g h =
-    a * 72057594037927936 + (b * 281474976710656 + (c * 1099511627776 + (d * 4294967296 + (e * 16777216 + (f * 65536 + (g * 256 + h))))))
+-- bytes as the digits of one number, and the first number that `n` bytes cannot write
+abbrev weight : ℕ → ℕ
+weight zero = 1
+weight (suc n) = 256 * weight n
 
-word_is : (a b c d e f g h : ℕ) → from_be_bytes w64 (a ∷ b ∷ c ∷ d ∷ e ∷ f ∷ g ∷ h ∷ []) ≡ worth_of a b c d e f g h
-word_is a b c d e f g h = omega arith
+abbrev worth : List ℕ → ℕ
+worth [] = 0
+worth (x ∷ xs) = x * weight (length xs) + worth xs
 
-digits : (a b c d e f g h i j k l m n o p : ℕ) → a < 256 → b < 256 → c < 256 → d < 256 → e < 256 → f < 256 → g < 256 → h < 256 → i < 256
-    → j < 256 → k < 256 → l < 256 → m < 256 → n < 256 → o < 256 → p < 256
-    → nat_cmp (worth_of a b c d e f g h) (worth_of i j k l m n o p) ≡ slice_cmp nat_cmp (a ∷ b ∷ c ∷ d ∷ e ∷ f ∷ g ∷ h ∷ [])
-    (i ∷ j ∷ k ∷ l ∷ m ∷ n ∷ o ∷ p ∷ [])
-digits a b c d e f g h i j k l m n o p sa sb sc sd se sf sg sh si sj sk sl sm sn so sp = grind (arith, common_steps, cases_Bool, digit)
+abbrev AreBytes : List ℕ → Type 0
+AreBytes xs = (i : ℕ) → get_or xs i 0 < 256
+
+worth_fits : (xs : List ℕ) → AreBytes xs → worth xs < weight (length xs)
+worth_fits [] small = omega arith
+worth_fits (x ∷ xs) small =
+    omega (arith, worth_fits xs (λ i. small (suc i)), one_more_times x 256 (weight (length xs)) (small 0))
+
+worth_in_order : (xs ys : List ℕ) → length xs ≡ length ys → AreBytes xs → AreBytes ys
+    → nat_cmp (worth xs) (worth ys) ≡ slice_cmp nat_cmp xs ys
+worth_in_order [] [] e small others = refl
+worth_in_order [] (y ∷ ys) e small others = absurd (omega arith)
+worth_in_order (x ∷ xs) [] e small others = absurd (omega arith)
+worth_in_order (x ∷ xs) (y ∷ ys) e small others =
+    let same : length xs ≡ length ys = omega arith in
+    let below : worth ys < weight (length xs) = rw same (worth_fits ys (λ i. others (suc i))) in
+    let first = digit (weight (length xs)) x y (worth xs) (worth ys) (worth_fits xs (λ i. small (suc i))) below in
+    rw (sym same) (first ∙ ap (ordering_then (nat_cmp x y)) (worth_in_order xs ys same (λ i. small (suc i)) (λ i. others (suc i))))
 
 -- two lists that begin with equally many elements
 seam : (xs ys rest others : List ℕ) → length xs ≡ length ys
@@ -45,50 +59,33 @@ seam [] ys rest others e = grind arith
 seam (x ∷ xs) [] rest others e = absurd (omega arith)
 seam (x ∷ xs) (y ∷ ys) rest others e = grind (arith, common_steps, seam xs ys rest others (omega arith))
 
--- the order of two lists: by their first eight bytes as numbers, and if these are equal, by the
--- rest
-by_words : (a b c d e f g h i j k l m n o p : ℕ) (rest others : List ℕ) → a < 256 → b < 256 → c < 256 → d < 256 → e < 256 → f < 256
-    → g < 256 → h < 256 → i < 256 → j < 256 → k < 256 → l < 256 → m < 256 → n < 256 → o < 256 → p < 256
-    → slice_cmp nat_cmp (a ∷ b ∷ c ∷ d ∷ e ∷ f ∷ g ∷ h ∷ rest) (i ∷ j ∷ k ∷ l ∷ m ∷ n ∷ o ∷ p ∷ others)
-    ≡ ordering_then (nat_cmp (from_be_bytes w64 (a ∷ b ∷ c ∷ d ∷ e ∷ f ∷ g ∷ h ∷ []))
-    (from_be_bytes w64 (i ∷ j ∷ k ∷ l ∷ m ∷ n ∷ o ∷ p ∷ []))) (slice_cmp nat_cmp rest others)
-by_words a b c d e f g h i j k l m n o p rest others sa sb sc sd se sf sg sh si sj sk sl sm sn so sp =
-    seam (a ∷ b ∷ c ∷ d ∷ e ∷ f ∷ g ∷ h ∷ []) (i ∷ j ∷ k ∷ l ∷ m ∷ n ∷ o ∷ p ∷ []) rest others refl
-    ∙ ap (λ r. ordering_then r (slice_cmp nat_cmp rest others)) (
-    sym (digits a b c d e f g h i j k l m n o p sa sb sc sd se sf sg sh si sj sk sl sm sn so sp)
-    ∙ ap (λ w. nat_cmp w (worth_of i j k l m n o p)) (sym (word_is a b c d e f g h))
-    ∙ ap (nat_cmp (from_be_bytes w64 (a ∷ b ∷ c ∷ d ∷ e ∷ f ∷ g ∷ h ∷ []))) (sym (word_is i j k l m n o p))
-    )
-
 pub words_same : (w v : ℕ) (o : Ordering) → w ≡ v → ordering_then (nat_cmp w v) o ≡ o
 words_same w v o e = grind arith
 
 -- the first eight bytes of a list, and the rest
-front_8 : (xs : List ℕ) → 8 ≤ length xs → xs ≡ get_or xs 0 0 ∷ get_or xs 1 0 ∷ get_or xs 2 0 ∷ get_or xs 3 0 ∷ get_or xs 4 0 ∷ get_or xs 5 0
-    ∷ get_or xs 6 0 ∷ get_or xs 7 0 ∷ drop 8 xs
-front_8 xs h1 = grind arith
-
 abbrev front_of : List ℕ → List ℕ
 front_of xs = get_or xs 0 0 ∷ get_or xs 1 0 ∷ get_or xs 2 0 ∷ get_or xs 3 0 ∷ get_or xs 4 0 ∷ get_or xs 5 0 ∷ get_or xs 6 0
     ∷ get_or xs 7 0 ∷ []
 
+front_8 : (xs : List ℕ) → 8 ≤ length xs → xs ≡ front_of xs ++ drop 8 xs
+front_8 xs h1 = grind arith
+
 abbrev word_of : List ℕ → ℕ
 word_of xs = from_be_bytes w64 (front_of xs)
 
-module _ (xs ys : List ℕ) (long : 8 ≤ length xs) (other_long : 8 ≤ length ys) (small : (i : ℕ) → get_or (front_of xs) i 0 < 256)
-    (other_small : (i : ℕ) → get_or (front_of ys) i 0 < 256) where
+word_is : (xs : List ℕ) → word_of xs ≡ worth (front_of xs)
+word_is xs = omega arith
+
+-- the order of two lists: by their first eight bytes as numbers, and if these are equal, by the
+-- rest
+module _ (xs ys : List ℕ) (long : 8 ≤ length xs) (other_long : 8 ≤ length ys) (small : AreBytes (front_of xs))
+    (other_small : AreBytes (front_of ys)) where
   split : slice_cmp nat_cmp xs ys ≡ ordering_then (nat_cmp (word_of xs) (word_of ys)) (slice_cmp nat_cmp (drop 8 xs) (drop 8 ys))
   split =
-      ap (λ zs. slice_cmp nat_cmp zs ys) (front_8 xs long)
-      ∙ ap
-      (slice_cmp nat_cmp (get_or xs 0 0 ∷ get_or xs 1 0 ∷ get_or xs 2 0 ∷ get_or xs 3 0 ∷ get_or xs 4 0 ∷ get_or xs 5 0 ∷ get_or xs 6 0
-      ∷ get_or xs 7 0 ∷ drop 8 xs)) (front_8 ys other_long)
-      ∙ by_words (get_or xs 0 0) (get_or xs 1 0) (get_or xs 2 0) (get_or xs 3 0) (get_or xs 4 0) (get_or xs 5 0)
-      (get_or xs 6 0) (get_or xs 7 0)
-      (get_or ys 0 0) (get_or ys 1 0) (get_or ys 2 0) (get_or ys 3 0) (get_or ys 4 0) (get_or ys 5 0) (get_or ys 6 0) (get_or ys 7 0)
-      (drop 8 xs) (drop 8 ys)
-      (small 0) (small 1) (small 2) (small 3) (small 4) (small 5) (small 6) (small 7)
-      (other_small 0) (other_small 1) (other_small 2) (other_small 3) (other_small 4) (other_small 5) (other_small 6) (other_small 7)
+      let fronts = seam (front_of xs) (front_of ys) (drop 8 xs) (drop 8 ys) refl in
+      let order = worth_in_order (front_of xs) (front_of ys) refl small other_small in
+      ap (λ zs. slice_cmp nat_cmp zs ys) (front_8 xs long) ∙ ap (slice_cmp nat_cmp (front_of xs ++ drop 8 xs)) (front_8 ys other_long)
+      ∙ fronts ∙ rw (word_is xs, word_is ys, order) refl
 
   module _ (w v : ℕ) (r : Ordering) (word : w ≡ word_of xs) (other : v ≡ word_of ys) where
     pub words : slice_cmp nat_cmp xs ys ≡ ordering_then (nat_cmp w v) (slice_cmp nat_cmp (drop 8 xs) (drop 8 ys))

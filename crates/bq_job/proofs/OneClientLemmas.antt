@@ -1,19 +1,18 @@
 -- What the parts of a step give to one client: turns of dispatch and ends of waits give it the
 -- answer that it waits for; the command's own effect gives it an answer or makes it wait.
 use Rattle.std.proofs.Common.{ℕ, zero, suc, ◌≡◌, ◌≤◌, ◌<◌, ◌+◌, Bool, true, false, ◌&&◌, cond, List, []}
-use Rattle.std.proofs.Common.{◌∷◌, ◌++◌, map, length, arith, refl, ap, ◌∙◌, inl, inr, Some}
+use Rattle.std.proofs.Common.{◌∷◌, ◌++◌, map, length, arith, refl, ◌∙◌, inl, inr, Some}
 use Rattle.std.proofs.lemmas.Bool.{and_from, and_right, cases_Bool, cond_both, eq-eqb, eqb-false, eqb-true, or_from}
 use Rattle.std.proofs.lemmas.{Grind.common_steps, List.Folds.list_any-append}
 use Rattle.std.specs.{List.{AllByRecursion as All, Contains, list_any}, Prelude.◌==◌}
-use Rattle.bq_job.specs.machine.{DispatchTurn, GivenAnswer, IsHandOut, Machine.Machine, SeatRecord, Serves, WaitEndTurn, end_of_wait}
-use Rattle.bq_job.specs.machine.{has_closed, is_closed_answer, is_deadline_soon, is_waiting, next_seat, numbers, seat_with, without_wait}
-use Rattle.bq_job.specs.{promise.answers_to, Types.{Answer, Job}}
-use Rattle.bq_job.specs.declared.answer.Answer.TheVariants as answers
-use Rattle.bq_job.proofs.Trace.{IsServing, of_serves}
+use Rattle.bq_job.specs.machine.{GivenAnswer, Machine.Machine, SeatRecord}
+use Rattle.bq_job.specs.machine.{has_closed, is_closed_answer, is_waiting, numbers, seat_with, without_wait}
+use Rattle.bq_job.specs.{promise.answers_to, Types.{Answer}}
+use Rattle.bq_job.proofs.Trace.{IsServing}
 use Rattle.bq_job.proofs.ListLemmas.{all_always, all_of_map, all_weaker, found_passes}
 use Rattle.bq_job.proofs.ListLemmas.{keys_of_map, list_any_not, list_any_of_map, list_any_with}
-use Rattle.bq_job.proofs.{ComputedLemmas.{next_end_waits, next_seat_waits}, DispatchLemmas.turn_of}
-use Rattle.bq_job.proofs.{KeptLemmas.only_seat, LawfulLemmas.end_of}
+use Rattle.bq_job.proofs.{LawfulLemmas.{dispatch_answers, end_answers}}
+use Rattle.bq_job.proofs.{KeptLemmas.only_seat, LawfulLemmas.Answers}
 
 -- whether the client at the seat waits, and whether a client is connected there
 abbrev pub waits_in : ℕ → List SeatRecord → Bool
@@ -45,10 +44,6 @@ answers_append seat xs ys = grind (arith, common_steps)
 
 pub unclosed_append : (xs ys : List Answer) → has_closed xs ≡ false → has_closed ys ≡ false → has_closed (xs ++ ys) ≡ false
 unclosed_append xs ys h i = list_any-append is_closed_answer xs ys ∙ or_from (has_closed xs) (has_closed ys) h i
-
-passes_then : (seat : ℕ) (first next last : List SeatRecord) (xs ys : List GivenAnswer) → Passes seat first next xs
-    → Passes seat next last ys → Passes seat first last (xs ++ ys)
-passes_then seat first next last xs ys h i = grind (arith, common_steps, answers_append, unclosed_append)
 
 -- tests that agree on each element and its change
 any_of_map : {X : Type 0} (p q : X → Bool) (f : X → X) (xs : List X) → ((x : X) → q (f x) ≡ p x) → list_any q (map f xs) ≡ list_any p xs
@@ -83,52 +78,25 @@ pub changed_numbers : (number : ℕ) (f : SeatRecord → SeatRecord) (seats : Li
 changed_numbers number f seats same = grind (arith, common_steps, keys_of_map, all_always, cond_both)
 
 -- A waiting client is answered, and no longer waits.
-passes_turn : (seat : ℕ) (seats : List SeatRecord) (s : SeatRecord) (answer : Answer) → Contains seats s → is_waiting s ≡ true
-    → is_closed_answer answer ≡ false → Passes seat seats (changed s.number without_wait seats) ((s.number, answer) ∷ [])
-passes_turn seat seats s answer there waits stays =
-    let none = changed_none s.number s.number without_wait is_waiting seats refl (λ t. refl) in
-    let others = changed_elsewhere seat s.number without_wait is_waiting seats in
-    let connected = changed_quiet seat s.number without_wait (λ t. t.connected) seats (λ t. refl) (λ t. refl) in
-    let ended = changed_quiet seat s.number without_wait (λ t. t.ended) seats (λ t. refl) (λ t. refl) in
-    grind (arith, common_steps, changed_numbers, cases_Bool, eqb-true, and_from)
-
--- the same if the turn is known by equations
-passes_turn_to : (seat : ℕ) (m next : Machine) (s : SeatRecord) (answer : Answer) (given : GivenAnswer) → Contains m.seats s
-    → is_waiting s ≡ true → is_closed_answer answer ≡ false → given ≡ (s.number, answer)
-    → next.seats ≡ changed s.number without_wait m.seats → Passes seat m.seats next.seats (given ∷ [])
-passes_turn_to seat m next s answer given there waits stays told is = grind (arith, passes_turn seat m.seats s answer there waits stays)
-
-passes_hand_out : (seat : ℕ) (m : Machine) (j : Job) (s : SeatRecord) (given : GivenAnswer) (next : Machine) → next_seat m j ≡ Some s
-    → IsHandOut m j s given next → Passes seat m.seats next.seats (given ∷ [])
-passes_hand_out seat m j s given next f hands =
-    let w = next_seat_waits m j s f in
-    elim hands [
-      | inl i ↦ passes_turn_to seat m next s (answers.Reserved j.id j.body) given w.0 w.1 refl i.0 (ap (λ (n : Machine). n.seats) i.1)
-      | inr i ↦ passes_turn_to seat m next s answers.OutOfMemory given w.0 w.1 refl i.0 (ap (λ (n : Machine). n.seats) i.1)
-    ]
-
-passes_dispatch : (seat : ℕ) (m : Machine) (given : GivenAnswer) (next : Machine) → DispatchTurn m given next
+passes_answer : (seat : ℕ) (s : SeatRecord) (m : Machine) (given : GivenAnswer) (next : Machine) → Answers s m given next
     → Passes seat m.seats next.seats (given ∷ [])
-passes_dispatch seat m given next turn =
-    let t = turn_of m given next turn in passes_hand_out seat m t.job t.client given next t.client_is t.hands
+passes_answer seat s m given next a =
+    let none = changed_none s.number s.number without_wait is_waiting m.seats refl (λ t. refl) in
+    let others = changed_elsewhere seat s.number without_wait is_waiting m.seats in
+    let connected = changed_quiet seat s.number without_wait (λ t. t.connected) m.seats (λ t. refl) (λ t. refl) in
+    let ended = changed_quiet seat s.number without_wait (λ t. t.ended) m.seats (λ t. refl) (λ t. refl) in
+    rw a.seats_are (grind (arith, common_steps, changed_numbers, cases_Bool, eqb-true, and_from))
 
-passes_wait_end : (seat : ℕ) (m : Machine) (given : GivenAnswer) (next : Machine) → WaitEndTurn m given next
-    → Passes seat m.seats next.seats (given ∷ [])
-passes_wait_end seat m given next turn =
-    let e = end_of m given next turn in
-    let w = next_end_waits m e.client e.client_is in
-    passes_turn_to seat m next e.client (end_of_wait m e.client) given w.0 w.1
-    (cond_both (is_deadline_soon m e.client) answers.DeadlineSoon answers.TimedOut (λ a. is_closed_answer a ≡ false) (λ d. refl)
-    (λ d. refl)) e.given_is
-    (ap (λ (n : Machine). n.seats) e.next_is)
-
-passes : (seat : ℕ) → IsServing (λ m given n. Passes seat m.seats n.seats given)
-passes seat = search (passes_itself, passes_then, passes_dispatch, passes_wait_end)
-
--- dispatch and the ends of waits
-pub passes_serves : (seat : ℕ) (first : Machine) (handed ended : List GivenAnswer) (last : Machine) → Serves first handed ended last
-    → Passes seat first.seats last.seats (handed ++ ended)
-passes_serves seat first handed ended last s = of_serves (passes seat) first handed ended last s
+pub passes : (seat : ℕ) → IsServing (λ m given n. Passes seat m.seats n.seats given)
+passes seat = record {
+  trace = record {
+    none = λ m. passes_itself seat m.seats;
+    joins = λ a b c xs ys h i. grind (arith, common_steps, answers_append, unclosed_append);
+  };
+  dispatch = λ m g n turn. passes_answer seat _ m g n (dispatch_answers m g n turn);
+  wait_end = λ m g n turn. passes_answer seat _ m g n (end_answers m g n turn);
+  forgets = λ m. passes_itself seat m.seats;
+}
 
 -- The only seat of its number.
 pub record Found (seat : ℕ) (seats : List SeatRecord) : Type 0 where

@@ -9,6 +9,10 @@ pub record IsTrace (So : Machine → List GivenAnswer → Machine → Type 0) : 
   pub none : (m : Machine) → So m [] m
   pub joins : (a b c : Machine) (xs ys : List GivenAnswer) → So a xs b → So b ys c → So a (xs ++ ys) c
 
+-- a property that is kept
+pub keeping : (Q : Machine → Type 0) → IsTrace (λ m given n. Q m → Q n)
+keeping Q = record { none = λ m h. h; joins = λ a b c xs ys f g h. g (f h) }
+
 -- turns one after another
 pub of_turns : {So : Machine → List GivenAnswer → Machine → Type 0} (Turns : Machine → GivenAnswer → Machine → Type 0) → IsTrace So
     → ((m : Machine) (g : GivenAnswer) (n : Machine) → Turns m g n → So m (g ∷ []) n)

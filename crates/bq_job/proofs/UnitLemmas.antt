@@ -1,5 +1,5 @@
 -- The first unit of a text, and units that begin texts.
-use Rattle.std.proofs.Common.{◌≡◌, ℕ, ◌<◌, List, [], ◌∷◌, ◌++◌, Option, Some, None}
+use Rattle.std.proofs.Common.{◌≡◌, ◌∙◌, ℕ, ◌<◌, List, [], ◌∷◌, ◌++◌, Option, Some, None}
 use Rattle.std.proofs.Common.{◌⊎◌, inl, refl, sym, ap, arith, length, MatchOption, length-append, append_assoc}
 use Rattle.std.proofs.lemmas.{Bool.Decides.nat_tests, Grind.common_steps}
 use Rattle.bq_job.specs.beside.{IsRefusedMemory, first_unit, put_request, unit_after, unit_of_line}
@@ -7,7 +7,6 @@ use Rattle.bq_job.specs.{declared.request.Request.Request, reading.{Line.first_l
 use Rattle.bq_job.specs.reading.{LineRead.{PutWaits, Whole, read_line}, Reading.{BeginsNoUnit, IsPutRequest, IsUnit}}
 use Rattle.bq_job.specs.reading.Reading.{IsUnitAfter}
 use Rattle.bq_job.proofs.LineLemmas.{first_line-append, first_line_is, first_line_again}
-use Rattle.std.proofs.lemmas.Bool.{cases_Bool}
 
 -- the request of a unit is the computed one, or its allocation failed
 abbrev pub IsComputed : Request → Request → Type 0
@@ -46,19 +45,15 @@ pub first_unit-unit : (size : ℕ) (text rest : List ℕ) (r : Request) → firs
     → (first : List ℕ) × (text ≡ first ++ rest) × IsUnit size first r × (0 < length first)
 first_unit-unit size text rest r e = go (first_line text) refl e
   where
-    from_line : (l : List ℕ × List ℕ) (taken : List ℕ) → first_line text ≡ Some l → l.1 ≡ taken ++ rest
-        → IsUnitAfter size (read_line l.0) taken r
-        → (first : List ℕ) × (text ≡ first ++ rest) × IsUnit size first r × (0 < length first)
-    from_line l taken is more unit =
-        let whole : text ≡ (l.0 ++ 13 ∷ 10 ∷ taken) ++ rest =
-        rw (first_line_is text l is, more) (sym (append_assoc l.0 (13 ∷ 10 ∷ taken) rest)) in
-        let some : 0 < length (l.0 ++ 13 ∷ 10 ∷ taken) = rw length-append (grind (arith, common_steps)) in
-        (l.0 ++ 13 ∷ 10 ∷ taken, whole, rw (first_line_again text taken l is) unit, some)
-
     go : (o : Option (List ℕ × List ℕ)) → first_line text ≡ o → unit_of_line size o ≡ Some (r, rest)
         → (first : List ℕ) × (text ≡ first ++ rest) × IsUnit size first r × (0 < length first)
     go None is e = cc
-    go (Some l) is e = grind (arith, common_steps, cases_Bool, unit_after-unit, from_line)
+    go (Some l) is e =
+        let u = unit_after-unit size (read_line l.0) l.1 rest r e in
+        let whole : text ≡ (l.0 ++ 13 ∷ 10 ∷ u.0) ++ rest =
+        first_line_is text l is ∙ ap (λ (xs : List ℕ). l.0 ++ 13 ∷ 10 ∷ xs) u.1 ∙ sym (append_assoc l.0 (13 ∷ 10 ∷ u.0) rest) in
+        let some : 0 < length (l.0 ++ 13 ∷ 10 ∷ u.0) = rw length-append (grind (arith, common_steps)) in
+        (l.0 ++ 13 ∷ 10 ∷ u.0, whole, rw (first_line_again text u.0 l is) u.2, some)
 
 pub no_first_unit : (size : ℕ) (text : List ℕ) → first_unit size text ≡ None → BeginsNoUnit size text
 no_first_unit size text e first more r is unit = grind (arith, common_steps, first_unit-append size first more r unit)

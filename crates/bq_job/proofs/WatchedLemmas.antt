@@ -1,14 +1,14 @@
 -- The tubes that a seat watches, at least one and none twice, after a watch and an ignore.
 use Rattle.std.proofs.Common.{rules}
-use Rattle.std.proofs.lemmas.Bool.{and_parts, and_from, both_ways, cond_both, false_from_ne_true, or_from, or_parts}
+use Rattle.std.proofs.lemmas.Bool.{and_parts, both_ways, false_from_ne_true, or_from, or_parts}
 use Rattle.std.proofs.Common.{◌++◌, ◌∷◌, ◌≡◌, Bool, List, [], ℕ, arith, false, refl, true}
 use Rattle.std.proofs.lemmas.{Bool.not-true, Grind.common_steps, List.Folds.list_any-append}
 use Rattle.std.specs.{List.list_any, Prelude.filter}
-use Rattle.bq_job.specs.{beside.{none_twice, watches_once}, machine.{SeatRecord, watched_with, watching}}
+use Rattle.bq_job.specs.{beside.{none_twice}}
 use Rattle.bq_job.specs.reading.TubeName.{is_same_name}
 use Rattle.bq_job.proofs.ListLemmas.{all_of_filter, all_weaker, list_any_not, none_pass}
 
-pub same_other : (a b : List ℕ) → is_same_name a b ≡ false → is_same_name b a ≡ false
+same_other : (a b : List ℕ) → is_same_name a b ≡ false → is_same_name b a ≡ false
 same_other a b e = search (rules, false_from_ne_true, both_ways)
 
 pub none_twice_behind : (tube : List ℕ) (names : List (List ℕ)) → list_any (is_same_name tube) names ≡ false → none_twice names ≡ true
@@ -16,9 +16,6 @@ pub none_twice_behind : (tube : List ℕ) (names : List (List ℕ)) → list_any
 none_twice_behind tube [] e h = refl
 none_twice_behind tube (name ∷ names) e h =
     grind (arith, common_steps, or_parts, and_parts, list_any-append, or_from, not-true, same_other, none_twice_behind tube names)
-
-pub watched_still : (tube : List ℕ) (s : SeatRecord) → watches_once s ≡ true → watches_once (watching (watched_with tube s) s) ≡ true
-watched_still tube s h = grind (arith, common_steps, and_parts, cond_both, and_from, none_twice_behind)
 
 pub none_twice_filter : (p : List ℕ → Bool) (names : List (List ℕ)) → none_twice names ≡ true → none_twice (filter p names) ≡ true
 none_twice_filter p [] h = refl

@@ -1,4 +1,4 @@
-use Rattle.bq_job.proofs.NextDueLemmas.{tick_is_idle}
+use Rattle.bq_job.proofs.QuietLemmas.{tick_is_idle}
 use Rattle.bq_job.proofs.laws_of_machine.nothing_happens_before_it_is_due.Goals as goal
 
 pub returns : goal.returns

@@ -1,4 +1,4 @@
-use Rattle.bq_job.proofs.RefusalLemmas.{refused_is_tick}
+use Rattle.bq_job.proofs.OwnAnswerLemmas.{refused_is_tick}
 use Rattle.bq_job.proofs.laws_of_machine.refused_commands_change_nothing.Goals as goal
 
 pub returns : goal.returns
