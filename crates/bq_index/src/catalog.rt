@@ -6,10 +6,10 @@ ghost use Rattle.std.specs.Map.{lookup, remove_entry};
 ghost use Rattle.std.specs.BTreeMap.{is_at, insert_entry};
 ghost use Rattle.bq_index.specs.Edited.{edited_at};
 
-use super::NoMemory;
 use super::edit::Edit;
 use super::shelf::Shelf;
 use super::walk::{Test, Visitor};
+use super::{NoMemory, find, walk};
 use std::alloc::Global;
 use std::marker::Model;
 
@@ -99,7 +99,8 @@ impl<K: Ord + Drop, V: Drop> Catalog<K, V> {
             ≡ lookup (is_at (K.cmp key.now)) self.now.entries }
         ensures ordered { InOrder K.cmp self.now.entries }
     {
-        self.shelf.peek(key)
+        let mut uncounted = 0;
+        find::get(self.shelf.tree.top(), key, &mut uncounted)
     }
 
     /// Changes the value at a key in place. Returns what the change returns, or `None` if there is
@@ -119,7 +120,7 @@ impl<K: Ord + Drop, V: Drop> Catalog<K, V> {
         ensures visitor { visitor.new ≡ fold (seen_by T.after) visitor.old self.now.entries }
         ensures few { length self.now.entries < 2 ^ 64 }
     {
-        self.shelf.walk(visitor);
+        walk::walk(self.shelf.tree.top(), visitor);
     }
 
     /// Returns the first entry that passes a test.
@@ -128,7 +129,7 @@ impl<K: Ord + Drop, V: Drop> Catalog<K, V> {
             ≡ find (passes_by (T.passed test.now)) self.now.entries }
         ensures ordered { InOrder K.cmp self.now.entries }
     {
-        self.shelf.first(test)
+        walk::first(self.shelf.tree.top(), test)
     }
 
     /// Returns the first entry that passes a test, among those whose key is `from` or above.
@@ -136,7 +137,7 @@ impl<K: Ord + Drop, V: Drop> Catalog<K, V> {
         ensures { option_map entry_of result
             ≡ find (passes_from (K.cmp from.now) (T.passed test.now)) self.now.entries }
     {
-        self.shelf.first_from(from, test)
+        walk::first_from(self.shelf.tree.top(), from, test)
     }
 
     /// Returns the entries in the order of their keys. The memory of the list is allocated before
@@ -148,6 +149,10 @@ impl<K: Ord + Drop, V: Drop> Catalog<K, V> {
     pub fn list(&self, alloc: Global) -> Result<Vec<(&K, &V), Global>, NoMemory>
         ensures { IfOk result (λ listed. map entry_of listed.items ≡ self.now.entries) }
     {
-        self.shelf.list(alloc)
+        let Ok(mut listed) = Vec::with_capacity(alloc, self.len()) else {
+            return Err(NoMemory);
+        };
+        walk::list(self.shelf.tree.top(), &mut listed);
+        Ok(listed)
     }
 }

@@ -26,7 +26,8 @@ use std::mem;
 /// of one more than the number of entries. No call visits all entries, so code that keeps
 /// everything in shelves cannot search them one by one.
 pub struct Shelf<K: Ord, V> {
-    tree: Tree<K, V>,
+    // A catalog reads it too.
+    pub(crate) tree: Tree<K, V>,
     len: usize,
     // The chain of the spare boxes.
     spares: Tree<K, V>,
@@ -264,54 +265,6 @@ impl<K: Ord + Drop, V: Drop> Shelf<K, V> {
         ensures comparisons { ComparesFew self.old self.new }
     {
         edit::edit_tree(&mut self.tree, key, &mut self.comparisons, edit)
-    }
-
-    // From here to `list`: what a catalog needs, which does not count comparisons. Returns the
-    // value at a key.
-    pub(crate) fn peek(&self, key: &K) -> Option<&V>
-        ensures value { option_map (λ v. v.now) result
-            ≡ lookup (is_at (K.cmp key.now)) self.now.entries }
-        ensures ordered { InOrder K.cmp self.now.entries }
-    {
-        let mut uncounted = 0;
-        find::get(self.tree.top(), key, &mut uncounted)
-    }
-
-    // Shows each entry to a visitor, in the order of the keys. It compares no keys.
-    pub(crate) fn walk<T: Visitor<K, V>>(&self, visitor: &mut T)
-        ensures visitor { visitor.new ≡ fold (seen_by T.after) visitor.old self.now.entries }
-        ensures few { length self.now.entries < 2 ^ 64 }
-    {
-        walk::walk(self.tree.top(), visitor);
-    }
-
-    // Returns the first entry that passes a test.
-    pub(crate) fn first<T: Test<K, V>>(&self, test: &T) -> Option<(&K, &V)>
-        ensures entry { option_map entry_of result
-            ≡ find (passes_by (T.passed test.now)) self.now.entries }
-        ensures ordered { InOrder K.cmp self.now.entries }
-    {
-        walk::first(self.tree.top(), test)
-    }
-
-    // Returns the first entry that passes a test, among those whose key is `from` or above.
-    pub(crate) fn first_from<T: Test<K, V>>(&self, from: &K, test: &T) -> Option<(&K, &V)>
-        ensures { option_map entry_of result
-            ≡ find (passes_from (K.cmp from.now) (T.passed test.now)) self.now.entries }
-    {
-        walk::first_from(self.tree.top(), from, test)
-    }
-
-    // Returns the entries in the order of their keys. The memory of the list is allocated before it
-    // is filled; if that fails, there is no list.
-    pub(crate) fn list(&self, alloc: Global) -> Result<Vec<(&K, &V), Global>, NoMemory>
-        ensures { IfOk result (λ listed. map entry_of listed.items ≡ self.now.entries) }
-    {
-        let Ok(mut listed) = Vec::with_capacity(alloc, self.len()) else {
-            return Err(NoMemory);
-        };
-        walk::list(self.tree.top(), &mut listed);
-        Ok(listed)
     }
 
     // From here to `lowest_from`: what the trees of `Shelves` need, which have the boxes and the count
