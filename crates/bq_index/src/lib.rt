@@ -11,15 +11,16 @@
 //! to visit its entries.
 #![tactic(auto)]
 
+pub use boxes::BoxSource;
 pub use catalog::Catalog;
 pub use edit::{Edit, TryEdit};
 pub use fault::NoMemory;
 pub use shelf::Shelf;
 pub use shelves::{Parted, Shelves};
-pub use tree::BoxSource;
 pub use walk::{Test, Visitor};
 
 mod alone;
+mod boxes;
 mod catalog;
 mod edit;
 mod fault;

@@ -10,14 +10,14 @@ ghost use Rattle.bq_index.specs.Removed.{lookup_if, removed_if};
 ghost use Rattle.bq_index.specs.Shelves.{key_from};
 ghost use Rattle.bq_index.specs.Tree.{entries, IsBalanced};
 
+use super::boxes::{BoxSource, Boxes};
 use super::edit::{self, Edit, Sure, TryEdit};
 use super::remove::Always;
-use super::tree::{self, BoxSource, Node, Tree};
+use super::tree::Tree;
 use super::walk::{Test, Visitor};
 use super::{NoMemory, find, insert, remove, walk};
 use std::alloc::Global;
 use std::marker::Model;
-use std::mem;
 
 /// An ordered map whose insertions allocate nothing as long as there are spare boxes.
 ///
@@ -25,13 +25,12 @@ use std::mem;
 /// and how often two keys were compared. A call makes at most two comparisons for each binary digit
 /// of one more than the number of entries. No call visits all entries, so code that keeps
 /// everything in shelves cannot search them one by one.
+#[derive(Drop)]
 pub struct Shelf<K: Ord, V> {
     // A catalog reads it too.
     pub(crate) tree: Tree<K, V>,
     len: usize,
-    // The chain of the spare boxes.
-    spares: Tree<K, V>,
-    spare: usize,
+    spares: Boxes<K, V>,
     comparisons: u64,
 }
 
@@ -41,23 +40,9 @@ impl<K: Ord, V> Model for Shelf<K, V> {
 
     ghost Value = { Seen K V };
 
-    ghost view = { λ s. record { entries = entries s.tree; spare = s.spare; comparisons = s.comparisons } };
+    ghost view = { λ s. record { entries = entries s.tree; spare = s.spares; comparisons = s.comparisons } };
 
-    ghost invariant = { λ s. IsWhole K.cmp s.tree s.len s.spares s.spare };
-}
-
-impl<K: Ord + Drop, V: Drop> Drop for Shelf<K, V> {
-    fn drop(self) {
-        let Shelf {
-            tree,
-            len: _,
-            spares,
-            spare: _,
-            comparisons: _,
-        } = self;
-        drop(tree);
-        tree::drop_chain(spares);
-    }
+    ghost invariant = { λ s. IsWhole K.cmp s.tree s.len s.spares };
 }
 
 impl<K: Ord + Drop, V: Drop> Shelf<K, V> {
@@ -74,8 +59,7 @@ impl<K: Ord + Drop, V: Drop> Shelf<K, V> {
         Shelf {
             tree: Tree::Leaf,
             len: 0,
-            spares: Tree::Leaf,
-            spare: 0,
+            spares: Boxes::new(),
             comparisons: 0,
         }
     }
@@ -92,7 +76,7 @@ impl<K: Ord + Drop, V: Drop> Shelf<K, V> {
     pub fn spare(&self) -> usize
         ensures { result ≡ self.now.spare }
     {
-        self.spare
+        self.spares.count()
     }
 
     /// Returns how often two keys were compared so far. The count stops at 2^64 - 1.
@@ -141,14 +125,10 @@ impl<K: Ord + Drop, V: Drop> Shelf<K, V> {
         ensures ok { OnOk result (self.new ≡ record self.old { spare = self.old.spare + 1 }) }
         ensures err { OnErr result (self.new ≡ self.old) }
     {
-        if self.len >= usize::MAX - self.spare {
+        if self.len >= usize::MAX - self.spare() {
             return Err(NoMemory);
         }
-        let node = tree::spare_box(source)?;
-        let spares = mem::replace(&mut self.spares, Tree::Leaf);
-        tree::keep(&mut self.spares, tree::link(node, spares));
-        self.spare += 1;
-        Ok(())
+        self.spares.add(source)
     }
 
     /// Returns one spare box to the allocator, if there is one. It allocates nothing and compares
@@ -160,13 +140,7 @@ impl<K: Ord + Drop, V: Drop> Shelf<K, V> {
     pub fn give_back(&mut self)
         ensures { self.new ≡ record self.old { spare = self.old.spare - 1 } }
     {
-        if self.spare == 0 {
-            return;
-        }
-        let (node, spares) = tree::unlink(mem::replace(&mut self.spares, Tree::Leaf));
-        drop(node);
-        tree::keep(&mut self.spares, spares);
-        self.spare -= 1;
+        self.spares.give_back();
     }
 
     /// Adds an entry whose key is not on the shelf. The entry takes a spare box.
@@ -177,10 +151,7 @@ impl<K: Ord + Drop, V: Drop> Shelf<K, V> {
         ensures spare { self.new.spare + 1 ≡ self.old.spare }
         ensures comparisons { ComparesFew self.old self.new }
     {
-        let (mut node, spares) = tree::unlink(mem::replace(&mut self.spares, Tree::Leaf));
-        tree::keep(&mut self.spares, spares);
-        self.spare -= 1; // the box of the entry to come
-        tree::fill(&mut *node, Node::Alone { key, value });
+        let node = self.spares.take_with(key, value);
         insert::insert(&mut self.tree, node, &mut self.comparisons);
         self.len += 1;
     }
@@ -214,9 +185,7 @@ impl<K: Ord + Drop, V: Drop> Shelf<K, V> {
     {
         let (node, value) = remove::remove_if(&mut self.tree, key, &mut self.comparisons, test)?;
         self.len -= 1;
-        let spares = mem::replace(&mut self.spares, Tree::Leaf);
-        tree::keep(&mut self.spares, tree::link(node, spares));
-        self.spare += 1; // the box of the entry
+        self.spares.put(node);
         Some(value)
     }
 
@@ -282,10 +251,7 @@ impl<K: Ord + Drop, V: Drop> Shelf<K, V> {
         ensures spare { self.new.spare + 1 ≡ self.old.spare }
         ensures comparisons { ComparesFewIn (entries tree.old) self.old self.new }
     {
-        let (mut node, spares) = tree::unlink(mem::replace(&mut self.spares, Tree::Leaf));
-        tree::keep(&mut self.spares, spares);
-        self.spare -= 1; // the box for the tree
-        tree::fill(&mut *node, Node::Alone { key, value });
+        let node = self.spares.take_with(key, value);
         insert::insert(tree, node, &mut self.comparisons);
     }
 
@@ -305,9 +271,7 @@ impl<K: Ord + Drop, V: Drop> Shelf<K, V> {
         ensures comparisons { ComparesFewIn (entries tree.old) self.old self.new }
     {
         let (node, value) = remove::remove(tree, key, &mut self.comparisons)?;
-        let spares = mem::replace(&mut self.spares, Tree::Leaf);
-        tree::keep(&mut self.spares, tree::link(node, spares));
-        self.spare += 1; // the box from the tree
+        self.spares.put(node);
         Some(value)
     }
 

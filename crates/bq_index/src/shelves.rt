@@ -9,8 +9,9 @@ ghost use Rattle.bq_index.specs.Tree.{entries};
 ghost use Rattle.bq_index.specs.declared.tree.Tree.TheVariants.{Leaf};
 
 use super::NoMemory;
+use super::boxes::BoxSource;
 use super::shelf::Shelf;
-use super::tree::{BoxSource, Tree};
+use super::tree::Tree;
 use std::alloc::Global;
 use std::marker::Model;
 use std::mem;

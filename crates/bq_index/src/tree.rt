@@ -1,14 +1,11 @@
-// A balanced tree of boxes, which contracts see by its entries in order and its height, and the
-// chain of the spare boxes.
+// A balanced tree of boxes, which contracts see by its entries in order and its height.
 ghost use Rattle.std.specs.Prelude.{◌∷◌, ◌++◌, ◌≡◌, ◌+◌, ◌<◌, ◌≤◌, max, [], IsSome, IfSome, IfNone, IfOk, Some, true, false};
-ghost use Rattle.bq_index.specs.Tree.{chain_length, entries, entries_in, entries_of, entry_in, height, height_in};
-ghost use Rattle.bq_index.specs.Tree.{height_of, held, joined, left_in, length_behind, lent, near, right_in, with_height, differ};
+ghost use Rattle.bq_index.specs.Tree.{entries, entries_in, entries_of, entry_in, height, height_in};
+ghost use Rattle.bq_index.specs.Tree.{height_of, held, joined, left_in, lent, near, right_in, with_height, differ};
 ghost use Rattle.bq_index.specs.Tree.{AreBalanced, IsBalanced, IsBalancedFrom, IsKeyOf, IsLevel, HasParts, DifferByAtMost};
 ghost use Rattle.bq_index.specs.declared.tree.Node.TheVariants.{Spare};
 ghost use Rattle.bq_index.specs.declared.tree.Tree.TheVariants.{Leaf};
 
-use super::NoMemory;
-use std::alloc::Global;
 use std::mem;
 
 // A tree, or a chain of spare boxes.
@@ -353,33 +350,6 @@ pub(crate) fn parts<K, V>(
     }
 }
 
-/// A source of boxes, one at a time: the heap, or in a test a source that fails for some requests.
-pub trait BoxSource {
-    /// Returns a box with this value, or `NoMemory` if none can be allocated.
-    fn box_of<T: Drop>(&mut self, value: T) -> Result<Box<T>, NoMemory>
-        ensures { IfOk result (λ b. b.value ≡ value) };
-}
-
-/// The heap. Each box is one allocation.
-impl BoxSource for Global {
-    fn box_of<T: Drop>(&mut self, value: T) -> Result<Box<T>, NoMemory> {
-        match Box::new(*self, value) {
-            Ok(filled) => Ok(filled),
-            Err(_) => Err(NoMemory),
-        }
-    }
-}
-
-// Returns a box with nothing in it.
-pub(crate) fn spare_box<K, V, S: BoxSource>(source: &mut S) -> Result<Box<Node<K, V>>, NoMemory>
-where
-    K: Drop,
-    V: Drop,
-    ensures { IfOk result (λ b. b.value ≡ Spare) }
-{
-    source.box_of(Node::Spare)
-}
-
 // Stores a value in a place. An assignment would do the same, but a proof about it has to consider
 // every value that the place may have held.
 #[inline(always)]
@@ -411,66 +381,4 @@ where
     ensures { place.new ≡ node }
 {
     mem::forget(mem::replace(place, node));
-}
-
-// Puts a spare box in front of a chain.
-pub(crate) fn link<K, V>(mut node: Box<Node<K, V>>, chain: Tree<K, V>) -> Tree<K, V>
-where
-    K: Drop,
-    V: Drop,
-    requires { node.value ≡ Spare }
-    ensures { chain_length result ≡ chain_length chain + 1 }
-{
-    let spare = match chain {
-        Tree::Leaf => Node::Spare,
-        Tree::Fork(next) => Node::SpareBefore(next),
-    };
-    fill(&mut *node, spare);
-    Tree::Fork(node)
-}
-
-// Returns the first box of a chain, and the rest of the chain.
-pub(crate) fn unlink<K, V>(chain: Tree<K, V>) -> (Box<Node<K, V>>, Tree<K, V>)
-where
-    K: Drop,
-    V: Drop,
-    requires { 0 < chain_length chain }
-    ensures rest { chain_length chain ≡ chain_length result.1 + 1 }
-    ensures spare { result.0.value ≡ Spare }
-{
-    match chain {
-        Tree::Leaf => unreachable!(),
-        Tree::Fork(mut node) => {
-            let rest = behind(mem::replace(&mut *node, Node::Spare));
-            (node, rest)
-        }
-    }
-}
-
-// Returns the chain after a box.
-fn behind<K, V>(node: Node<K, V>) -> Tree<K, V>
-where
-    K: Drop,
-    V: Drop,
-    ensures { chain_length result ≡ length_behind node }
-{
-    match node {
-        Node::SpareBefore(next) => Tree::Fork(next),
-        last => {
-            mem::forget(last);
-            Tree::Leaf
-        }
-    }
-}
-
-// Frees a chain. It uses a loop since a chain may be long.
-pub(crate) fn drop_chain<K, V>(chain: Tree<K, V>)
-where
-    K: Drop,
-    V: Drop,
-{
-    let mut chain = chain;
-    while let Tree::Fork(mut node) = chain {
-        chain = behind(mem::replace(&mut *node, Node::Spare));
-    }
 }

@@ -15,15 +15,12 @@ invariant_of-self-2 g c =
     let h = rw c.in_ok-node.was at c.remove.ensures.found in
     let less = length_removed (is_at (g.K.Ord.cmp c.args.key.now)) (entries c.args.tree.now)
     (Some (c.args.key.now, c.in_ok-node.value)) refl h in
-    let spare : c.args.self.now.spare ≡ c.self.inside.spare = search rules in
+    let spare : c.args.self.now.spare ≡ c.self.inside.spares = search rules in
     let many : length c.args.self.now.entries ≡ length (entries c.self.inside.tree) = search rules in
     grind arith
 
 pub returns-clause-comparisons : goal.returns-clause-comparisons
 returns-clause-comparisons g c = grind (arith, height_bound)
-
-pub overflow_add-self : goal.overflow_add-self
-overflow_add-self g c = grind (arith, common_steps)
 
 pub returns-clause-balanced : goal.returns-clause-balanced
 returns-clause-balanced g c = c.remove.ensures.balanced

@@ -18,7 +18,6 @@ invariant_of-self g c =
       in_order = subst (InOrder g.K.Ord.cmp) (sym c.edit_tree.ensures.is)
           (subst (IsStrictlySortedBy g.K.Ord.cmp) (sym (edited_keys test f (entries c.self.inside.tree))) w.in_order);
       counted = w.counted ∙ sym (edited_length test f (entries c.self.inside.tree)) ∙ sym (ap length c.edit_tree.ensures.is);
-      spares_counted = w.spares_counted;
       fits = w.fits;
     }
 
