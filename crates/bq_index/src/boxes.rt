@@ -1,5 +1,5 @@
 // The spare boxes of one tree, or of several.
-ghost use Rattle.std.specs.Prelude.{◌≡◌, ◌+◌, ◌-◌, ◌<◌, ◌^◌, IfOk, OnErr, OnOk};
+ghost use Rattle.std.specs.Prelude.{◌≡◌, ◌+◌, ◌-◌, ◌<◌, ◌≤◌, ◌^◌, max, IfOk, OnErr, OnOk};
 ghost use Rattle.bq_index.specs.Tree.{chain_length, length_behind};
 ghost use Rattle.bq_index.specs.declared.tree.Node.TheVariants.{Alone, Spare};
 
@@ -68,8 +68,32 @@ impl<K: Drop, V: Drop> Boxes<K, V> {
         self.count
     }
 
+    // Gets boxes from a source until there are `n`. Beside `entries` boxes in use, their number stays
+    // within `usize`. Each box is linked into the chain before the next one is requested.
+    pub(crate) fn reserve_from<S: BoxSource>(
+        &mut self,
+        source: &mut S,
+        n: usize,
+        entries: usize,
+    ) -> Result<(), NoMemory>
+        requires { entries + self.old < 2 ^ 64 }
+        ensures ok { OnOk result (n ≤ self.new) }
+        ensures refused { OnErr result (self.new < n) }
+        ensures not_fewer { self.old ≤ self.new }
+        ensures no_more { self.new ≤ max n self.old }
+        ensures fits { entries + self.new < 2 ^ 64 }
+    {
+        while self.count() < n {
+            if entries >= usize::MAX - self.count() {
+                return Err(NoMemory);
+            }
+            self.add(source)?;
+        }
+        Ok(())
+    }
+
     // Gets one more box from a source.
-    pub(crate) fn add<S: BoxSource>(&mut self, source: &mut S) -> Result<(), NoMemory>
+    fn add<S: BoxSource>(&mut self, source: &mut S) -> Result<(), NoMemory>
         requires { self.old + 1 < 2 ^ 64 }
         ensures ok { OnOk result (self.new ≡ self.old + 1) }
         ensures err { OnErr result (self.new ≡ self.old) }

@@ -2,13 +2,17 @@
 // is rotated there. Each step of a descent returns whether the height of its box has changed. If it
 // has not, the boxes above stay as they are. The last step of a descent is a separate function, so
 // that the steps on the way have small stack frames and ask no more than they need.
-ghost use Rattle.std.specs.Prelude.{◌≡◌, ◌+◌, ◌<◌, ◌≤◌, ◌++◌, Some, None};
+ghost use Rattle.std.specs.Prelude.{◌≡◌, ◌+◌, ◌<◌, ◌≤◌, ◌^◌, ◌++◌, length, Some, None};
+ghost use Rattle.std.specs.BTreeMap.{is_at, insert_entry};
+ghost use Rattle.std.specs.Map.{lookup};
 ghost use Rattle.std.specs.Option.{option_to_list};
 ghost use Rattle.bq_index.specs.Order.{InOrder, LacksKeyOf, with_entry};
+ghost use Rattle.bq_index.specs.Shelf.{CountsFew};
 ghost use Rattle.bq_index.specs.Tree.{entries, entries_in, entries_of, entry_in, far, height, height_in, height_of, HasOneSideAtMost, joined, near};
 ghost use Rattle.bq_index.specs.Tree.{HasParts, IsBalanced, IsLevel, IsRaised, RaisedByAtMost};
 
 use super::alone::{compare_single, key_alone, swap_with};
+use super::boxes::Boxes;
 use super::find::compare_within;
 use super::rotation::mend;
 use super::tree::{Node, Side, Tree, fill, keep};
@@ -189,8 +193,34 @@ where
     }
 }
 
+// Adds an entry whose key is not in the tree. The entry takes a spare box.
+#[tactic(auto, using(crate::proofs::Bound::height_small, crate::proofs::Bound::height_bound))]
+pub(crate) fn insert<K: Ord, V>(
+    tree: &mut Tree<K, V>,
+    boxes: &mut Boxes<K, V>,
+    count: &mut u64,
+    key: K,
+    value: V,
+)
+where
+    K: Drop,
+    V: Drop,
+    requires spare { 0 < boxes.old }
+    requires balanced { IsBalanced tree.old }
+    requires in_order { InOrder K.cmp (entries tree.old) }
+    requires fits { length (entries tree.old) < 2 ^ 64 }
+    requires absent { lookup (is_at (K.cmp key)) (entries tree.old) ≡ None }
+    ensures is { entries tree.new ≡ insert_entry K.cmp (entries tree.old) key value }
+    ensures balanced { IsBalanced tree.new }
+    ensures spare { boxes.new + 1 ≡ boxes.old }
+    ensures comparisons { CountsFew (entries tree.old) count.old count.new }
+{
+    let node = boxes.take_with(key, value);
+    insert_box(tree, node, count);
+}
+
 // Inserts a box with a single entry at its place in a tree.
-pub(crate) fn insert<K: Ord, V>(tree: &mut Tree<K, V>, node: Box<Node<K, V>>, count: &mut u64)
+fn insert_box<K: Ord, V>(tree: &mut Tree<K, V>, node: Box<Node<K, V>>, count: &mut u64)
 where
     K: Drop,
     V: Drop,

@@ -2,13 +2,14 @@
 // rotated there, or if it takes the place of a removed one. Each step of a descent returns whether
 // the height of its box has changed. If it has not, the boxes above stay as they are. The last step
 // of a descent is a separate function, so that the steps on the way have small stack frames.
-ghost use Rattle.std.specs.Prelude.{◌≡◌, ◌+◌, ◌<◌, ◌≤◌, ◌++◌, [], Some, cond, is_some, true, IfSome};
+ghost use Rattle.std.specs.Prelude.{◌≡◌, ◌+◌, ◌<◌, ◌≤◌, ◌^◌, ◌++◌, [], Some, cond, if◌then◌else◌, is_some, length, true, IfSome};
 ghost use Rattle.std.specs.Option.{option_map, option_to_list};
 ghost use Rattle.std.specs.Map.{lookup, remove_entry};
 ghost use Rattle.std.specs.BTreeMap.{is_at};
 ghost use Rattle.bq_index.specs.Edited.{value_of};
 ghost use Rattle.bq_index.specs.Order.{InOrder};
 ghost use Rattle.bq_index.specs.Removed.{lookup_if, passing, removed_if, value_of_top};
+ghost use Rattle.bq_index.specs.Shelf.{CountsFew};
 ghost use Rattle.bq_index.specs.Tree.{entries, entries_in, entries_of, entry_in, entry_of_top, far, height, height_in, height_of};
 ghost use Rattle.bq_index.specs.Tree.{HasOneSideAtMost, joined, left_in, near, right_in, IsBalanced, IsBalancedFrom, IsLevel, IsLevelWithSide, IsLowered};
 ghost use Rattle.bq_index.specs.Tree.{IsWithoutFirst, LosesEntry, RaisedByAtMost};
@@ -16,6 +17,7 @@ ghost use Rattle.bq_index.specs.declared.tree.Node.TheVariants.{Spare};
 ghost use Rattle.bq_index.specs.declared.tree.Tree.TheVariants.{Leaf};
 
 use super::alone::{compare_alone, swap_with, taken};
+use super::boxes::Boxes;
 use super::find::compare_within;
 use super::rotation::{mend, sink};
 use super::tree::{Node, Side, Tree, fill, keep};
@@ -503,9 +505,37 @@ where
     taken(found)
 }
 
+// Removes the entry of a key if its value passes a test, and returns the value. Its box becomes spare.
+// Otherwise the tree does not change.
+#[tactic(auto, using(crate::proofs::Bound::height_small, crate::proofs::Bound::height_bound))]
+pub(crate) fn remove_if<K: Ord, V, T: Test<K, V>>(
+    tree: &mut Tree<K, V>,
+    boxes: &mut Boxes<K, V>,
+    count: &mut u64,
+    key: &K,
+    test: &T,
+) -> Option<V>
+where
+    K: Drop,
+    V: Drop,
+    requires balanced { IsBalanced tree.old }
+    requires in_order { InOrder K.cmp (entries tree.old) }
+    requires fits { length (entries tree.old) + boxes.old < 2 ^ 64 }
+    ensures value { result
+        ≡ lookup_if (is_at (K.cmp key.now)) (T.passed test.now key.now) (entries tree.old) }
+    ensures is { entries tree.new ≡ removed_if (is_at (K.cmp key.now)) result (entries tree.old) }
+    ensures balanced { IsBalanced tree.new }
+    ensures spare { boxes.new ≡ boxes.old + (if is_some result then 1 else 0) }
+    ensures comparisons { CountsFew (entries tree.old) count.old count.new }
+{
+    let (node, value) = remove_box(tree, key, count, test)?;
+    boxes.put(node);
+    Some(value)
+}
+
 // Removes the key from a tree if it is there and its value passes the test. Returns the removed value
 // with a spare box. Otherwise the tree does not change.
-pub(crate) fn remove_if<K: Ord, V, T: Test<K, V>>(
+fn remove_box<K: Ord, V, T: Test<K, V>>(
     tree: &mut Tree<K, V>,
     key: &K,
     count: &mut u64,
@@ -545,26 +575,4 @@ impl<K, V> Test<K, V> for Always {
     fn passes(&self, _key: &K, _value: &V) -> bool {
         true
     }
-}
-
-// Removes the key from a tree, if it is there. Returns the removed value with a spare box.
-#[tactic(auto, using(crate::proofs::Removed::all_removed, crate::proofs::Removed::all_pass))]
-pub(crate) fn remove<K: Ord, V>(
-    tree: &mut Tree<K, V>,
-    key: &K,
-    count: &mut u64,
-) -> Option<(Box<Node<K, V>>, V)>
-where
-    K: Drop,
-    V: Drop,
-    requires balanced { IsBalanced tree.old }
-    requires in_order { InOrder K.cmp (entries tree.old) }
-    requires fits { height tree.old < 200 }
-    ensures is { entries tree.new ≡ remove_entry (is_at (K.cmp key.now)) (entries tree.old) }
-    ensures balanced { IsBalanced tree.new }
-    ensures found { option_map (λ p. p.1) result ≡ lookup (is_at (K.cmp key.now)) (entries tree.old) }
-    ensures spare { IfSome result (λ p. p.0.value ≡ Spare) }
-    ensures counted { RaisedByAtMost (height tree.old) count.old count.new }
-{
-    remove_if(tree, key, count, &Always)
 }

@@ -7,8 +7,7 @@ ghost use Rattle.std.specs.Map.{lookup, remove_entry};
 ghost use Rattle.std.specs.BTreeMap.{is_at, insert_entry};
 ghost use Rattle.bq_index.specs.Edited.{MayReturn, edited_at, edited_by};
 ghost use Rattle.bq_index.specs.Removed.{lookup_if, removed_if};
-ghost use Rattle.bq_index.specs.Shelves.{key_from};
-ghost use Rattle.bq_index.specs.Tree.{entries, IsBalanced};
+ghost use Rattle.bq_index.specs.Tree.{entries};
 
 use super::boxes::{BoxSource, Boxes};
 use super::edit::{self, Edit, Sure, TryEdit};
@@ -47,7 +46,7 @@ impl<K: Ord, V> Model for Shelf<K, V> {
 
 impl<K: Ord + Drop, V: Drop> Shelf<K, V> {
     ghost use Rattle.std.specs.Borrow.{sem};
-    ghost use Rattle.bq_index.specs.Shelf.{ComparesFew, ComparesFewIn};
+    ghost use Rattle.bq_index.specs.Shelf.{ComparesFew};
     ghost use Rattle.bq_index.specs.ShelfLent.{LeavesEntries, LendsValue};
     ghost use Rattle.bq_index.specs.Walk.{entry_of, passes_by, passes_from, seen_by};
 
@@ -114,21 +113,7 @@ impl<K: Ord + Drop, V: Drop> Shelf<K, V> {
         ensures no_more { self.new.spare ≤ max n self.old.spare }
         ensures comparisons { self.new.comparisons ≡ self.old.comparisons }
     {
-        while self.spare() < n {
-            self.add_spare(source)?;
-        }
-        Ok(())
-    }
-
-    // Adds one spare box. `len` and `spare` together stay within `usize`.
-    fn add_spare<S: BoxSource>(&mut self, source: &mut S) -> Result<(), NoMemory>
-        ensures ok { OnOk result (self.new ≡ record self.old { spare = self.old.spare + 1 }) }
-        ensures err { OnErr result (self.new ≡ self.old) }
-    {
-        if self.len >= usize::MAX - self.spare() {
-            return Err(NoMemory);
-        }
-        self.spares.add(source)
+        self.spares.reserve_from(source, n, self.len)
     }
 
     /// Returns one spare box to the allocator, if there is one. It allocates nothing and compares
@@ -151,8 +136,13 @@ impl<K: Ord + Drop, V: Drop> Shelf<K, V> {
         ensures spare { self.new.spare + 1 ≡ self.old.spare }
         ensures comparisons { ComparesFew self.old self.new }
     {
-        let node = self.spares.take_with(key, value);
-        insert::insert(&mut self.tree, node, &mut self.comparisons);
+        insert::insert(
+            &mut self.tree,
+            &mut self.spares,
+            &mut self.comparisons,
+            key,
+            value,
+        );
         self.len += 1;
     }
 
@@ -183,9 +173,14 @@ impl<K: Ord + Drop, V: Drop> Shelf<K, V> {
         ensures ordered { InOrder K.cmp self.old.entries }
         ensures comparisons { ComparesFew self.old self.new }
     {
-        let (node, value) = remove::remove_if(&mut self.tree, key, &mut self.comparisons, test)?;
+        let value = remove::remove_if(
+            &mut self.tree,
+            &mut self.spares,
+            &mut self.comparisons,
+            key,
+            test,
+        )?;
         self.len -= 1;
-        self.spares.put(node);
         Some(value)
     }
 
@@ -234,75 +229,6 @@ impl<K: Ord + Drop, V: Drop> Shelf<K, V> {
         ensures comparisons { ComparesFew self.old self.new }
     {
         edit::edit_tree(&mut self.tree, key, &mut self.comparisons, edit)
-    }
-
-    // From here to `lowest_from`: what the trees of `Shelves` need, which have the boxes and the count
-    // of comparisons of a shelf in common. Adds an entry to a tree; it takes a spare box.
-    #[tactic(auto, using(crate::proofs::Bound::height_small, crate::proofs::Bound::height_bound))]
-    pub(crate) fn insert_into(&mut self, tree: &mut Tree<K, V>, key: K, value: V)
-        requires spare { 0 < self.old.spare }
-        requires balanced { IsBalanced tree.old }
-        requires in_order { InOrder K.cmp (entries tree.old) }
-        requires fits { length (entries tree.old) < 2 ^ 64 }
-        requires absent { lookup (is_at (K.cmp key)) (entries tree.old) ≡ None }
-        ensures is { entries tree.new ≡ insert_entry K.cmp (entries tree.old) key value }
-        ensures balanced { IsBalanced tree.new }
-        ensures entries { self.new.entries ≡ self.old.entries }
-        ensures spare { self.new.spare + 1 ≡ self.old.spare }
-        ensures comparisons { ComparesFewIn (entries tree.old) self.old self.new }
-    {
-        let node = self.spares.take_with(key, value);
-        insert::insert(tree, node, &mut self.comparisons);
-    }
-
-    // Removes the entry of a key from a tree and returns its value, if there is one. Its box becomes
-    // spare.
-    #[tactic(auto, using(crate::proofs::Bound::height_small))]
-    pub(crate) fn remove_from(&mut self, tree: &mut Tree<K, V>, key: &K) -> Option<V>
-        requires balanced { IsBalanced tree.old }
-        requires in_order { InOrder K.cmp (entries tree.old) }
-        requires fits { length (entries tree.old) + length self.old.entries + self.old.spare
-            < 2 ^ 64 }
-        ensures value { result ≡ lookup (is_at (K.cmp key.now)) (entries tree.old) }
-        ensures is { entries tree.new ≡ remove_entry (is_at (K.cmp key.now)) (entries tree.old) }
-        ensures balanced { IsBalanced tree.new }
-        ensures entries { self.new.entries ≡ self.old.entries }
-        ensures spare { self.new.spare ≡ self.old.spare + (if is_some result then 1 else 0) }
-        ensures comparisons { ComparesFewIn (entries tree.old) self.old self.new }
-    {
-        let (node, value) = remove::remove(tree, key, &mut self.comparisons)?;
-        self.spares.put(node);
-        Some(value)
-    }
-
-    // Returns the lowest key in a tree that is `key` or above.
-    #[tactic(auto, using(crate::proofs::Bound::height_bound))]
-    pub(crate) fn lowest_in(&mut self, tree: &Tree<K, V>, key: &K) -> Option<K>
-    where
-        K: Copy,
-        requires balanced { IsBalanced tree.now }
-        requires in_order { InOrder K.cmp (entries tree.now) }
-        ensures key { result ≡ key_from (K.cmp key.now) (entries tree.now) }
-        ensures entries { self.new.entries ≡ self.old.entries }
-        ensures spare { self.new.spare ≡ self.old.spare }
-        ensures comparisons { ComparesFewIn (entries tree.now) self.old self.new }
-    {
-        let (key, _) = find::next_from(tree.top(), key, &mut self.comparisons)?;
-        Some(*key)
-    }
-
-    // Returns the lowest key that is `key` or above.
-    #[tactic(auto, using(crate::proofs::Bound::height_bound))]
-    pub(crate) fn lowest_from(&mut self, key: &K) -> Option<K>
-    where
-        K: Copy,
-        ensures key { result ≡ key_from (K.cmp key.now) self.old.entries }
-        ensures entries { self.new.entries ≡ self.old.entries }
-        ensures spare { self.new.spare ≡ self.old.spare }
-        ensures comparisons { ComparesFew self.old self.new }
-    {
-        let (key, _) = find::next_from(self.tree.top(), key, &mut self.comparisons)?;
-        Some(*key)
     }
 
     /// Returns a mutable reference to the value at a key.
