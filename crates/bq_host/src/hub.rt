@@ -147,17 +147,10 @@ impl<C: Clock + Drop, K: QueueCore + Drop> Hub<C, K> {
         ensures none { result ≡ false → (waiting seat (state_of K.QueueCore self.old) ≡ []) ⊎ IsHeldUp (state_of K.QueueCore self.new) }
         ensures only { OnlyMoves self.old self.new }
     {
-        if self.held_back.is_none() && self.has_no_mail(seat) {
+        if self.held_back.is_none() && self.mails[usize::from(seat)].is_empty() {
             return self.take_new(seat, action);
         }
         self.take_kept(seat, action)
-    }
-
-    fn has_no_mail(&self, seat: Seat) -> bool
-        requires within { seat < length self.now.mails.items }
-        ensures { result ≡ true → slice_index_or self.now.mails.items seat [] ≡ [] }
-    {
-        self.mails[usize::from(seat)].is_empty()
     }
 
     // The same, wherever the answer is. Not inlined, because it reserves and initializes room for
@@ -196,20 +189,12 @@ impl<C: Clock + Drop, K: QueueCore + Drop> Hub<C, K> {
         };
         if seat == first {
             write(action, answer);
-            self.note_none_pending();
+            // Mostly none is pending: then nothing has to be delivered when the turn of the seat ends.
+            self.all_delivered = self.has_none_pending();
             return true;
         }
         self.put_back(first, answer);
         self.take_kept(seat, action)
-    }
-
-    // Notes whether an answer is pending. Mostly none is: then nothing has to be delivered when the
-    // turn of the seat ends.
-    fn note_none_pending(&mut self)
-        ensures none { self.new.all_delivered ≡ true → (state_of K.QueueCore self.new).pending ≡ [] }
-        ensures rest { self.new ≡ record self.old { all_delivered = self.new.all_delivered } }
-    {
-        self.all_delivered = self.has_none_pending();
     }
 
     // Takes the oldest answer that no seat has taken, if all of them are where the core put them.

@@ -74,15 +74,6 @@ impl Mail {
         if self.answers.len() == MAIL_ROOM {
             drop(self.take_first());
         }
-        self.push(answer);
-    }
-
-    // Appends an answer, for which there is room.
-    #[inline(always)]
-    fn push(&mut self, answer: Answer)
-        requires { length self.old < 4 }
-        ensures { self.new ≡ self.old ++ answer ∷ [] }
-    {
         self.answers.push_back(answer).unwrap();
     }
 }

@@ -23,17 +23,10 @@ pub fn new_seats<L: Line + Drop>(
         return Err(NoMemory);
     };
     for _ in 0..seats {
-        let Ok(seat) = new_seat(alloc, max_job_size) else {
+        let Ok(seat) = Attendant::new(alloc, max_job_size) else {
             return Err(NoMemory);
         };
         all.push_reserved(seat);
     }
     Ok(all)
-}
-
-fn new_seat<L: Line + Drop>(alloc: Global, max_job_size: u32) -> Result<Attendant<L>, NoMemory>
-    requires { IsTrue (is_body_size max_job_size) }
-    ensures { IfOk result (λ seat. IsNewSeat max_job_size seat) }
-{
-    Attendant::new(alloc, max_job_size)
 }

@@ -130,8 +130,9 @@ impl<C: Clock + Drop, K: QueueCore + Drop> TimedCore<C, K> {
         ensures told { HasLogged (concern_of what.now) self.new.outs self.new.time.moment
             self.old.notices self.new.notices }
     {
-        let notice = self.take_step_quietly(seat, what);
-        self.log(notice);
+        if let Some(notice) = self.take_step_quietly(seat, what) {
+            self.time.clock.tell(notice);
+        }
     }
 
     /// Takes a step at the moment that the clock reads now, and returns what has to be logged about
@@ -143,29 +144,12 @@ impl<C: Clock + Drop, K: QueueCore + Drop> TimedCore<C, K> {
         ensures told { (result, self.new.notices) ≡ told_after (concern_of what.now) self.new.outs self.new.time.moment
             self.old.notices }
     {
-        self.step(seat, what);
-        let concern = concern_of(what);
-        self.notices.after(concern, &self.outs, self.time.moment)
-    }
-
-    // Takes a step at the moment that the clock reads now.
-    fn step(&mut self, seat: Seat, what: &Step)
-        requires ready { IsReady K.machine self.old }
-        ensures ready { IsReady K.machine self.new }
-        ensures notices { self.new.notices ≡ self.old.notices }
-        ensures taken { TakesStep K.QueueCore C.Clock self.old seat what.now self.new }
-    {
         let _reading = self.time.hear();
         self.is_due_known = false;
         self.core
             .step_in_place(self.alloc, self.time.moment, seat, what, &mut self.outs);
-    }
-
-    // Logs a notice through the clock.
-    fn log(&self, notice: Option<Notice>) {
-        if let Some(notice) = notice {
-            self.time.clock.tell(notice);
-        }
+        let concern = concern_of(what);
+        self.notices.after(concern, &self.outs, self.time.moment)
     }
 
     /// Returns whether something is due by now, and takes a tick then, if it may. The clock is read

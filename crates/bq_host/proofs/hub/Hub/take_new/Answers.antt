@@ -14,13 +14,10 @@ returns-then-seat-first-clause-trace g c =
     let pending : Hub _ _ → List GivenAnswer = λ h. (state_of g.K.QueueCore h).pending in
     let old = c.args.self.now in
     let popped = c.next_new.new.self in
-    let last = c.note_none_pending.new.self in
-    let moved : last ≡ with_pending None popped.timed.outs.given last.all_delivered old =
-    c.note_none_pending.ensures.rest ∙ ap (λ (h : Hub _ _). record h { all_delivered = last.all_delivered }) c.next_new.ensures.rest in
-    let same : pending popped ≡ pending last = sym (ap pending c.note_none_pending.ensures.rest) in (
+    let now = c.has_none_pending-self.result in (
       c.in-Some.answer,
       c.write.ensures,
-      trace_taken g.K.QueueCore g.C.Clock c.args.seat c.in-Some.answer old last None _ _ moved c.requires.empty
-          (subst (λ (n : ℕ). pending old ≡ (n, c.in-Some.answer) ∷ pending popped) (sym c.if-seat-first.true) c.in-Some.ensures.pending
-          ∙ ap (λ xs. (c.args.seat, c.in-Some.answer) ∷ xs) same),
+      trace_taken g.K.QueueCore g.C.Clock c.args.seat c.in-Some.answer old _ None popped.timed.outs.given now
+          (ap (λ (h : Hub _ _). record h { all_delivered = now }) c.next_new.ensures.rest) c.requires.empty
+          (subst (λ (n : ℕ). pending old ≡ (n, c.in-Some.answer) ∷ pending popped) (sym c.if-seat-first.true) c.in-Some.ensures.pending),
     )
