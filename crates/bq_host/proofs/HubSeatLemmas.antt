@@ -1,5 +1,5 @@
 -- What the link of a seat to a hub did in an action.
-use Rattle.std.proofs.Common.{◌∙◌, ◌≡◌, ◌∷◌, Bool, true, false, List, [], append-nil, arith}
+use Rattle.std.proofs.Common.{◌∙◌, ◌≡◌, ◌++◌, Bool, true, false, List, [], append-nil, arith}
 use Rattle.bq_job.specs.declared.answer.Answer.{Answer}
 use Rattle.bq_job.specs.declared.step.Step.{Step}
 use Rattle.bq_seat.specs.declared.machine.Action.{Action}
@@ -33,28 +33,22 @@ module _ {C K : Type 0} (k : Core K) (c : Clock C) where
       → LinkTrace first submitted taken last
   link_gone first last action submitted taken h may = grind (arith, trace_none k c first.seat first.hub.now)
 
-  -- Whatever the seat did before, it then took an answer, or there was none.
+  -- Whatever the seat did before, it then took these answers.
+  link_then : (first old new : HubSeat C K) {submitted : List Step} {taken later : List Answer} → new.hub.ghost_name ≡ old.hub.ghost_name
+      → new.seat ≡ old.seat → HubTrace k c old.seat old.hub.now [] later new.hub.now → OnlyMoves old.hub.now new.hub.now
+      → LinkTrace first submitted taken old → LinkTrace first submitted (taken ++ later) new
+  link_then first old new {submitted} {taken} {later} name seat t m w = (
+    name ∙ w.0,
+    seat ∙ w.1,
+    rw (append-nil submitted) at
+        (trace_then k c first.seat old.seat first.hub.now old.hub.now new.hub.now submitted [] taken later w.1 w.2 t),
+    grind (arith, fresh_on),
+  )
+
+  -- It then took an answer, or there was none.
   pub took_further : (old new : HubSeat C K) (place next : Action) (took : Bool) → new.hub.ghost_name ≡ old.hub.ghost_name
       → new.seat ≡ old.seat → TakesInPlace (HubTrace k c old.seat) old.hub.now place took next new.hub.now
       → OnlyMoves old.hub.now new.hub.now → TakesFurther LinkTrace old place took next new
-  took_further old new place next true name seat t m = (
-    t.0,
-    t.1,
-    λ first submitted taken w. (
-      name ∙ w.0,
-      seat ∙ w.1,
-      rw (append-nil submitted) at (trace_then k c first.seat old.seat first.hub.now old.hub.now new.hub.now submitted [] taken
-          (t.0 ∷ []) w.1 w.2 t.2),
-      grind (arith, fresh_on),
-    ),
-  )
-  took_further old new place next false name seat t m = (
-    t.0,
-    λ first submitted taken w. (
-      name ∙ w.0,
-      seat ∙ w.1,
-      rw (append-nil submitted, append-nil taken) at (trace_then k c first.seat old.seat first.hub.now old.hub.now new.hub.now
-          submitted [] taken [] w.1 w.2 t.1),
-      grind (arith, fresh_on),
-    ),
-  )
+  took_further old new place next true name seat t m = (t.0, t.1, λ first submitted taken w. link_then first old new name seat t.2 m w)
+  took_further old new place next false name seat t m =
+      (t.0, λ first submitted taken w. rw (append-nil taken) at (link_then first old new name seat t.1 m w))

@@ -5,6 +5,7 @@ pub mod HubSeatLemmas
 pub mod ListLemmas
 pub mod MailLemmas
 pub mod MarkLemmas
+pub mod SettingsLemmas
 pub mod TimedRunLemmas
 pub mod TraceLemmas
 pub mod WakeLemmas

@@ -1,6 +1,6 @@
 -- Seats that are to be woken since they have mail.
 use Rattle.std.proofs.lemmas.Grind.{common_steps}
-use Rattle.std.proofs.Common.{ℕ, ◌≡◌, ◌≢◌, ◌⊎◌, inl, inr, ◌<◌, ◌==◌, Bool, true, false, List, [], ◌∷◌, ◌++◌}
+use Rattle.std.proofs.Common.{ℕ, ◌≡◌, inl, inr, ◌<◌, Bool, List, [], ◌∷◌, ◌++◌}
 use Rattle.std.proofs.Common.{length, slice_set, refl, sym, ap, ◌∙◌, subst, arith, append_assoc}
 use Rattle.std.specs.Prelude.{slice_index_or}
 use Rattle.std.proofs.lemmas.Bool.{cases_lt}
@@ -44,28 +44,25 @@ wakes_posted old new seat answer w many put = record {
   ];
 }
 
+nothing_left : (xs ys : List Answer) → xs ++ ys ≡ [] → ys ≡ []
+nothing_left [] ys e = e
+nothing_left (x ∷ xs) ys e = absurd cc
+
 -- A seat took the first answer of its mail, or there was none.
 pub wakes_taken : (mails : List (List Answer)) (i : ℕ) (old rest taken : List Answer) (w : WakeList) → i < length mails
     → old ≡ slice_index_or mails i old → old ≡ taken ++ rest → Wakes mails (slice_set mails i rest) w w
 wakes_taken mails i old rest taken w below at is = record {
   seats = refl;
   kept = λ t. omega arith;
-  mail = λ t there empty. inl (by t empty (eqb_tells i t));
+  mail = λ t there empty. inl (elim (eqb_tells i t) [
+    | inl same ↦
+        let was : taken ++ rest ≡ [] =
+        sym is ∙ at ∙ get_or_default mails i old [] below ∙ ap (λ n. slice_index_or mails n []) same.1 ∙ empty in
+        ap (λ n. slice_index_or (slice_set mails i rest) n []) (sym same.1) ∙ get_or-set_same mails i rest [] below
+        ∙ nothing_left taken rest was
+    | inr differs ↦ get_or-set_other mails i t rest [] (λ e. differs.1 (sym e)) ∙ empty
+  ]);
 }
-  where
-    none : old ≡ [] → rest ≡ []
-    none empty = nothing_left taken rest (sym is ∙ empty) where
-      nothing_left : (xs ys : List Answer) → xs ++ ys ≡ [] → ys ≡ []
-      nothing_left [] ys e = e
-      nothing_left (x ∷ xs) ys e = absurd cc
-
-    by : (t : ℕ) → slice_index_or mails t [] ≡ [] → ((i == t) ≡ true) × (i ≡ t) ⊎ ((i == t) ≡ false) × (i ≢ t)
-        → slice_index_or (slice_set mails i rest) t [] ≡ []
-    by t empty (inl (_, same)) =
-        let before : slice_index_or mails i [] ≡ old = get_or_default mails i [] old below ∙ sym at in
-        let was : old ≡ [] = sym before ∙ ap (λ n. slice_index_or mails n []) same ∙ empty in
-        ap (λ n. slice_index_or (slice_set mails i rest) n []) (sym same) ∙ get_or-set_same mails i rest [] below ∙ none was
-    by t empty (inr (_, differs)) = get_or-set_other mails i t rest [] (λ e. differs (sym e)) ∙ empty
 
 -- The same after an answer was taken out to be put into a mail: `next` and `mid` are what was before.
 pub wakes_put : (first mails next last : List (List Answer)) (old w mid new : WakeList) (seat : ℕ) (answer : Answer)

@@ -1,6 +1,6 @@
-use Rattle.std.proofs.Common.{◌≡◌, ◌∷◌, ◌∙◌, ℕ, List, None, ap, subst, sym, arith}
+use Rattle.std.proofs.Common.{◌≡◌, ◌∷◌, ℕ, List, None, ap, subst, sym, arith}
 use Rattle.bq_job.specs.machine.Dispatch.{GivenAnswer}
-use Rattle.bq_host.specs.Hubs.{state_of, with_pending}
+use Rattle.bq_host.specs.Hubs.{state_of}
 use Rattle.bq_host.specs.declared.hub.Hub.{Hub}
 use Rattle.bq_host.proofs.HubLemmas.{trace_moved, trace_taken}
 use Rattle.bq_host.proofs.hub.Hub.take_new.Goals as goal
