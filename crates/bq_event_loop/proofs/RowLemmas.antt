@@ -1,7 +1,7 @@
 -- One seat of a row, or its door, was changed, and the others stayed as they were.
 use Rattle.std.proofs.lemmas.Grind.{common_steps}
 use Rattle.std.proofs.Common.{◌≡◌, ◌≢◌, ℕ, zero, suc, ◌<◌, List, [], ◌∷◌, ◌++◌, length}
-use Rattle.std.proofs.Common.{sym, ◌∙◌, arith, subst, slice_set, slice_index_or}
+use Rattle.std.proofs.Common.{refl, sym, ◌∙◌, arith, subst, slice_set, slice_index_or}
 use Rattle.std.specs.List.{All}
 use Rattle.std.proofs.lemmas.Bool.{eqb-true, eqb-false}
 use Rattle.std.proofs.lemmas.List.{get_or-set_other, get_or-set_same, get_or_default, length-set, set-get_or}
@@ -10,10 +10,10 @@ use Rattle.bq_job.specs.declared.step.Step.{Step}
 use Rattle.bq_job.specs.promise.LineSteps.{LineSeen}
 use Rattle.bq_line.specs.Tending.{AreSame, DoorSeen, IsNewDoor, IsNewSeat, IsPlaced, Tends, door_seen}
 use Rattle.bq_line.specs.declared.attendant.Attendant.{Attendant}
-use Rattle.bq_line.proofs.TendingLemmas.{tended_new}
+use Rattle.bq_line.proofs.TendingLemmas.{tended_new, tends_still}
 use Rattle.bq_event_loop.specs.Meanings.{Door, Line}
 use Rattle.bq_event_loop.specs.Still.{IsStill}
-use Rattle.bq_event_loop.specs.Rows.{AllRested, AllTended, IsSomehowTended}
+use Rattle.bq_event_loop.specs.Rows.{AllTend, AllTended}
 use Rattle.bq_event_loop.specs.declared.row.Row.{Row}
 
 -- A seat rested, and rested again.
@@ -29,15 +29,10 @@ pub still_there : {L : Type 0} (l : Line L) (seats : List (Attendant L)) (i : �
     → i < length seats → IsStill l new mail → IsStill l (slice_index_or (slice_set seats i new) i a) mail
 still_there l seats i new a mail below still = grind (arith, common_steps)
 
-somehow_on : {L : Type 0} (l : Line L) (a b : Attendant L) (at_a at_b : DoorSeen) (submitted : List Step) (taken : List Answer)
-    → Tends l.seen a at_a submitted taken b at_b → IsSomehowTended l a at_a → IsSomehowTended l b at_b
-somehow_on l a b at_a at_b submitted taken h t =
-    record {
-      max_job_size = t.max_job_size;
-      submitted = t.submitted ++ submitted;
-      taken = t.taken ++ taken;
-      tended = (h t.max_job_size t.submitted t.taken t.tended).0;
-    }
+-- A seat that submitted and took nothing stays as it was.
+pub tends_none : {L : Type 0} (l : Line L) (a : Attendant L) (door : DoorSeen) (submitted : List Step) (taken : List Answer)
+    → submitted ≡ [] → taken ≡ [] → Tends l.seen a door submitted taken a door
+tends_none l a door submitted taken none_submitted none_taken = rw (none_submitted, none_taken) (tends_still l.seen a door)
 
 -- Doors that are as they were are the same.
 pub same_selves : {D : Type 0} (same : D → D → Type 0) → ((d : D) → same d d) → (doors : List D) → AreSame same doors doors
@@ -67,49 +62,54 @@ pub set_each : {L D : Type 0} (P : ℕ → Attendant L → D → Type 0) (seats 
 set_each {L} {D} P seats doors i new next x y below doored own others t here =
     grind (arith, eqb-true, eqb-false, get_or-set_other, get_or-set_same)
 
--- A property of a seat and its door that were looked up holds for them in their lists.
-pub looked_up : {L D : Type 0} (P : Attendant L → D → Type 0) (seats : List (Attendant L)) (doors : List D) (i : ℕ) (a x : Attendant L)
-    (b y : D) → i < length seats → length doors ≡ length seats → a ≡ slice_index_or seats i a → b ≡ slice_index_or doors i b
-    → P (slice_index_or seats i x) (slice_index_or doors i y) → P a b
-looked_up {L} {D} P seats doors i a x b y below doored a_is b_is h = grind (arith, common_steps)
+module _ {L D : Type 0} {l : Line L} {d : Door D L} where
+  -- Nothing was done with a row.
+  pub rested_none : {seats : List (Attendant L)} {doors : List D} → AllTend l d (λ t. []) (λ t. []) seats doors seats doors
+  rested_none = grind (arith, common_steps)
 
-module _ {L D : Type 0} (l : Line L) (d : Door D L) where
-  -- A seat acted, with its door.
-  pub tended_set : (seats : List (Attendant L)) (doors : List D) (i : ℕ) (a new : Attendant L) (x next : D) (submitted : List Step)
-      (taken : List Answer) → i < length seats → AllTended l d seats doors → a ≡ slice_index_or seats i a → x ≡ slice_index_or doors i x
-      → Tends l.seen a (door_seen d x) submitted taken new (door_seen d next) → AllTended l d (slice_set seats i new)
-      (slice_set doors i next)
-  tended_set seats doors i a new x next submitted taken below all a_is x_is tends = record {
-    doored = length-set doors i next ∙ all.doored ∙ sym (length-set seats i new);
-    each = λ t here y z. set_each (λ (n : ℕ) (u : Attendant L) (v : D). IsSomehowTended l u (door_seen d v)) seats doors i new next y z
-        below all.doored
-        (somehow_on l a new (door_seen d x) (door_seen d next) submitted taken tends
-        (looked_up (λ (u : Attendant L) (v : D). IsSomehowTended l u (door_seen d v))
-        seats doors i a a x x below all.doored a_is x_is (all.each i below a x)))
-        (λ n differs there. all.each n there y z) t (subst (λ (m : ℕ). t < m) (length-set seats i new) here);
+  -- The seats rested, and rested again.
+  rested_then : {firsts seats more : List (Attendant L)} {first_doors doors later : List D}
+      → AllTend l d (λ t. []) (λ t. []) firsts first_doors seats doors → AllTend l d (λ t. []) (λ t. []) seats doors more later
+      → AllTend l d (λ t. []) (λ t. []) firsts first_doors more later
+  rested_then {firsts} {seats} h k = record {
+    many = k.many ∙ h.many;
+    doored = k.doored ∙ h.doored;
+    each = λ t below a x. tends_then l.seen _ _ _ _ _ _ (h.each t below a x) (k.each t (subst (λ n. t < n) (sym h.many) below) a x);
+    same_doors = λ handed_in e. k.same_doors handed_in (h.same_doors handed_in e);
   }
 
-  -- A seat rested with its door.
-  rested_set : (firsts seats : List (Attendant L)) (first_doors doors : List D) (i : ℕ) (a new : Attendant L) (x next : D)
-      → i < length seats → length doors ≡ length seats → a ≡ slice_index_or seats i a → x ≡ slice_index_or doors i x
-      → Tends l.seen a (door_seen d x) [] [] new (door_seen d next) → ((first : D) → d.same first x → d.same first next)
-      → AllRested l d firsts first_doors seats doors
-      → AllRested l d firsts first_doors (slice_set seats i new) (slice_set doors i next)
-  rested_set firsts seats first_doors doors i a new x next below doored a_is x_is tends on all = record {
-    many = length-set seats i new ∙ all.many;
-    doored = length-set doors i next ∙ all.doored;
-    each = λ t here y z. set_each (λ (n : ℕ) (u : Attendant L) (v : D).
-        Tends l.seen (slice_index_or firsts n y) (door_seen d (slice_index_or first_doors n z)) [] [] u
-        (door_seen d v)) seats doors i new next y z
-        below doored
-        (tends_then l.seen (slice_index_or firsts i y) a new (door_seen d (slice_index_or first_doors i z)) (door_seen d x)
-        (door_seen d next)
-        (looked_up (λ (u : Attendant L) (v : D). Tends l.seen (slice_index_or firsts i y) (door_seen d (slice_index_or first_doors i z))
-        [] [] u
-        (door_seen d v)) seats doors i a y x z below doored a_is x_is (all.each i (subst (λ (m : ℕ). i < m) all.many below) y z)) tends)
-        (λ n differs there. all.each n (subst (λ (m : ℕ). n < m) all.many there) y z) t (subst (λ (m : ℕ). t < m) (sym all.many) here);
-    same_doors = λ handed_in h. same_set d.same handed_in doors i x next
-        (subst (λ (z : D). (first : D) → d.same first z → d.same first next) x_is on) (all.same_doors handed_in h);
+  -- Seats that went on by the rules have done something by the rules.
+  pub tended_on : {did : ℕ → List Step} {took : ℕ → List Answer} {firsts seats : List (Attendant L)} {first_doors doors : List D}
+      → AllTended l d firsts first_doors → AllTend l d did took firsts first_doors seats doors → AllTended l d seats doors
+  tended_on {did} {took} all h = record {
+    doored = h.doored ∙ all.doored ∙ sym h.many;
+    each = λ t below a x.
+        let here = subst (λ n. t < n) h.many below in
+        let s = all.each t here a x in
+        record {
+          max_job_size = s.max_job_size;
+          submitted = s.submitted ++ did t;
+          taken = s.taken ++ took t;
+          tended = (h.each t here a x s.max_job_size s.submitted s.taken s.tended).0;
+        };
+  }
+
+  -- One seat went on with its door, which were looked up, and the others stayed as they were.
+  pub tend_set : (did : ℕ → List Step) (took : ℕ → List Answer) {seats : List (Attendant L)} {doors : List D} {i : ℕ} {a new : Attendant L}
+      {x : D} (next : D) → i < length seats → length doors ≡ length seats → a ≡ slice_index_or seats i a → x ≡ slice_index_or doors i x
+      → Tends l.seen a (door_seen d x) (did i) (took i) new (door_seen d next)
+      → ((t : ℕ) → t ≢ i → (did t ≡ []) × (took t ≡ [])) → ((first : D) → d.same first x → d.same first next)
+      → AllTend l d did took seats doors (slice_set seats i new) (slice_set doors i next)
+  tend_set did took {seats} {doors} {i} {a} {new} {x} next below doored a_is x_is own others on = record {
+    many = length-set seats i new;
+    doored = length-set doors i next;
+    each = λ t here y z. set_each (λ (n : ℕ) (u : Attendant L) (v : D). Tends l.seen (slice_index_or seats n y)
+        (door_seen d (slice_index_or doors n z)) (did n) (took n) u (door_seen d v)) seats doors i new next y z below doored
+        (let seat_is : slice_index_or seats i y ≡ a = sym (a_is ∙ get_or_default seats i a y below) in
+        let door_is : slice_index_or doors i z ≡ x = sym (x_is ∙ get_or_default doors i x z (omega (arith, doored, below))) in
+        rw (seat_is, door_is) own)
+        (λ n differs there. tends_none l _ _ _ _ (others n differs).0 (others n differs).1) t here;
+    same_doors = λ handed_in h. same_set d.same handed_in doors i x next (rw (← x_is) on) h;
   }
 
 module _ {L D : Type 0} {l : Line L} {d : Door D L} {seats : List (Attendant L)} {doors : List D} {i : ℕ} where
@@ -118,16 +118,18 @@ module _ {L D : Type 0} {l : Line L} {d : Door D L} {seats : List (Attendant L)}
       → AllTended l d seats doors → a ≡ slice_index_or seats i a → x ≡ slice_index_or doors i x
       → Tends l.seen a (door_seen d x) [] [] new (door_seen d next) → ((first : D) → d.same first x → d.same first next)
       → AllTended l d (slice_set seats i new) (slice_set doors i next)
-      × ((first : Row L D) → AllRested l d first.seats.items first.doors.items seats doors
-      → AllRested l d first.seats.items first.doors.items (slice_set seats i new) (slice_set doors i next))
-  keeps_set {a} {new} {x} {next} below all a_is x_is tends on = search (tended_set, rested_set)
+      × ((first : Row L D) → AllTend l d (λ t. []) (λ t. []) first.seats.items first.doors.items seats doors
+      → AllTend l d (λ t. []) (λ t. []) first.seats.items first.doors.items (slice_set seats i new) (slice_set doors i next))
+  keeps_set {a} {new} {x} {next} below all a_is x_is tends on =
+      let set = tend_set (λ t. []) (λ t. []) next below all.doored a_is x_is tends (λ t differs. (refl, refl)) on in
+      (tended_on all set, λ first h. rested_then h set)
 
   -- The same if nothing was done with the door.
   pub keeps_seat : {a new : Attendant L} → i < length seats
       → AllTended l d seats doors → a ≡ slice_index_or seats i a → ((door : DoorSeen) → Tends l.seen a door [] [] new door)
       → AllTended l d (slice_set seats i new) doors
-      × ((first : Row L D) → AllRested l d first.seats.items first.doors.items seats doors
-      → AllRested l d first.seats.items first.doors.items (slice_set seats i new) doors)
+      × ((first : Row L D) → AllTend l d (λ t. []) (λ t. []) first.seats.items first.doors.items seats doors
+      → AllTend l d (λ t. []) (λ t. []) first.seats.items first.doors.items (slice_set seats i new) doors)
   keeps_seat {a} {new} below all is tends =
       let there : i < length doors = omega (arith, all.doored, below) in
       let y = some_one doors i there in
@@ -141,10 +143,6 @@ module _ {L D : Type 0} {l : Line L} {d : Door D L} {seats : List (Attendant L)}
   placed_there {a} {x} below all a_is x_is = rw (a_is, x_is) (all.each i below a x).tended.placed
 
 module _ {L D : Type 0} (l : Line L) (d : Door D L) where
-  -- Nothing was done with a row.
-  pub rested_none : (seats : List (Attendant L)) (doors : List D) → AllRested l d seats doors seats doors
-  rested_none seats doors = grind (arith, common_steps)
-
   -- All seats and doors are new.
   pub tended_at_first : {size : ℕ} {seats : List (Attendant L)} {doors : List D} → length doors ≡ length seats → All (IsNewSeat size) seats
       → All (λ x. IsNewDoor (door_seen d x)) doors → AllTended l d seats doors

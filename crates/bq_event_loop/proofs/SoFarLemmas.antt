@@ -22,16 +22,16 @@ use Rattle.bq_job.specs.promise.Runs.{answers_to}
 use Rattle.bq_job.specs.promise.SoFar.{AreDoorsOwedSoFar, IsControlSoFar, IsDoorOwedSoFar, IsOutOwed}
 use Rattle.bq_host.specs.Compared.{AreCompared}
 use Rattle.bq_host.specs.Hubs.{state_of}
-use Rattle.bq_host.specs.MailStates.{IsNewMailState, waiting}
+use Rattle.bq_host.specs.MailStates.{waiting}
 use Rattle.bq_host.proofs.HasComparedLemmas.{compared_all}
-use Rattle.bq_host.proofs.TraceLemmas.{core_none, new_mails_are, none_waits}
+use Rattle.bq_host.proofs.TraceLemmas.{core_none, new_mails_are, none_waits, order_new}
 use Rattle.bq_job.proofs.JoinLemmas.{doors_owed, seat_owed_so_far}
 use Rattle.bq_line.proofs.CountedLemmas.{got_few}
 use Rattle.bq_line.proofs.LineSoFarLemmas.{line_so_far}
 use Rattle.bq_line.proofs.TendingLemmas.{tended_new}
 use Rattle.bq_line.specs.ControlRead.{IsReadToEnd}
 use Rattle.bq_line.specs.Attending.{IsAt}
-use Rattle.bq_line.specs.Tending.{AreSame, DoorSeen, IsDoorServed, IsNewDoor, IsNewSeat, IsTended, door_seen, ended_lines}
+use Rattle.bq_line.specs.Tending.{DoorSeen, IsDoorServed, IsTended, door_seen, ended_lines}
 use Rattle.bq_line.specs.declared.attendant.Attendant.{Attendant}
 use Rattle.bq_line.specs.declared.attendant.SeatPhase.{SeatPhase}
 use Rattle.bq_line.specs.declared.attendant.SeatPhase.TheVariants as phases
@@ -39,7 +39,9 @@ use Rattle.bq_seat.specs.declared.machine.SeatMachine.{SeatMachine}
 use Rattle.bq_line.specs.ControlTold.{HasTold, IsAtStage}
 use Rattle.bq_event_loop.specs.Meanings.{Clock, Control, Core, Door, Line}
 use Rattle.bq_event_loop.specs.Rows.{AreDone}
-use Rattle.bq_event_loop.specs.Serving.{IsServing, LoopTrace}
+use Rattle.bq_event_loop.specs.NewLoops.{IsNewRun}
+use Rattle.bq_event_loop.specs.Serving.{AreReady, AreServed, IsServing}
+use Rattle.bq_event_loop.specs.declared.turns.Turns.{Ghosts as Turns}
 use Rattle.bq_host.specs.declared.hub.Hub.{Hub}
 use Rattle.bq_event_loop.specs.declared.row.Row.{Row}
 use Rattle.bq_event_loop.specs.SoFar.{Beginning, IsLoopSoFar, doors_so_far, line_out}
@@ -47,7 +49,7 @@ use Rattle.bq_line.specs.declared.control_steps.ControlSteps.{ControlSteps}
 use Rattle.bq_line.specs.declared.control_steps.Stage.{Stage}
 use Rattle.bq_line.specs.declared.control_steps.Stage.TheVariants as stages
 use Rattle.bq_line.proofs.ToldLemmas.{IsToldSo, told_all}
-use Rattle.bq_event_loop.proofs.RowLemmas.{some_one}
+use Rattle.bq_event_loop.proofs.RowLemmas.{same_selves, some_one, tended_at_first}
 use Rattle.bq_event_loop.proofs.SessionsLemmas.{StepsKeepSettings, run_keeps, up_to}
 
 -- ---- the control line
@@ -119,74 +121,60 @@ module _ {L D : Type 0} (l : Line L) (d : Door D L) where
 
 -- ---- a run
 
-module _ {L D C I K : Type 0} {k : Core K} {c : Clock C} {l : Line L} {d : Door D L} {i : Control I} where
+module _ {L D C I K T : Type 0} {k : Core K} {l : Line L} {d : Door D L} {i : Control I} {t : Turns T}
+    {begun : Beginning D C} {turns : T} {core : Hub C K} {row : Row L D} {control : ControlSteps I}
+    (new : IsNewRun k d i t begun turns core row control) where
+  -- The core and the seats of a run that begins are ready.
+  pub ready_first : AreReady k l d core row
+  ready_first = (
+    order_new begun.settings (state_of k core) new.made,
+    tended_at_first l d (new.doored ∙ sym new.many) new.new_seats new.new_doors,
+    new_mails_are begun.settings (state_of k core) new.made ∙ sym new.many,
+    omega (arith, new.many, new.fits),
+  )
+
   -- Nothing was served yet.
-  pub serving_first : {begun : Beginning D C} {core : Hub C K} {row : Row L D} {control : ControlSteps I}
-      → c.given begun.clock [] core.timed.time.clock → IsNewMailState begun.settings (state_of k core)
-      → HasTold i begun.left begun.may_fail control []
-      → length row.seats.items ≡ begun.settings.seats → length row.doors.items ≡ begun.settings.seats
-      → All (IsNewSeat begun.settings.max_job_size) row.seats.items → All (λ x. IsNewDoor (door_seen d x)) row.doors.items
-      → AreSame d.same begun.doors row.doors.items → IsServing k c l d i begun core row control
-  serving_first {begun} {core} {row} none new submits many doored new_seats new_doors same_doors = record {
-    first = state_of k core;
+  pub serving_first : {c : Clock C} → ((clock : C) → c.given clock [] clock) → ((door : D) → d.same door door) → IsServing k c l d i [] begun core row control
+  serving_first {c} none self = record {
     told = [];
-    readings = [];
-    is_new = new;
-    gave = none;
-    submits = submits;
-    many = many;
+    submits = new.untold;
     served = record {
+      first = state_of k core;
+      readings = [];
       history = [];
+      more = [];
+      begins = refl;
       took = λ t. [];
+      is_new = new.made;
+      gave = rw new.clock_is (none begun.clock);
       trace = core_none (state_of k core);
-      mailed = new_mails_are begun.settings (state_of k core) new ∙ sym many;
-      doored = doored ∙ sym many;
+      many = new.many;
+      doored = new.doored;
       each = λ t below a x. tended_new l.seen begun.settings.max_job_size (slice_index_or row.seats.items t a)
-          (door_seen d (slice_index_or row.doors.items t x)) (new_seats t a below) (new_doors t x (omega arith));
-      few = λ t below none a x. omega arith;
+          (door_seen d (slice_index_or row.doors.items t x)) (new.new_seats t a below) (new.new_doors t x (omega (arith, new.many, new.doored, below)));
+      few = λ t below a x. omega arith;
       control_is = refl;
       nobody_else = λ t above. refl;
+      same_doors = rw new.doors_are (same_selves d.same self begun.doors);
     };
-    same_doors = same_doors;
   }
 
-  -- The service went on.
-  pub serving_on : {begun : Beginning D C} {old new : Hub C K} {row later : Row L D} {control next : ControlSteps I}
-      → IsServing k c l d i begun old row control → LoopTrace k c l d i old row control new later next
-      → IsServing k c l d i begun new later next
-  serving_on {begun} s on = record {
-    first = s.first;
-    told = s.told ++ on.told;
-    readings = s.readings ++ on.serves.reads;
-    is_new = s.is_new;
-    gave = on.serves.gave begun.clock s.readings s.gave;
-    submits = on.tells.on begun.left begun.may_fail s.told s.submits;
-    many = on.serves.many ∙ s.many;
-    served = (on.serves.served begun.settings.max_job_size s.told s.first s.readings s.served).served;
-    same_doors = on.serves.same_doors begun.doors s.same_doors;
-  }
-
-  -- A run that began so began the same way by another name.
-  pub serving_since : {begun first : Beginning D C} {core : Hub C K} {row : Row L D} {control : ControlSteps I} → begun ≡ first
-      → IsServing k c l d i begun core row control → IsServing k c l d i first core row control
-  serving_since {begun} {first} {core} {row} {control} same s = subst (λ b. IsServing k c l d i b core row control) same s
-
-module _ {L D C I K : Type 0} {k : Core K} {c : Clock C} {l : Line L} {d : Door D L} {i : Control I} {begun : Beginning D C}
-    {core : Hub C K} {row : Row L D} {control : ControlSteps I} (s : IsServing k c l d i begun core row control) where
+module _ {L D C K : Type 0} {k : Core K} {c : Clock C} {l : Line L} {d : Door D L} {begun : Beginning D C}
+    {earlier : List Entry} {told : List Step} {core : Hub C K} {row : Row L D} (s : AreServed k c l d earlier begun told core row) where
   -- One history of all steps, each with a reading of its own.
-  ran : IsRun begun.settings s.readings s.served.history s.served.trace.given (k.machine core.timed.core)
+  ran : IsRun begun.settings s.readings s.history s.trace.given (k.machine core.timed.core)
   ran = grind arith
 
   -- Along it, the core stayed within its bounds.
-  within_bounds : AreCompared (new_machine begun.settings) s.served.history s.served.trace.given (k.machine core.timed.core) 0
+  within_bounds : AreCompared (new_machine begun.settings) s.history s.trace.given (k.machine core.timed.core) 0
       (k.comparisons core.timed.core)
   within_bounds = grind (arith, compared_all s.first (state_of k core))
 
   -- Its steps are those of the seats, and of the control line after them.
-  control_steps : steps_at begun.settings.seats s.served.history ≡ s.told
+  control_steps : steps_at begun.settings.seats s.history ≡ told
   control_steps = grind arith
 
-  no_others : AreSeatsUpTo begun.settings.seats s.served.history
+  no_others : AreSeatsUpTo begun.settings.seats s.history
   no_others = grind (arith, up_to)
 
   -- The core's settings are those that it began with.
@@ -196,23 +184,23 @@ module _ {L D C I K : Type 0} {k : Core K} {c : Clock C} {l : Line L} {d : Door 
   -- a seat with its door, the answers that it was given, and how many of them are `Closed`
   record IsSeatSoFar (t : ℕ) (a : Attendant L) (door : DoorSeen) : Type 0 where
     within : t < begun.settings.seats
-    tended : IsTended l.seen begun.settings.max_job_size a door (steps_at t s.served.history) (s.served.took t)
-    answers_are : answers_to t s.served.trace.given ≡ s.served.took t ++ waiting t (state_of k core)
-    few : closes (s.served.took t) ≤ ended_lines a door
+    tended : IsTended l.seen begun.settings.max_job_size a door (steps_at t s.history) (s.took t)
+    answers_are : answers_to t s.trace.given ≡ s.took t ++ waiting t (state_of k core)
+    few : closes (s.took t) ≤ ended_lines a door
 
   seat_served : (t : ℕ) → t < length row.seats.items → (a : Attendant L) (x : D)
       → IsSeatSoFar t (slice_index_or row.seats.items t a) (door_seen d (slice_index_or row.doors.items t x))
-  seat_served t below a x = grind (arith, none_waits)
+  seat_served t below a x = grind (arith, none_waits, new_mails_are begun.settings s.first s.is_new)
 
   -- The connections of a seat that have ended are owed what their clients received, and an open one is owed a beginning of it.
   seat_so_far : (t : ℕ) (a : Attendant L) (x : D) → IsSeatSoFar t a (door_seen d x)
       → IsDoorOwedSoFar begun.settings.max_job_size
-      (record { over = d.lines_over x; out = line_out l.seen a.phase; is_out = d.is_out x }) (steps_at t s.served.history)
-      (answers_to t s.served.trace.given)
+      (record { over = d.lines_over x; out = line_out l.seen a.phase; is_out = d.is_out x }) (steps_at t s.history)
+      (answers_to t s.trace.given)
   seat_so_far t a x g =
       let did = g.tended in
       let owed = seat_owed_so_far begun.settings begun.settings.max_job_size t (d.lines_over x) did.before did.now did.got
-      (did.getting ++ waiting t (state_of k core)) s.served.history s.served.trace.given (k.machine core.timed.core) g.within ran.runs
+      (did.getting ++ waiting t (state_of k core)) s.history s.trace.given (k.machine core.timed.core) g.within ran.runs
       did.submitted_is (grind (arith, append_assoc)) (got_few l.seen _ _ _ _ _ g.tended g.few) did.of_lines in
       search (out_so_far, g.answers_are, g.tended)
 
@@ -221,7 +209,7 @@ module _ {L D C I K : Type 0} {k : Core K} {c : Clock C} {l : Line L} {d : Door 
       → ((j t : ℕ) → t ≡ n + j → j < length seats → (a : Attendant L) (x : D)
       → IsSeatSoFar t (slice_index_or seats j a) (door_seen d (slice_index_or doors j x)))
       → AreDoorsOwedSoFar begun.settings.max_job_size n
-      (doors_so_far l.seen d.lines_over d.is_out seats doors) s.served.history s.served.trace.given
+      (doors_so_far l.seen d.lines_over d.is_out seats doors) s.history s.trace.given
   doors_begun n [] doors h = grind arith
   doors_begun n (a ∷ seats) [] h = tt
   doors_begun n (a ∷ seats) (x ∷ doors) h = (
@@ -230,20 +218,21 @@ module _ {L D C I K : Type 0} {k : Core K} {c : Clock C} {l : Line L} {d : Door 
   )
 
   -- The promise so far.
-  pub serving_so_far : IsLoopSoFar c.given l.seen d.lines_over d.is_out d.same k.machine k.comparisons begun row.seats.items
+  pub serving_so_far : {I : Type 0} {i : Control I} {control : ControlSteps I} → HasTold i begun.left begun.may_fail control told
+      → IsLoopSoFar c.given l.seen d.lines_over d.is_out d.same k.machine k.comparisons begun row.seats.items
       row.doors.items core.timed.time.clock (i.seen control.input) (i.remaining control.input) core.timed.core
-  serving_so_far =
-      let b = control_begun i begun.left begun.may_fail control s.told s.submits in
+  serving_so_far {I} {i} {control} submits =
+      let b = control_begun i begun.left begun.may_fail control told submits in
       record {
         readings = s.readings;
         gave = s.gave;
         read = b.read;
         fault = b.fault;
         history = record {
-          history = s.served.history;
-          given = s.served.trace.given;
+          history = s.history;
+          given = s.trace.given;
           run = ran;
-          many = many_doors l d row.seats.items row.doors.items s.served.doored ∙ s.many;
+          many = many_doors l d row.seats.items row.doors.items (s.doored ∙ sym s.many) ∙ s.many;
           of_doors = doors_begun 0 row.seats.items row.doors.items (λ j t is below a x.
               rw (let e : t ≡ j = omega (arith, is) in e) (seat_served j below a x));
           of_control = grind arith;
@@ -256,12 +245,12 @@ module _ {L D C I K : Type 0} {k : Core K} {c : Clock C} {l : Line L} {d : Door 
   module _ (all_done : AreDone row.seats.items) where
     -- a door whose seat is done, and its answers
     record IsDoorDone (t : ℕ) (door : DoorSeen) : Type 0 where
-      served : IsDoorServed begun.settings.max_job_size door (steps_at t s.served.history) (s.served.took t)
-      answers_are : answers_to t s.served.trace.given ≡ s.served.took t ++ waiting t (state_of k core)
+      served : IsDoorServed begun.settings.max_job_size door (steps_at t s.history) (s.took t)
+      answers_are : answers_to t s.trace.given ≡ s.took t ++ waiting t (state_of k core)
 
     door_done : (t : ℕ) → t < length row.doors.items → (x : D) → IsDoorDone t (door_seen d (slice_index_or row.doors.items t x))
     door_done t below x =
-        let here : t < length row.seats.items = let e = s.served.doored in omega arith in
+        let here : t < length row.seats.items = omega (arith, s.many, s.doored, below) in
         let a = some_one row.seats.items t here in
         let g = seat_served t here a x in
         search (arith, common_steps)
@@ -269,35 +258,36 @@ module _ {L D C I K : Type 0} {k : Core K} {c : Clock C} {l : Line L} {d : Door 
     -- the doors from this seat on
     doors_tied : (n : ℕ) (rest : List D)
         → ((j t : ℕ) → t ≡ n + j → j < length rest → (x : D) → IsDoorDone t (door_seen d (slice_index_or rest j x)))
-        → AreTied begun.settings.max_job_size n (map d.lines_over rest) (λ t. steps_at t s.served.history) s.served.took
-        (λ t. waiting t (state_of k core)) s.served.history s.served.trace.given
+        → AreTied begun.settings.max_job_size n (map d.lines_over rest) (λ t. steps_at t s.history) s.took
+        (λ t. waiting t (state_of k core)) s.history s.trace.given
     doors_tied n [] h = tt
     doors_tied n (x ∷ rest) h =
         let here = h 0 n (omega arith) (omega arith) x in
         (refl, here.answers_are, here.served.done, doors_tied (suc n) rest (λ j t is below. h (suc j) t (omega arith) (omega arith)))
 
     -- The promise of a run that is over.
-    pub record IsLoopOver : Type 0 where
-      pub told : IsToldSo i begun.left begun.may_fail control s.told
+    pub record IsLoopOver {I : Type 0} (i : Control I) (control : ControlSteps I) : Type 0 where
+      pub told_is : IsToldSo i begun.left begun.may_fail control told
       pub history : IsHistoryOf begun.settings (map d.lines_over row.doors.items) (i.seen control.input).text
           (i.seen control.input).failed s.readings (k.machine core.timed.core)
       pub compared : AreCompared (new_machine begun.settings) history.history history.given (k.machine core.timed.core) 0
           (k.comparisons core.timed.core)
       pub at_end : All (λ (x : D). (d.is_out x ≡ false) × (d.is_at_end x ≡ true)) row.doors.items
 
-    pub serving_over : control.stage ≡ stages.Over → IsLoopOver
-    serving_over over =
-        let t = told_all over s.submits in
-        let many = length-map row.doors.items d.lines_over ∙ s.served.doored ∙ s.many in
+    pub serving_over : {I : Type 0} {i : Control I} {control : ControlSteps I} → HasTold i begun.left begun.may_fail control told
+        → control.stage ≡ stages.Over → IsLoopOver i control
+    serving_over {I} {i} {control} submits over =
+        let t = told_all over submits in
+        let many = length-map row.doors.items d.lines_over ∙ s.doored in
         record {
-          told = t;
+          told_is = t;
           history = record {
-            history = s.served.history;
-            given = s.served.trace.given;
+            history = s.history;
+            given = s.trace.given;
             run = ran;
             many = many;
             of_doors = doors_owed begun.settings begun.settings.max_job_size 0 (map d.lines_over row.doors.items)
-                (λ n. steps_at n s.served.history) s.served.took (λ n. waiting n (state_of k core)) s.served.history s.served.trace.given
+                (λ n. steps_at n s.history) s.took (λ n. waiting n (state_of k core)) s.history s.trace.given
                 (k.machine core.timed.core) (omega (arith, many)) ran.runs
                 (doors_tied 0 row.doors.items (λ j t is below x. rw (let e : t ≡ j = omega (arith, is) in e) (door_done j below x)));
             of_control = control_steps ∙ t.done;

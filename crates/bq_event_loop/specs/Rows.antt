@@ -24,19 +24,20 @@ pub record AllTended {L D : Type 0} (l : Line L) (d : Door D L) (seats : List (A
 abbrev pub AreTended : {L D : Type 0} → Line L → Door D L → Row L D → Type 0
 AreTended l d row = AllTended l d row.seats.items row.doors.items
 
-pub record AllRested {L D : Type 0} (l : Line L) (d : Door D L) (firsts : List (Attendant L)) (first_doors : List D)
-    (seats : List (Attendant L)) (doors : List D) : Type 0 where
+-- Between these two states each seat submitted the steps and took the answers that `did` and `took` say for it, whatever else was
+-- done with it and its door.
+pub record AllTend {L D : Type 0} (l : Line L) (d : Door D L) (did : ℕ → List Step) (took : ℕ → List Answer)
+    (firsts : List (Attendant L)) (first_doors : List D) (seats : List (Attendant L)) (doors : List D) : Type 0 where
   pub many : length seats ≡ length firsts
   pub doored : length doors ≡ length first_doors
   pub each : (seat : ℕ) → seat < length firsts → (a : Attendant L) (x : D)
-      → Tends l.seen (slice_index_or firsts seat a) (door_seen d (slice_index_or first_doors seat x)) [] [] (slice_index_or seats seat a)
-      (door_seen d (slice_index_or doors seat x))
+      → Tends l.seen (slice_index_or firsts seat a) (door_seen d (slice_index_or first_doors seat x)) (did seat) (took seat)
+      (slice_index_or seats seat a) (door_seen d (slice_index_or doors seat x))
   pub same_doors : (handed_in : List D) → AreSame d.same handed_in first_doors → AreSame d.same handed_in doors
 
--- Between these two states no seat submitted a step or took an answer, whatever else was done with
--- it and its door.
+-- Between these two states no seat submitted a step or took an answer.
 abbrev pub RestsSince : {L D : Type 0} → Line L → Door D L → Row L D → Row L D → Type 0
-RestsSince l d first row = AllRested l d first.seats.items first.doors.items row.seats.items row.doors.items
+RestsSince l d first row = AllTend l d (λ t. []) (λ t. []) first.seats.items first.doors.items row.seats.items row.doors.items
 
 -- Each seat has still done something for its door's connections, by the rules. In between it
 -- submitted no step and took no answer.

@@ -1,24 +1,14 @@
 //! The run of many doors by one thread that owns the core.
-ghost use Rattle.std.specs.Prelude.{◌≡◌, ◌↔◌, ◌&&◌, ◌==◌, true, false, not, [], length, Ok, IfErr, IfOk, IsErrOf, IsTrue, vec_len};
+ghost use Rattle.std.specs.Prelude.{◌≡◌, ◌↔◌, ◌&&◌, ◌==◌, true, false, not, length, Ok, IfErr, IfOk, IsErrOf, IsTrue, vec_len};
 ghost use Rattle.std.specs.List.{All};
-ghost use Rattle.bq_core_api.specs.Limits.{are_in_range, is_body_size};
+ghost use Rattle.bq_core_api.specs.Limits.{are_in_range};
 ghost use Rattle.bq_job.specs.laws.TheHeadline.{AreJobsServedIn};
-ghost use Rattle.bq_line.specs.ControlSeen.{new_control};
-ghost use Rattle.bq_line.specs.Tending.{AreSame, IsNewDoor, IsNewSeat, door_seen};
+ghost use Rattle.bq_line.specs.Tending.{AreSame, IsNewDoor, door_seen};
 ghost use Rattle.bq_event_loop.specs.EventLoopRuns.{IsEventLoopRun, IsEventLoopSoFar};
-ghost use Rattle.bq_line.specs.ControlTold.{HasTold};
 ghost use Rattle.bq_event_loop.specs.Known.{KnowsAll};
-ghost use Rattle.bq_event_loop.specs.KnownTurns.{AreKnownBy};
-ghost use Rattle.bq_host.specs.Hubs.{state_of};
-ghost use Rattle.bq_host.specs.MailStates.{IsInOrder, IsNewMailState};
-ghost use Rattle.bq_host.specs.WakeLists.{none_waits};
 ghost use Rattle.bq_event_loop.specs.NewLoops.{IsNewLoop};
 ghost use Rattle.bq_event_loop.specs.Refused.{IsRefusedBy};
-ghost use Rattle.bq_event_loop.specs.Rows.{AreDone};
-ghost use Rattle.bq_event_loop.specs.Serving.{AreReady, IsServing};
 ghost use Rattle.bq_event_loop.specs.SoFar.{began_with, beginning};
-ghost use Rattle.bq_line.specs.declared.control_steps.ControlSteps.{ControlSteps};
-ghost use Rattle.bq_line.specs.declared.control_steps.Stage.TheVariants as stages;
 
 use crate::row::Row;
 use crate::serve::serve;
@@ -26,7 +16,7 @@ use crate::sleeper::Sleeper;
 use crate::turns::{Began, Turns, TurnsFault};
 use bq_core_api::{Config, QueueCore};
 use bq_host::{Hub, RunFault, WakeQueue, new_seats};
-use bq_job::{NoMemory, steps_keep_settings, the_headline};
+use bq_job::{steps_keep_settings, the_headline};
 use bq_line::Door;
 use bq_line::attendant::Attendant;
 use bq_line::buffers::Buffers;
@@ -80,14 +70,6 @@ struct NewParts<L: Line + Drop, C: Clock + Drop, K: QueueCore + Drop> {
     core: Hub<C, K>,
     seats: Vec<Attendant<L>, Global>,
     buffer: ReadBuffer,
-}
-
-// What was served. `has_ended` is false if the run was broken off.
-struct Served<L: Line + Drop, D: Door<Line = L>, C: Clock + Drop, I, K: QueueCore + Drop> {
-    row: Row<L, D>,
-    control: ControlSteps<I>,
-    core: Hub<C, K>,
-    has_ended: bool,
 }
 
 /// Serves the connections of all doors, each door at a seat of its own, until no more connections
@@ -189,40 +171,18 @@ fn new_loop<
     ensures bad_configuration { IsErrOf result RunFault.BadConfiguration
         ↔ IsTrue (not (are_in_range config && doors == config.seats)) }
 {
-    let made = both(turns, sleeper);
-    match new_parts(alloc, config, doors, clock) {
-        Ok(parts) => match made {
-            Ok((turns, sleeper)) => Ok(NewLoop {
-                parts,
-                turns,
-                sleeper,
-            }),
-            Err(fault) => {
-                drop(parts);
-                Err(fault.as_run_fault())
-            }
-        },
-        Err(fault) => {
-            drop(made);
-            Err(fault)
-        }
-    }
-}
-
-// Returns the turns and the sleeper if both were made, and an error otherwise.
-fn both<T: Drop, W: Drop>(
-    turns: Result<T, TurnsFault>,
-    sleeper: Result<W, TurnsFault>,
-) -> Result<(T, W), TurnsFault>
-    ensures turns { IfOk result (λ made. turns ≡ Ok made.0) }
-{
+    let parts = new_parts(alloc, config, doors, clock)?;
     match (turns, sleeper) {
-        (Ok(turns), Ok(sleeper)) => Ok((turns, sleeper)),
-        (Err(fault), _) | (_, Err(fault)) => Err(fault),
+        (Ok(turns), Ok(sleeper)) => Ok(NewLoop {
+            parts,
+            turns,
+            sleeper,
+        }),
+        (Err(fault), _) | (_, Err(fault)) => Err(fault.as_run_fault()),
     }
 }
 
-// Allocates what a run needs at its start.
+// Allocates what a run needs at its start. The hub notes each seat that has to be woken.
 fn new_parts<L: Line + Drop, C: Clock + Drop, K: QueueCore + Drop>(
     alloc: Global,
     config: Config,
@@ -249,56 +209,22 @@ fn new_parts_for<L: Line + Drop, C: Clock + Drop, K: QueueCore + Drop>(
     ensures new { IfOk result (IsNewLoop K.QueueCore config clock) }
     ensures bad_configuration { IsErrOf result RunFault.BadConfiguration ↔ IsTrue (not (are_in_range config)) }
 {
-    let core: Hub<C, K> = new_hub(alloc, config, clock)?;
-    match new_room(alloc, &config) {
-        Ok((seats, buffer)) => Ok(NewParts {
-            core,
-            seats,
-            buffer,
-        }),
-        Err(NoMemory) => {
-            drop(core);
-            Err(RunFault::NoMemory)
-        }
-    }
-}
-
-// Returns a new hub, which notes each seat that has to be woken.
-fn new_hub<C: Clock + Drop, K: QueueCore + Drop>(
-    alloc: Global,
-    config: Config,
-    clock: C,
-) -> Result<Hub<C, K>, RunFault>
-    ensures made { IfOk result (λ hub. IsNewMailState config (state_of K.QueueCore hub)) }
-    ensures order { IfOk result (λ hub. IsInOrder (state_of K.QueueCore hub)) }
-    ensures clock { IfOk result (λ hub. hub.timed.time.clock ≡ clock) }
-    ensures woken { IfOk result (λ hub. hub.wake_queue ≡ none_waits (length hub.mails.items)) }
-    ensures bad_configuration { IsErrOf result RunFault.BadConfiguration ↔ IsTrue
-        (not (are_in_range config)) }
-{
-    let mut hub: Hub<C, K> = Hub::new(alloc, config, clock)?;
+    let mut core: Hub<C, K> = Hub::new(alloc, config, clock)?;
     let Ok(woken) = WakeQueue::new(alloc, config.seats) else {
-        drop(hub);
         return Err(RunFault::NoMemory);
     };
-    hub.wake_queue = woken;
-    Ok(hub)
-}
-
-// Allocates the seats, and the buffer that they share.
-fn new_room<L: Line + Drop>(
-    alloc: Global,
-    config: &Config,
-) -> Result<(Vec<Attendant<L>, Global>, ReadBuffer), NoMemory>
-    requires { IsTrue (is_body_size config.now.max_job_size) }
-    ensures many { IfOk result (λ made. vec_len made.0 ≡ config.now.seats) }
-    ensures new { IfOk result (λ made. All (IsNewSeat config.now.max_job_size) made.0.items) }
-{
-    let seats = new_seats(alloc, config.seats, config.max_job_size)?;
-    let Ok(buffer) = ReadBuffer::new(alloc) else {
-        return Err(NoMemory);
+    core.wake_queue = woken;
+    let Ok(seats) = new_seats(alloc, config.seats, config.max_job_size) else {
+        return Err(RunFault::NoMemory);
     };
-    Ok((seats, buffer))
+    let Ok(buffer) = ReadBuffer::new(alloc) else {
+        return Err(RunFault::NoMemory);
+    };
+    Ok(NewParts {
+        core,
+        seats,
+        buffer,
+    })
 }
 
 // The run, from a new core and new seats on.
@@ -333,12 +259,25 @@ fn run_at<
     ensures settings { (K.machine result.core).settings ≡ config }
 {
     let input = ControlLine::new(control);
-    let Served {
-        row,
-        control,
-        core,
-        has_ended: is_over,
-    } = serve_new(config, parts, doors, input, turns, sleeper);
+    let began = begin(&config, &doors, &parts.core.timed.time.clock, &input);
+    let NewParts {
+        mut core,
+        seats,
+        mut buffer,
+    } = parts;
+    let mut row = Row { seats, doors };
+    let mut control = ControlSteps::new(input);
+    let mut buffers = Buffers::new();
+    let is_over = serve(
+        &began,
+        turns,
+        sleeper,
+        &mut row,
+        &mut control,
+        &mut core,
+        &mut buffers,
+        &mut buffer,
+    );
     steps_keep_settings();
     let (clock, core) = core.into_parts();
     EventLoopRun {
@@ -351,106 +290,8 @@ fn run_at<
     }
 }
 
-// Serves all doors, from a new core and new seats on. That is a function of its own, so that what
-// holds at the start is no part of what is proved of the result.
-#[tactic(auto, using(crate::proofs::SoFarLemmas::serving_since))]
-fn serve_new<
-    T: Turns,
-    W: Sleeper,
-    L: Line + Drop,
-    D: Door<Line = L>,
-    C: Clock + Drop,
-    I: ControlInput + Drop,
-    K: QueueCore + Drop,
->(
-    config: Config,
-    parts: NewParts<L, C, K>,
-    doors: Vec<D, Global>,
-    input: I,
-    turns: &mut T,
-    sleeper: &mut W,
-) -> Served<L, D, C, I, K>
-    requires new { IsNewLoop K.QueueCore config parts.core.timed.time.clock parts }
-    requires doored { length doors.items ≡ config.seats }
-    requires unread { I.seen input ≡ new_control }
-    requires of_run { T.is_of (beginning config doors.items parts.core.timed.time.clock (I.remaining input) (I.may_fail input)) }
-    requires knows { KnowsAll config.seats (T.seats turns.old) (T.listed turns.old) (T.tries turns.old) }
-    requires new_doors { All
-        (λ door. IsNewDoor (door_seen D.Door door)) doors.items }
-    ensures done { result.has_ended ≡ true → AreDone result.row.seats.items }
-    ensures over { result.has_ended ≡ true → result.control.stage ≡ stages.Over }
-    ensures serving { IsServing K.QueueCore C.Clock L.Line D.Door I.ControlInput
-        (beginning config doors.items parts.core.timed.time.clock (I.remaining input) (I.may_fail input))
-        result.core result.row result.control }
-{
-    let began = begin(config, &parts, &doors, &input, turns);
-    let NewParts {
-        mut core,
-        seats,
-        mut buffer,
-    } = parts;
-    let mut row = Row { seats, doors };
-    let mut control = ControlSteps::new(input);
-    let mut buffers = Buffers::new();
-    let has_ended = serve(
-        &began,
-        turns,
-        sleeper,
-        &mut row,
-        &mut control,
-        &mut core,
-        &mut buffers,
-        &mut buffer,
-    );
-    drop(began);
-    drop(buffers);
-    drop(buffer);
-    Served {
-        row,
-        control,
-        core,
-        has_ended,
-    }
-}
-
-// What a run begins with, for the proofs, and what holds then.
-fn begin<
-    T: Turns,
-    L: Line + Drop,
-    D: Door<Line = L>,
-    C: Clock + Drop,
-    I: ControlInput,
-    K: QueueCore + Drop,
->(
-    config: Config,
-    parts: &NewParts<L, C, K>,
-    doors: &Vec<D, Global>,
-    input: &I,
-    _turns: &T,
-) -> Began<D, C, I>
-    requires new { IsNewLoop K.QueueCore config parts.now.core.timed.time.clock parts.now }
-    requires doored { length doors.now.items ≡ config.seats }
-    requires of_run { T.is_of
-        (beginning config doors.now.items parts.now.core.timed.time.clock (I.remaining input.now) (I.may_fail input.now)) }
-    requires knows { KnowsAll config.seats (T.seats _turns.now) (T.listed _turns.now) (T.tries _turns.now) }
-    requires new_doors { All
-        (λ door. IsNewDoor (door_seen D.Door door)) doors.now.items }
-    ensures began { began_with I.ControlInput result
-        ≡ beginning config doors.now.items parts.now.core.timed.time.clock (I.remaining input.now) (I.may_fail input.now) }
-    ensures of_run { T.is_of (began_with I.ControlInput result) }
-    ensures ready { AreReady K.QueueCore L.Line D.Door parts.now.core (record { seats = parts.now.seats; doors = doors.now }) }
-    ensures known { AreKnownBy L.Line T.Turns _turns.now [] parts.now.seats.items parts.now.core.mails.items }
-    ensures woken { parts.now.core.wake_queue ≡ none_waits (length parts.now.core.mails.items) }
-    ensures serving { (control : ControlSteps I)
-        → HasTold I.ControlInput (I.remaining input.now) (I.may_fail input.now) control []
-        → IsServing K.QueueCore C.Clock L.Line D.Door I.ControlInput (began_with I.ControlInput result) parts.now.core
-        (record { seats = parts.now.seats; doors = doors.now }) control }
-{
-    begin_with(&config, doors, &parts.core.timed.time.clock, input)
-}
-
 // What a run begins with, for the proofs.
-fn begin_with<D, C, I: ControlInput>(
+fn begin<D, C, I: ControlInput>(
     config: &Config,
     doors: &Vec<D, Global>,
     clock: &C,

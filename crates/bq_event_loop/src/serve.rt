@@ -6,6 +6,7 @@ ghost use Rattle.bq_event_loop.specs.KnownTurns.{AreKnownBy};
 ghost use Rattle.bq_host.specs.Hubs.{TraceInOrder, state_of};
 ghost use Rattle.bq_event_loop.specs.Rows.{AreDone, AreTended, KeepsRow};
 ghost use Rattle.bq_event_loop.specs.Serving.{AreReady, AreReadyFor, ControlTrace, IsServing, LoopTrace, SeatActed};
+ghost use Rattle.bq_event_loop.specs.NewLoops.{IsNewRun};
 ghost use Rattle.bq_event_loop.specs.SoFar.{began_with};
 ghost use Rattle.bq_event_loop.specs.Sleeping.{IsWaitFor, stands_of};
 ghost use Rattle.bq_event_loop.specs.Still.{IsStill};
@@ -65,15 +66,11 @@ pub fn serve<
     buffers: &mut Buffers,
     buffer: &mut ReadBuffer,
 ) -> bool
-    requires ready { AreReady K.QueueCore L.Line D.Door core.old row.old }
-    requires of_run { T.is_of (began_with I.ControlInput began.now) }
-    requires serving { IsServing K.QueueCore C.Clock L.Line D.Door I.ControlInput
-        (began_with I.ControlInput began.now) core.old row.old control.old }
-    requires known { AreKnownBy L.Line T.Turns turns.old [] row.old.seats.items core.old.mails.items }
-    requires woken { core.old.wake_queue ≡ none_waits (length core.old.mails.items) }
+    requires new { IsNewRun K.QueueCore D.Door I.ControlInput T.Turns (began_with I.ControlInput began.now)
+        turns.old core.old row.old control.old }
     ensures done { result ≡ true → AreDone row.new.seats.items }
     ensures over { result ≡ true → control.new.stage ≡ stages.Over }
-    ensures serving { IsServing K.QueueCore C.Clock L.Line D.Door I.ControlInput
+    ensures serving { IsServing K.QueueCore C.Clock L.Line D.Door I.ControlInput []
         (began_with I.ControlInput began.now) core.new row.new control.new }
 {
     let mut doors = Doors::new();

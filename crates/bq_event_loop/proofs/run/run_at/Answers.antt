@@ -1,30 +1,30 @@
-use Rattle.std.proofs.Common.{◌∙◌, ap}
+use Rattle.std.proofs.Common.{◌∙◌, ap, arith, rules}
 use Rattle.bq_event_loop.proofs.SoFarLemmas.{serving_over, serving_settings, serving_so_far}
 use Rattle.bq_event_loop.proofs.run.run_at.Goals as goal
 
-pub serve_new-row-requires-clause-of_run : goal.serve_new-row-requires-clause-of_run
-serve_new-row-requires-clause-of_run g c = rw c.new-input.ensures c.requires.of_run
+pub serve-is_over-requires : goal.serve-is_over-requires
+serve-is_over-requires g c = rw (c.begin-began.ensures, c.new-input.ensures) (record { new = search rules })
 
 pub returns : goal.returns
 returns g c =
-    let s = rw c.new-input.ensures at c.serve_new-row.ensures.serving in
-    let done = c.serve_new-row.ensures.done in
-    let over = c.serve_new-row.ensures.over in
+    let s = rw (c.begin-began.ensures, c.new-input.ensures) at c.serve-is_over.ensures.serving in
     let parts = c.into_parts-clock.ensures in
+    let done = c.serve-is_over.ensures.done in
+    let over = c.serve-is_over.ensures.over in
     record {
       served = λ is.
-          let o = serving_over s (done is) (over is) in
+          let o = serving_over s.served (done is) s.submits (over is) in
           rw (parts.clock, parts.core) (record {
-            readings = s.readings;
-            gave = s.gave;
-            over = o.told.over;
-            read = o.told.read;
-            fault = o.told.fault;
+            readings = s.served.readings;
+            gave = s.served.gave;
+            over = o.told_is.over;
+            read = o.told_is.read;
+            fault = o.told_is.fault;
             history = o.history;
             compared = o.compared;
           });
-      so_far = rw (parts.clock, parts.core) (serving_so_far s);
-      at_end = λ is. let o = serving_over s (done is) (over is) in o.at_end;
-      same = s.same_doors;
-      settings = ap (λ core. (g.K.QueueCore.machine core).settings) parts.core ∙ serving_settings s c.steps_keep_settings.ensures;
+      so_far = rw (parts.clock, parts.core) (serving_so_far s.served s.submits);
+      at_end = λ is. (serving_over s.served (done is) s.submits (over is)).at_end;
+      same = s.served.same_doors;
+      settings = ap (λ core. (g.K.QueueCore.machine core).settings) parts.core ∙ serving_settings s.served c.steps_keep_settings.ensures;
     }

@@ -10,7 +10,7 @@ use Rattle.bq_event_loop.proofs.serve.serve.Given as goal
 abbrev pub invariant-loop : goal.invariant-loop
 invariant-loop g l = record {
   ready : AreReady g.K.QueueCore g.L.Line g.D.Door l.core l.row;
-  serving : IsServing g.K.QueueCore g.C.Clock g.L.Line g.D.Door g.I.ControlInput (began_with g.I.ControlInput l.fn.began) l.core l.row
+  serving : IsServing g.K.QueueCore g.C.Clock g.L.Line g.D.Door g.I.ControlInput [] (began_with g.I.ControlInput l.fn.began) l.core l.row
       l.control;
   known : AreKnownBy g.L.Line g.T.Turns l.turns [] l.row.seats.items l.core.mails.items;
   woken : l.core.wake_queue ≡ none_waits (length l.core.mails.items);

@@ -1,5 +1,5 @@
-use Rattle.std.proofs.Common.{arith}
-use Rattle.bq_event_loop.proofs.ServingLemmas.{acted_none, serves_then, serves_time}
+use Rattle.std.proofs.Common.{◌∙◌, arith}
+use Rattle.bq_event_loop.proofs.ServingLemmas.{acted_none, serves_time}
 use Rattle.bq_host.proofs.WakeLemmas.{wakes_then}
 use Rattle.bq_event_loop.proofs.serve.serve_seat.Goals as goal
 
@@ -17,7 +17,8 @@ returns-then-not-takes_next g c =
       acted = record {
         order = delivered.0;
         tended = a.tended;
-        serves = serves_then a.serves (serves_time 0 delivered.1);
+        mailed = c.deliver_all-all.ensures.many ∙ a.mailed;
+        serves = λ earlier begun told s. serves_time 0 delivered.1 earlier begun told (a.serves earlier begun told s);
         only = a.only;
         wakes = wakes_then _ _ _ _ _ _ a.wakes delivered.1.1;
       };
