@@ -16,12 +16,14 @@ use Rattle.bq_event_loop.proofs.ListingLemmas.{falls_once}
 use Rattle.std.specs.List.{All}
 use Rattle.bq_host.proofs.MarkLemmas.{one_if, times_push}
 use Rattle.bq_event_loop.specs.Keeping.{Chooses, KeepsSeats}
-use Rattle.bq_event_loop.specs.Known.{AreIdle, AreKnown, ChangesOnly, ChangesOnlyIn}
+use Rattle.bq_event_loop.specs.Known.{AreIdle, AreKnown, AreSameLists, ChangesOnly, ChangesOnlyIn}
 use Rattle.bq_event_loop.specs.Known.{IsListedIn, IsNextOf, IsTaken, KnowsAll, is_listed, is_on, is_trying, is_visited}
+use Rattle.bq_event_loop.specs.Sleeping.{visited_by}
 use Rattle.bq_event_loop.specs.Meanings.{Line}
 use Rattle.bq_event_loop.specs.Listings.{Listing, all_free, enqueued, freed, is_nowhere}
 use Rattle.bq_host.specs.Marks.{times}
 use Rattle.bq_event_loop.specs.declared.order.Order.{Order}
+use Rattle.bq_event_loop.specs.declared.turns.Task.{Task}
 use Rattle.bq_event_loop.specs.declared.turns.Turn.{Turn}
 use Rattle.bq_event_loop.specs.declared.turns.Turn.TheVariants as turns
 use Rattle.bq_host.specs.WakeLists.{WakeList, Wakes, none_waits}
@@ -41,22 +43,18 @@ changed_then h k = grind arith
 same_times : (l : Listing) (i t : ℕ) → i ≡ t → times i l.queue + times i l.free ≡ times t l.queue + times t l.free
 same_times l i t = ap (λ n. times n l.queue + times n l.free)
 
-module _ {still free : Option ℕ} where
-  -- Seats changed places in the queue, and a part of a round began.
-  pub keeps_moved : {l mid later : Listing} {queue : List ℕ} {round at : ℕ} → mid ≡ record l { queue = queue }
-      → ((t : ℕ) → times t mid.queue ≡ times t l.queue) → later ≡ record mid { round = round; at = at }
-      → KeepsSeats still free l None later None
-  keeps_moved {l} {mid} {later} moved same began = record {
-    seats = ap (λ z. z.seats) began ∙ ap (λ z. z.seats) moved;
-    each = λ t.
-        let q = ap (λ z. times t z.queue) began ∙ same t in
-        let f = ap (λ z. times t z.free) began ∙ ap (λ z. times t z.free) moved in
-        grind (arith, nat_tests);
-  }
+-- The visited seat acts.
+pub listed_self : (l : Listing) (i : ℕ) → is_listed l (Some i) i ≡ true
+listed_self l i = or_right (is_on l.queue i) (i == i) (eq-eqb i i refl)
 
-  -- The next seat is visited. It was taken out of the queue, or it stays there.
-  pub keeps_next : {l later : Listing} {i j : ℕ} → IsTaken i l later → j ≡ i → KeepsSeats still free l None later (Some j)
-  keeps_next {l} {later} {i} {j} is same = grind (arith, common_steps)
+module _ {still free : Option ℕ} where
+  -- Seats changed places in the queue, or a part of a round began.
+  pub keeps_same : {l later : Listing} → AreSameLists l later → KeepsSeats still free l None later None
+  keeps_same {l} {later} same = record { seats = same.seats; each = λ t. let q = same.queue t in let f = same.free in grind (arith, nat_tests) }
+
+  -- The visited seat goes on.
+  pub keeps_visited : {l : Listing} {i j : ℕ} → j ≡ i → KeepsSeats still free l (Some i) l (Some j)
+  keeps_visited is = grind arith
 
   -- A seat is not visited any more that does not exist, is in a list, or at which nothing moves.
   keeps_left : {l later : Listing} {i : ℕ} → later ≡ l → (l.seats ≤ i) ⊎ (0 < times i l.queue + times i l.free) ⊎ (still ≡ Some i)
@@ -71,8 +69,8 @@ module _ {still free : Option ℕ} where
   }
 
   -- Nothing moves at the visited seat.
-  pub keeps_rests : {l : Listing} {i : ℕ} → still ≡ Some i → KeepsSeats still free l (Some i) l None
-  keeps_rests is = keeps_left refl (inr (inr is))
+  pub keeps_rests : {l : Listing} {i j : ℕ} → still ≡ Some j → j ≡ i → KeepsSeats still free l (Some i) l None
+  keeps_rests is same = keeps_left refl (inr (inr (is ∙ ap (λ n. Some n) same)))
 
   -- The visited seat goes to the queue.
   pub keeps_enqueued : {l later : Listing} {i : ℕ} → later ≡ enqueued i l → KeepsSeats still free l (Some i) later None
@@ -97,35 +95,46 @@ module _ {still free : Option ℕ} where
     }
     by false kept same = keeps_left same (grind (arith, nat_tests))
 
-  -- Equal seats, and equal visited seats.
-  pub keeps_on : {old new : Listing} {i j : ℕ} {v w : Option ℕ} → i ≡ j → v ≡ w → KeepsSeats still free old (Some i) new v
-      → KeepsSeats still free old (Some j) new w
-  keeps_on {old} {new} {i} {j} {v} {w} at to h = grind arith
+  -- The next seat is visited. It was taken out of the queue, or it stays there.
+  pub chooses_next : {l : Listing} {i j : ℕ} {task : Task} {order : Order} {turn : Turn} → IsTaken i l order.queue
+      → visited_by order.stage order.visit ≡ Some j → j ≡ i → turn ≡ turns.Serve j task → Chooses still free l None order turn
+  chooses_next {l} {i} {j} is visited same chosen = grind (arith, common_steps, listed_self)
 
-  module _ {old : Listing} {visited : Option ℕ} {order : Order} {turn : Turn} where
-    -- No other seat was dropped than the still one, and none began to check for a client.
-    pub chooses_more : {s : Option ℕ} → Chooses s None old visited order turn → (s ≡ None) ⊎ (s ≡ still)
-        → Chooses still free old visited order turn
-    chooses_more k is = record {
-      keeps = record { seats = k.keeps.seats; each = λ t. let x = k.keeps.each t in grind arith };
-      acts = k.acts;
-    }
+  -- No seat was dropped, and none began to check for a client.
+  pub keeps_any : {old mid : Listing} {visited next : Option ℕ} → KeepsSeats None None old visited mid next
+      → KeepsSeats still free old visited mid next
+  keeps_any h = record { seats = h.seats; each = λ t. let x = h.each t in grind arith }
 
-    -- The queue was changed before the turn was chosen.
-    pub chooses_then : {mid : Listing} → KeepsSeats still free old visited mid None → Chooses None None mid None order turn
-        → Chooses still free old visited order turn
-    chooses_then h k = record {
-      keeps = record {
-        seats = k.keeps.seats ∙ h.seats;
-        each = λ t. let x = h.each t in let y = k.keeps.each t in let s = h.seats in grind arith;
-      };
-      acts = k.acts;
-    }
+  -- The queue was changed before the turn was chosen.
+  pub chooses_then : {old mid : Listing} {visited : Option ℕ} {order : Order} {turn : Turn} → KeepsSeats still free old visited mid None
+      → Chooses None None mid None order turn → Chooses still free old visited order turn
+  chooses_then h k =
+      record {
+        keeps = record {
+          seats = k.keeps.seats ∙ h.seats;
+          each = λ t. let x = h.each t in let y = k.keeps.each t in let s = h.seats in grind arith;
+        };
+        acts = k.acts;
+      }
 
-    -- The same after a check for a client.
-    pub chooses_after : {mid : Listing} → KeepsSeats None free old visited mid None → Chooses None None mid None order turn
-        → Chooses still free old visited order turn
-    chooses_after h = chooses_then (record { seats = h.seats; each = λ t. let x = h.each t in grind arith })
+-- Seats changed places in the queue, and then a part of a round began.
+pub same_moved : {l mid later : Listing} {queue : List ℕ} {round at : ℕ} → mid ≡ record l { queue = queue }
+    → ((t : ℕ) → times t mid.queue ≡ times t l.queue) → later ≡ record mid { round = round; at = at } → AreSameLists l later
+same_moved moved same began = record {
+  seats = ap (λ z. z.seats) began ∙ ap (λ z. z.seats) moved;
+  queue = λ t. ap (λ z. times t z.queue) began ∙ same t;
+  free = ap (λ z. z.free) began ∙ ap (λ z. z.free) moved;
+}
+
+module _ {still free : Option ℕ} {old : Listing} {visited : Option ℕ} {order : Order} {turn : Turn} where
+  -- The turn was chosen, and no seat was dropped.
+  pub chooses_any : Chooses None None old visited order turn → Chooses still free old visited order turn
+  chooses_any k = record { keeps = keeps_any k.keeps; acts = k.acts }
+
+  -- The turn was chosen after a check for a client.
+  pub chooses_tried : {mid : Listing} → KeepsSeats None free old visited mid None → Chooses None None mid None order turn
+      → Chooses still free old visited order turn
+  chooses_tried h = chooses_then (record { seats = h.seats; each = λ t. let x = h.each t in grind arith })
 
 -- A seat at a place of the queue is on it.
 got_on : (xs : List ℕ) (n i : ℕ) → Some i ≡ slice_get xs n → is_on xs i ≡ true
@@ -156,9 +165,6 @@ idle_queue may_come l visited idle = none_on l.queue (λ t. (or_parts (is_on l.q
 pub idle_free : (may_come : Bool) (l : Listing) (visited : Option ℕ) → may_come ≡ true
     → AreIdle may_come (is_listed l visited) (is_trying l) → l.free ≡ []
 idle_free may_come l visited may idle = none_on l.free (idle.checks may)
-
-pub listed_self : (l : Listing) (i : ℕ) → is_listed l (Some i) i ≡ true
-listed_self l i = or_right (is_on l.queue i) (i == i) (eq-eqb i i refl)
 
 -- Seats that all check for a client are known.
 pub all_known : (seats : ℕ) (l : Listing) → l ≡ all_free seats → KnowsAll seats l.seats (is_listed l None) (is_trying l)

@@ -1,5 +1,5 @@
 -- What turns do with the seats that they let act, said without the seats themselves.
-use Rattle.std.specs.Prelude.{ℕ, ◌≡◌, ◌<◌, ◌⊎◌, Bool, true, Option, Some}
+use Rattle.std.specs.Prelude.{ℕ, ◌≡◌, ◌<◌, ◌⊎◌, Bool, true, Option, Some, None}
 use Rattle.bq_event_loop.specs.Known.{IsListedIn, is_listed, is_trying}
 use Rattle.bq_event_loop.specs.Listings.{Listing}
 use Rattle.bq_event_loop.specs.Sleeping.{visited_by}
@@ -24,3 +24,8 @@ pub record KeepsSeats (still free : Option ℕ) (old : Listing) (visited : Optio
 pub record Chooses (still free : Option ℕ) (old : Listing) (visited : Option ℕ) (order : Order) (turn : Turn) : Type 0 where
   pub keeps : KeepsSeats still free old visited order.queue (visited_by order.stage order.visit)
   pub acts : IsListedIn (is_listed order.queue (visited_by order.stage order.visit)) turn
+
+-- The order chose a turn or, for now, none: then no seat is visited.
+abbrev pub MayChoose : Listing → Option ℕ → Order → Option Turn → Type 0
+MayChoose old visited order None = KeepsSeats None None old visited order.queue None
+MayChoose old visited order (Some turn) = Chooses None None old visited order turn

@@ -87,10 +87,10 @@ is_listed l visited seat = is_on l.queue seat || is_visited visited seat
 abbrev pub is_trying : Listing → ℕ → Bool
 is_trying l seat = is_on l.free seat
 
--- Both lists have the same seats.
+-- Both lists have the same seats, in any order.
 pub record AreSameLists (old new : Listing) : Type 0 where
   pub seats : new.seats ≡ old.seats
-  pub queue : new.queue ≡ old.queue
+  pub queue : (seat : ℕ) → times seat new.queue ≡ times seat old.queue
   pub free : new.free ≡ old.free
 
 -- A seat of the queue is the next to be visited. It is taken out, or it stays.
@@ -100,7 +100,7 @@ pub record IsTaken (seat : ℕ) (old new : Listing) : Type 0 where
   pub queue : (old.queue ≡ seat ∷ new.queue) ⊎ ((is_on old.queue seat ≡ true) × (new.queue ≡ old.queue))
 
 abbrev pub IsNextOf : Option ℕ → Listing → Listing → Type 0
-IsNextOf None old new = AreSameLists old new
+IsNextOf None old new = AreSameLists old new × (new.queue ≡ old.queue)
 IsNextOf (Some seat) old new = IsTaken seat old new
 
 -- Turns that know these seats at first: each of them acts, or checks for a client.

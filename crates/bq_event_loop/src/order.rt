@@ -6,10 +6,9 @@
 //! first, then all steps are taken, and then all answers are written, so that each part finds its
 //! code and data in the processor's caches. Seats that were in the queue before come last. Seats that
 //! are woken during the last part are visited in the same round, unless a visit was cut short.
-ghost use Rattle.std.specs.Prelude.{◌≡◌, ◌⊎◌, ℕ, [], true, false, None, Some, IfOk, IfSome};
-ghost use Rattle.bq_event_loop.specs.Keeping.{Chooses, KeepsSeats};
-ghost use Rattle.bq_event_loop.specs.Known.{AreIdle, AreSameLists, IsListedIn, IsNextOf, KnowsAll, is_listed, is_trying};
-ghost use Rattle.bq_event_loop.specs.Listings.{enqueued};
+ghost use Rattle.std.specs.Prelude.{◌≡◌, ◌⊎◌, ℕ, [], true, false, None, Some, IfOk};
+ghost use Rattle.bq_event_loop.specs.Keeping.{Chooses, KeepsSeats, MayChoose};
+ghost use Rattle.bq_event_loop.specs.Known.{AreIdle, IsNextOf, KnowsAll, is_listed, is_trying};
 ghost use Rattle.bq_event_loop.specs.Sleeping.{visited_by};
 ghost use Rattle.bq_event_loop.specs.declared.order.Stage.TheVariants as stages;
 
@@ -106,7 +105,7 @@ impl Order {
                 self.begin_next(part)
             }
             Stage::HandOn(seat, part) => {
-                self.put_back(seat);
+                self.enqueue(seat);
                 self.begin_next(part)
             }
         }
@@ -174,7 +173,7 @@ impl Order {
 
     // Returns the next action of the current visit, or begins the next visit.
     fn go_on(&mut self, part: Part, news: &News) -> Turn
-        ensures { Chooses news.now.still None self.old.queue (Some self.old.visit.seat) self.new result }
+        ensures { Chooses news.now.still news.now.free self.old.queue (Some self.old.visit.seat) self.new result }
     {
         let seat = self.visit.seat();
         let took = self.pace.note(part, seat, self.reading);
@@ -242,9 +241,7 @@ impl Order {
     // Begins the next part of the round, or the time passes.
     #[inline(always)]
     fn end_part(&mut self, part: Part) -> Turn
-        ensures lists { AreSameLists self.old.queue self.new.queue }
-        ensures idle { visited_by self.new.stage self.new.visit ≡ None }
-        ensures turn { (result ≡ Turn.Nothing) ⊎ (result ≡ Turn.Time) }
+        ensures { Chooses None None self.old.queue None self.new result }
     {
         match part.next() {
             Some(next) => {
@@ -261,9 +258,7 @@ impl Order {
     // by a put, are visited before it, but only once in a round.
     #[inline(always)]
     fn end_visits(&mut self) -> Turn
-        ensures lists { AreSameLists self.old.queue self.new.queue }
-        ensures idle { visited_by self.new.stage self.new.visit ≡ None }
-        ensures turn { (result ≡ Turn.Nothing) ⊎ (result ≡ Turn.Time) }
+        ensures chooses { Chooses None None self.old.queue None self.new result }
         ensures once { result ≡ Turn.Nothing → (self.old.may_repeat ≡ true) × (self.new.may_repeat ≡ false) }
         ensures woken { result ≡ Turn.Time → (self.old.queue.queue ≡ []) ⊎ (self.old.may_repeat ≡ false) }
         ensures round { result ≡ Turn.Time → self.new.stage ≡ stages.Control }
@@ -280,11 +275,9 @@ impl Order {
     }
 
     // Returns the next turn of the visit, if it has one. Otherwise it ends here.
+    #[tactic(auto, using(crate::proofs::KnownLemmas::keeps_visited))]
     fn goes_on(&mut self, part: Part, news: &News) -> Option<Turn>
-        ensures keeps { KeepsSeats None None self.old.queue (Some self.old.visit.seat)
-            self.new.queue (visited_by self.new.stage self.new.visit) }
-        ensures acts { IfSome result (IsListedIn (is_listed self.new.queue (visited_by self.new.stage self.new.visit))) }
-        ensures ended { result ≡ None → visited_by self.new.stage self.new.visit ≡ None }
+        ensures { MayChoose self.old.queue (Some self.old.visit.seat) self.new result }
     {
         let visit = self.visit;
         match visit.pause(news.stands) {
@@ -298,10 +291,7 @@ impl Order {
 
     // Ends the visit of a seat. If its connection has ended, it checks for the next one.
     fn end_visit(&mut self, seat: usize, part: Part, pause: Pause) -> Option<Turn>
-        ensures keeps { KeepsSeats None None self.old.queue (Some seat)
-            self.new.queue (visited_by self.new.stage self.new.visit) }
-        ensures acts { IfSome result (IsListedIn (is_listed self.new.queue (visited_by self.new.stage self.new.visit))) }
-        ensures ended { result ≡ None → visited_by self.new.stage self.new.visit ≡ None }
+        ensures { MayChoose self.old.queue (Some seat) self.new result }
     {
         match pause {
             Pause::IsFree => {
@@ -319,7 +309,7 @@ impl Order {
                 None
             }
             Pause::Stuck => {
-                self.put_back(seat);
+                self.enqueue(seat);
                 self.stage = Stage::Visits(part);
                 None
             }
@@ -328,18 +318,11 @@ impl Order {
 
     // Puts a seat that goes on at the end of the queue. The system is asked before it is visited again.
     fn enqueue(&mut self, seat: usize)
-        ensures queue { self.new.queue ≡ enqueued seat self.old.queue }
+        ensures keeps { KeepsSeats None None self.old.queue (Some seat) self.new.queue None }
         ensures rest { self.new ≡ record self.old { queue = self.new.queue; may_repeat = false } }
     {
         self.may_repeat = false;
         self.queue.enqueue(seat);
-    }
-
-    // Puts a seat that goes on at the end of the queue.
-    fn put_back(&mut self, seat: usize)
-        ensures { KeepsSeats None None self.old.queue (Some seat) self.new.queue None }
-    {
-        self.enqueue(seat);
     }
 
     // Returns true if a visit is under way, or a seat checks for a client.
