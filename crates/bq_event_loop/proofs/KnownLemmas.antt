@@ -50,7 +50,10 @@ listed_self l i = or_right (is_on l.queue i) (i == i) (eq-eqb i i refl)
 module _ {still free : Option ℕ} where
   -- Seats changed places in the queue, or a part of a round began.
   pub keeps_same : {l later : Listing} → AreSameLists l later → KeepsSeats still free l None later None
-  keeps_same {l} {later} same = record { seats = same.seats; each = λ t. let q = same.queue t in let f = same.free in grind (arith, nat_tests) }
+  keeps_same {l} {later} same = record {
+    seats = same.seats;
+    each = λ t. let q = same.queue t in let f = same.free in grind (arith, nat_tests);
+  }
 
   -- The visited seat goes on.
   pub keeps_visited : {l : Listing} {i j : ℕ} → j ≡ i → KeepsSeats still free l (Some i) l (Some j)

@@ -137,6 +137,19 @@ module _ {L D : Type 0} {l : Line L} {d : Door D L} {seats : List (Attendant L)}
       let same = set-get_or doors i y in
       rw same at (keeps_set below all is (get_or_default doors i y x there) (tends (door_seen d x)) (λ first h. h))
 
+  -- The same if nothing was done with the seat, and nothing that is seen of the door.
+  pub keeps_door : {x next : D} → i < length seats → AllTended l d seats doors → x ≡ slice_index_or doors i x
+      → door_seen d next ≡ door_seen d x → ((first : D) → d.same first x → d.same first next)
+      → AllTended l d seats (slice_set doors i next)
+      × ((first : Row L D) → AllTend l d (λ t. []) (λ t. []) first.seats.items first.doors.items seats doors
+      → AllTend l d (λ t. []) (λ t. []) first.seats.items first.doors.items seats (slice_set doors i next))
+  keeps_door {x} {next} below all is seen on =
+      let y = some_one seats i below in
+      let a = slice_index_or seats i y in
+      let same = set-get_or seats i y in
+      let still : Tends l.seen a (door_seen d x) [] [] a (door_seen d next) = rw seen (tends_still l.seen a (door_seen d x)) in
+      rw same at (keeps_set below all (get_or_default seats i y a below) is still on)
+
   -- A seat and a door that were looked up are placed together.
   pub placed_there : {a : Attendant L} {x : D} → i < length seats
       → AllTended l d seats doors → a ≡ slice_index_or seats i a → x ≡ slice_index_or doors i x → IsPlaced a.phase (door_seen d x)

@@ -1,8 +1,6 @@
 -- Seats are served in turn: one acts, and the others stay as they were.
-use Rattle.std.proofs.lemmas.Grind.{common_steps}
 use Rattle.std.proofs.Common.{◌≡◌, ℕ, ◌<◌, ◌≤◌, List, [], ◌++◌, Option, length, refl, sym}
-use Rattle.std.proofs.Common.{ap, ◌∙◌, append-nil, arith, subst, append_assoc, slice_set, slice_index_or}
-use Rattle.std.proofs.lemmas.List.{get_or_default, length-set}
+use Rattle.std.proofs.Common.{ap, ◌∙◌, append-nil, append_assoc, arith, slice_set, slice_index_or}
 use Rattle.bq_job.specs.beside.Closings.{closes, closings}
 use Rattle.bq_job.specs.declared.answer.Answer.{Answer}
 use Rattle.bq_job.specs.declared.step.Step.{Step}
@@ -47,8 +45,9 @@ none_acted i first last readings w t = grind arith
 
 module _ {C K L D : Type 0} {k : Core K} {c : Clock C} {l : Line L} {d : Door D L} where
   -- A part of the history was added, and each seat did what the part has for it.
-  served_on : {old new : Hub C K} {row later : Row L D} {earlier : List Entry} {begun : Beginning D C} {told next : List Step} (reads : List (Option ℕ))
-      (part : List Entry) (took : ℕ → List Answer) → GaveReadings c.given old.timed.time.clock reads new.timed.time.clock
+  served_on : {old new : Hub C K} {row later : Row L D} {earlier : List Entry} {begun : Beginning D C} {told next : List Step}
+      (reads : List (Option ℕ)) (part : List Entry) (took : ℕ → List Answer)
+      → GaveReadings c.given old.timed.time.clock reads new.timed.time.clock
       → CoreTrace (state_of k old) reads part took (state_of k new)
       → AllTend l d (λ t. steps_at t part) took row.seats.items row.doors.items later.seats.items later.doors.items
       → next ≡ told ++ steps_at (length row.seats.items) part → ((t : ℕ) → length row.seats.items < t → steps_at t part ≡ [])
@@ -88,7 +87,8 @@ module _ {C K L D : Type 0} {k : Core K} {c : Clock C} {l : Line L} {d : Door D 
           (all.each t below a x begun.settings.max_job_size (steps_at t s.history) (s.took t) (s.each t below a x))
 
       few : (t : ℕ) → t < length row.seats.items → (a : Attendant L) (x : D)
-          → closes (s.took t ++ took t) ≤ ended_lines (slice_index_or later.seats.items t a) (door_seen d (slice_index_or later.doors.items t x))
+          → closes (s.took t ++ took t)
+          ≤ ended_lines (slice_index_or later.seats.items t a) (door_seen d (slice_index_or later.doors.items t x))
       few t below a x =
           let g = goes t below a x in
           let law = took_few s.first (state_of k new) (s.readings ++ reads) (s.history ++ part) (λ n. s.took n ++ took n) t whole
@@ -100,11 +100,12 @@ module _ {C K L D : Type 0} {k : Core K} {c : Clock C} {l : Line L} {d : Door D 
   pub serves_rested : {core : Hub C K} {row later : Row L D}
       → AllTend l d (λ t. []) (λ t. []) row.seats.items row.doors.items later.seats.items later.doors.items
       → ServesOn k c l d core row core later
-  serves_rested {core} r earlier begun told s = served_on [] [] (λ t. []) (gave_none c.given core.timed.time.clock) (core_none (state_of k core)) r
-      (sym (append-nil told)) (λ t above. refl) s
+  serves_rested {core} r earlier begun told s = served_on [] [] (λ t. []) (gave_none c.given core.timed.time.clock)
+      (core_none (state_of k core)) r (sym (append-nil told)) (λ t above. refl) s
 
   -- The core took steps, but none of a seat, and no answer was taken.
-  served_by : {old new : Hub C K} {row : Row L D} {earlier : List Entry} {begun : Beginning D C} {told next : List Step} {i : ℕ} {submitted : List Step}
+  served_by : {old new : Hub C K} {row : Row L D} {earlier : List Entry} {begun : Beginning D C} {told next : List Step} {i : ℕ}
+      {submitted : List Step}
       (trace : HubTrace k c i old submitted [] new)
       → ((t : ℕ) → t < length row.seats.items → (steps_at t trace.0.2.history ≡ []) × (trace.0.2.took t ≡ []))
       → next ≡ told ++ steps_at (length row.seats.items) trace.0.2.history

@@ -1,10 +1,11 @@
 -- A run, which is over or not: what was served so far, in the terms of the promise.
 use Rattle.std.proofs.lemmas.Grind.{common_steps}
 use Rattle.std.proofs.Common.{◌≡◌, ℕ, suc, ◌+◌, ◌<◌, ◌≤◌, Bool, true, false, List, [], ◌∷◌, ◌++◌, Option}
-use Rattle.std.proofs.Common.{map, length, replicate, refl, sym, ap, ◌∙◌, arith, subst, inl, inr, append-nil}
-use Rattle.std.proofs.Common.{append_assoc, slice_index_or}
+use Rattle.std.proofs.Common.{map, length, replicate, refl, sym, ap, ◌∙◌, arith, inl, inr, append-nil}
+use Rattle.std.proofs.Common.{append_assoc, nat_le, slice_index_or}
 use Rattle.std.proofs.lemmas.List.{length-map, replicate-append-replicate}
-use Rattle.std.specs.List.{All}
+use Rattle.std.specs.List.{All, list_all}
+use Rattle.std.proofs.lemmas.Bool.{cases_Bool, leb-false}
 use Rattle.std.specs.Io.KnownBytes.{Consumes}
 use Rattle.bq_job.specs.beside.Closings.{closes}
 use Rattle.bq_job.specs.declared.answer.Answer.{Answer}
@@ -15,14 +16,15 @@ use Rattle.bq_job.specs.machine.Machine.{new_machine}
 use Rattle.bq_job.specs.promise.CoreDid.{IsRun}
 use Rattle.bq_job.specs.promise.ControlDid.{drains, drains_from, one_if}
 use Rattle.bq_job.specs.promise.Headline.{AreSeatsUpTo, IsHistoryOf}
-use Rattle.bq_job.specs.promise.History.{steps_at}
+use Rattle.bq_job.specs.promise.History.{is_tick, steps_at, without_ticks}
 use Rattle.bq_job.specs.promise.LineOwed.{AreLinesOwed}
 use Rattle.bq_job.specs.promise.LineSteps.{LineSeen}
-use Rattle.bq_job.specs.promise.Runs.{answers_to}
+use Rattle.bq_job.specs.promise.Runs.{Entry, answers_to}
 use Rattle.bq_job.specs.promise.SoFar.{AreDoorsOwedSoFar, IsControlSoFar, IsDoorOwedSoFar, IsOutOwed}
 use Rattle.bq_host.specs.Compared.{AreCompared}
 use Rattle.bq_host.specs.Hubs.{state_of}
 use Rattle.bq_host.specs.MailStates.{waiting}
+use Rattle.bq_host.proofs.SettingsLemmas.{StepsKeepSettings, run_keeps_settings}
 use Rattle.bq_host.proofs.HasComparedLemmas.{compared_all}
 use Rattle.bq_host.proofs.TraceLemmas.{core_none, new_mails_are, none_waits, order_new}
 use Rattle.bq_job.proofs.JoinLemmas.{doors_owed, seat_owed_so_far}
@@ -50,7 +52,6 @@ use Rattle.bq_line.specs.declared.control_steps.Stage.{Stage}
 use Rattle.bq_line.specs.declared.control_steps.Stage.TheVariants as stages
 use Rattle.bq_line.proofs.ToldLemmas.{IsToldSo, told_all}
 use Rattle.bq_event_loop.proofs.RowLemmas.{same_selves, some_one, tended_at_first}
-use Rattle.bq_event_loop.proofs.SessionsLemmas.{StepsKeepSettings, run_keeps, up_to}
 
 -- ---- the control line
 
@@ -95,6 +96,28 @@ module _ {I : Type 0} (i : Control I) where
 
 -- ---- the seats
 
+-- no step belongs to a seat above this one
+up_to : (seat : ℕ) (history : List Entry) → ((t : ℕ) → seat < t → steps_at t history ≡ [])
+    → list_all (λ (e : Entry). nat_le e.seat seat) (without_ticks history) ≡ true
+up_to seat [] h = refl
+up_to seat (e ∷ history) h =
+    elim (cases_Bool (is_tick e.what)) [
+      | inl x ↦ rw x (up_to seat history (λ t above. tick_none t x (h t above)))
+      | inr x ↦ elim (cases_Bool (nat_le e.seat seat)) [
+        | inl y ↦ rw (x, y) (up_to seat history (λ t above. own_none t x (h t above)))
+        | inr y ↦ absurd (some_there x (h e.seat (let lt = leb-false e.seat seat y in omega arith)))
+      ]
+    ]
+  where
+    tick_none : (t : ℕ) → is_tick e.what ≡ true → steps_at t (e ∷ history) ≡ [] → steps_at t history ≡ []
+    tick_none t x g = rw x at g
+
+    own_none : (t : ℕ) → is_tick e.what ≡ false → steps_at t (e ∷ history) ≡ [] → steps_at t history ≡ []
+    own_none t x g = grind arith
+
+    some_there : is_tick e.what ≡ false → steps_at e.seat (e ∷ history) ≡ [] → ⊥
+    some_there x g = grind arith
+
 module _ {L : Type 0} (seen : L → LineSeen) where
   -- the open connection, or what a seat without one submitted
   out_at : (size : ℕ) (machine : SeatMachine) (place : SeatPhase L) (submitted : List Step) (taken more : List Answer)
@@ -134,7 +157,8 @@ module _ {L D C I K T : Type 0} {k : Core K} {l : Line L} {d : Door D L} {i : Co
   )
 
   -- Nothing was served yet.
-  pub serving_first : {c : Clock C} → ((clock : C) → c.given clock [] clock) → ((door : D) → d.same door door) → IsServing k c l d i [] begun core row control
+  pub serving_first : {c : Clock C} → ((clock : C) → c.given clock [] clock) → ((door : D) → d.same door door)
+      → IsServing k c l d i [] begun core row control
   serving_first {c} none self = record {
     told = [];
     submits = new.untold;
@@ -151,7 +175,8 @@ module _ {L D C I K T : Type 0} {k : Core K} {l : Line L} {d : Door D L} {i : Co
       many = new.many;
       doored = new.doored;
       each = λ t below a x. tended_new l.seen begun.settings.max_job_size (slice_index_or row.seats.items t a)
-          (door_seen d (slice_index_or row.doors.items t x)) (new.new_seats t a below) (new.new_doors t x (omega (arith, new.many, new.doored, below)));
+          (door_seen d (slice_index_or row.doors.items t x)) (new.new_seats t a below)
+          (new.new_doors t x (omega (arith, new.many, new.doored, below)));
       few = λ t below a x. omega arith;
       control_is = refl;
       nobody_else = λ t above. refl;
@@ -179,7 +204,7 @@ module _ {L D C K : Type 0} {k : Core K} {c : Clock C} {l : Line L} {d : Door D 
 
   -- The core's settings are those that it began with.
   pub serving_settings : StepsKeepSettings → (k.machine core.timed.core).settings ≡ begun.settings
-  serving_settings law = grind (arith, run_keeps)
+  serving_settings law = run_keeps_settings law begun.settings s.readings s.history s.trace.given (k.machine core.timed.core) ran
 
   -- a seat with its door, the answers that it was given, and how many of them are `Closed`
   record IsSeatSoFar (t : ℕ) (a : Attendant L) (door : DoorSeen) : Type 0 where

@@ -11,11 +11,6 @@ use Rattle.bq_event_loop.specs.Still.{IsStill}
 use Rattle.bq_event_loop.specs.declared.turns.Turn.{Turn}
 use Rattle.bq_event_loop.specs.declared.turns.Turn.TheVariants as turns
 
--- The seat acts before the turns sleep, or it checks for a client before they sleep if one may have
--- come, or it is to be woken, or nothing moves at it.
-abbrev pub IsKnown : Bool → Bool → ℕ → Type 0 → Type 0
-IsKnown listed tries waits Still = (listed ≡ true) ⊎ (tries ≡ true) ⊎ (0 < waits) ⊎ Still
-
 -- No seat acts, and none checks for a client that may have come.
 pub record AreIdle (may_come : Bool) (listed tries : ℕ → Bool) : Type 0 where
   pub acts : (seat : ℕ) → listed seat ≡ false
@@ -26,7 +21,8 @@ abbrev pub AreApart : (ℕ → Bool) → (ℕ → Bool) → Type 0
 AreApart listed tries = (seat : ℕ) → tries seat ≡ true → listed seat ≡ true → ⊥
 
 -- No seat is forgotten. The turns, which know this many seats, let `listed` act, and let `tries`
--- try their doors. These seats are to be woken.
+-- try their doors. These seats are to be woken. Each seat acts before the turns sleep, or it checks for a client before they sleep
+-- if one may have come, or it is to be woken, or nothing moves at it.
 pub record AreKnown {L : Type 0} (l : Line L) (many : ℕ) (listed tries : ℕ → Bool) (woken : List ℕ)
     (seats : List (Attendant L)) (mails : List (List Answer)) : Type 0 where
   pub all : length seats ≤ many
@@ -34,7 +30,8 @@ pub record AreKnown {L : Type 0} (l : Line L) (many : ℕ) (listed tries : ℕ �
   pub trying : (seat : ℕ) → seat < length seats → tries seat ≡ true → (a : Attendant L)
       → (slice_index_or seats seat a).phase ≡ phases.Between
   pub known : (seat : ℕ) → seat < length seats → (a : Attendant L)
-      → IsKnown (listed seat) (tries seat) (times seat woken) (IsStill l (slice_index_or seats seat a) (slice_index_or mails seat []))
+      → (listed seat ≡ true) ⊎ (tries seat ≡ true) ⊎ (0 < times seat woken)
+      ⊎ IsStill l (slice_index_or seats seat a) (slice_index_or mails seat [])
 
 -- Nothing moves at any seat: its next action would move nothing, or it checks for a client, and none
 -- can have come.

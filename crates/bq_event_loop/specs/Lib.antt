@@ -1,4 +1,3 @@
-pub mod Accepting
 pub mod ControlWatching
 pub mod EventLoopRuns
 pub mod Keeping
@@ -15,4 +14,3 @@ pub mod Sleeping
 pub mod SoFar
 pub mod Still
 pub mod Visits
-pub mod Waits

@@ -1,29 +1,44 @@
 -- What a loop knows of doors and seats after a report of the system, and after a door was tried.
-use Rattle.std.specs.Prelude.{ℕ, ◌≡◌, ◌≢◌, ◌<◌, ◌⊎◌, Bool, true, false, List, Option, None}
+use Rattle.std.specs.Prelude.{ℕ, ◌≡◌, ◌≢◌, ◌<◌, ◌⊎◌, Bool, true, false, not, ◌&&◌, List, Option, None}
 use Rattle.bq_line.specs.declared.attendant.Attendant.{Attendant}
 use Rattle.bq_line.specs.declared.attendant.TryOpened.{TryOpened}
 use Rattle.bq_line.specs.declared.attendant.TryOpened.TheVariants as results
 use Rattle.bq_line.specs.declared.door.turned_away.TurnedAway.{TurnedAway}
 use Rattle.bq_line.specs.declared.door.turned_away.TurnedAway.TheVariants as closes
-use Rattle.bq_event_loop.specs.Accepting.{rests}
 use Rattle.bq_event_loop.specs.Known.{ChangesOnly}
 use Rattle.bq_event_loop.specs.declared.doors.Doors.{Doors}
+use Rattle.bq_event_loop.specs.declared.doors.Rest.{Rest}
+use Rattle.bq_event_loop.specs.declared.doors.Rest.TheVariants as pauses
 use Rattle.bq_event_loop.specs.declared.sleeper.Report.{Report}
 use Rattle.bq_event_loop.specs.declared.sleeper.Report.TheVariants as reports
 use Rattle.bq_event_loop.specs.declared.turns.Turn.{Turn}
 use Rattle.bq_event_loop.specs.declared.turns.Turn.TheVariants as turns
 
+-- no connection is accepted for a while
+abbrev pub rests : Rest → Bool
+rests pauses.None = false
+rests _ = true
+
+-- A pause at the end of a wait: one until a moment may go on, any other ends.
+abbrev pub IsPassed : Rest → Rest → Type 0
+IsPassed (pauses.Until moment) new = (new ≡ pauses.Until moment) ⊎ (new ≡ pauses.None)
+IsPassed _ new = new ≡ pauses.None
+
+-- A door should be checked: a connection may have come, and one would be accepted.
+abbrev pub may_come : Doors → Bool
+may_come d = d.may_have_come && not (rests d.rest)
+
 -- a connection may have come
 abbrev pub one_came : Doors → Doors
-one_came d = record d { accepts = record d.accepts { may_have_come = true } }
+one_came d = record d { may_have_come = true }
 
 -- all connections were accepted
 abbrev pub none_there : Doors → Doors
-none_there d = record d { accepts = record d.accepts { may_have_come = false } }
+none_there d = record d { may_have_come = false }
 
 -- A pause has begun, and nothing else changed.
 abbrev pub BeginsRest : Doors → Doors → Type 0
-BeginsRest old new = (new ≡ record old { accepts = record old.accepts { rest = new.accepts.rest } }) × (rests new.accepts.rest ≡ true)
+BeginsRest old new = (new ≡ record old { rest = new.rest }) × (rests new.rest ≡ true)
 
 -- The doors after one was tried. Before it a connection may have come, or not.
 abbrev pub IsAfterTry : TryOpened → Bool → Doors → Doors → Type 0
@@ -73,5 +88,5 @@ MayHaveCome old new = (new ≡ old) ⊎ (new ≡ one_came old)
 abbrev pub IsAfterTurn : Turn → Option ℕ → Doors → Doors → Type 0
 IsAfterTurn (turns.TryOpen seat) free old new = free ≡ None → new ≡ old
 IsAfterTurn turns.TurnAway free old new = IsTurnedAway old new
-IsAfterTurn turns.Time free old new = old.accepts.may_have_come ≡ true → new.accepts.may_have_come ≡ true
+IsAfterTurn turns.Time free old new = old.may_have_come ≡ true → new.may_have_come ≡ true
 IsAfterTurn _ free old new = new ≡ old

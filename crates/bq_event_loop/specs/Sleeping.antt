@@ -1,5 +1,5 @@
 -- What holds when an event loop waits for the system.
-use Rattle.std.specs.Prelude.{ℕ, ◌≡◌, ◌≤◌, ◌⊎◌, Bool, true, false, List, [], Option, Some, None}
+use Rattle.std.specs.Prelude.{ℕ, ℤ, pos, negsuc, min, ◌≡◌, ◌≤◌, ◌⊎◌, Bool, true, false, List, [], Option, Some, None}
 use Rattle.bq_job.specs.beside.NextDue.{next_due}
 use Rattle.bq_job.specs.declared.answer.Answer.{Answer}
 use Rattle.bq_line.specs.declared.attendant.Attendant.{Attendant}
@@ -76,6 +76,11 @@ pub record IsAtTurn {L C I K : Type 0} (l : Line L) (k : Core K) (many : ℕ)
   pub woken : core.wake_queue.waiting ≡ []
   pub in_time : IsWaitFor k due core
   pub stands : standing ≡ stands_of control.owes_drain control.stage
+
+-- the timeout of epoll, in milliseconds: -1 for a wait without a limit
+abbrev pub timeout_of : Option ℕ → ℤ
+timeout_of None = negsuc 0
+timeout_of (Some most) = pos (min most 2147483647)
 
 -- A wait that is no longer than this limit. `None` stands for one without a limit.
 abbrev pub IsNoLonger : Option ℕ → Option ℕ → Type 0

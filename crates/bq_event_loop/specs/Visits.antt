@@ -1,5 +1,5 @@
 -- The limits of a visit, and what the clock tells of a round.
-use Rattle.std.specs.Prelude.{ℕ, ◌-◌, Bool, true, false, nat_lt, not, ◌||◌}
+use Rattle.std.specs.Prelude.{ℕ, ◌-◌, Bool, true, false, nat_lt, not}
 use Rattle.bq_line.specs.declared.attendant.Progress.{Progress}
 use Rattle.bq_line.specs.declared.attendant.Progress.TheVariants as results
 use Rattle.bq_event_loop.specs.declared.order.visits.Part.{Part}
@@ -32,10 +32,6 @@ cost_of _ = 1
 abbrev pub left_after : Progress → ℕ → ℕ → ℕ
 left_after results.Part cost left = 0
 left_after _ cost left = left - cost
-
--- A visit is over if it was before, or if a further command that takes as long would be too long.
-abbrev pub is_over_after : ℕ → ℕ → Bool → Bool
-is_over_after took time was_over = was_over || not (nat_lt took time)
 
 -- a turn for a whole command in the last part of a round, and otherwise for one action; once no
 -- further command begins, for the rest of an answer

@@ -1,24 +1,50 @@
-//! What a loop knows of connections that were not accepted yet.
-ghost use Rattle.std.specs.Prelude.{◌≡◌, true, false, Some};
-ghost use Rattle.bq_event_loop.specs.Accepting.{IsPassed, may_come, rests};
-ghost use Rattle.bq_event_loop.specs.Reports.{AfterTurningAway, IsAfterTry, IsTurnedAway, one_came};
+//! What a loop knows of connections that were not accepted yet, and whether they may be accepted.
+ghost use Rattle.std.specs.Prelude.{◌≡◌, ◌≤◌, ◌↔◌, true, false, Some, IfSome, IsNone};
+ghost use Rattle.bq_event_loop.specs.Reports.{IsPassed, may_come, rests, AfterTurningAway, IsAfterTry, IsTurnedAway, none_there, one_came};
 ghost use Rattle.bq_event_loop.specs.Sleeping.{IsNoLonger};
 
-use crate::accepts::Accepts;
 use crate::row::Row;
-use crate::waits::longest_wait;
 use bq_line::attendant::TryOpened;
 use bq_line::line::Line;
 use bq_line::{Door, TurnedAway};
 use std::rt;
+use std::time::{Duration, Instant};
 
 /// How many connections are closed in a round while all seats are taken.
 const TURNED_AWAY: u32 = 64;
 
-/// What a loop knows of connections that were not accepted yet.
+/// How long no connection is accepted after a lack of resources prevented one, in milliseconds.
+const REST: u64 = 100;
+
+/// A pause after a lack of resources.
+#[derive(Clone, Copy)]
+enum Rest {
+    None,
+    /// Until this moment, whatever happens meanwhile.
+    Until(Instant),
+    /// The clock could not be read: until the next wait has ended.
+    OneWait,
+}
+
+// Returns this length of time in milliseconds, rounded up, or that of a pause if it is shorter.
+fn at_most_rest(left: Duration) -> u64
+    ensures { result ≤ 100 }
+{
+    let ms = left.as_nanos().div_ceil(1_000_000);
+    if ms < u128::from(REST) {
+        ms as u64
+    } else {
+        REST
+    }
+}
+
+/// What a loop knows of connections that were not accepted yet. All doors share it, and one
+/// listener: a check that finds no client at one would hide those of another.
 #[derive(Clone, Copy)]
 pub struct Doors {
-    accepts: Accepts,
+    // True if a connection may have come since the last check that found none.
+    may_have_come: bool,
+    rest: Rest,
     // Whether more connections may wait to be closed, since all seats are taken.
     are_more_away: bool,
 }
@@ -26,19 +52,20 @@ pub struct Doors {
 impl Doors {
     /// Returns the state at the start, when connections may have come before anything was watched.
     pub(crate) fn new() -> Doors
-        ensures { may_come result.accepts ≡ true }
+        ensures { may_come result ≡ true }
     {
         Doors {
-            accepts: Accepts::new(),
+            may_have_come: true,
+            rest: Rest::None,
             are_more_away: false,
         }
     }
 
     /// Returns true if a door should be checked.
     pub(crate) fn may_come(&self) -> bool
-        ensures { result ≡ may_come self.now.accepts }
+        ensures { result ≡ may_come self.now }
     {
-        self.accepts.may_come()
+        self.may_have_come && matches!(self.rest, Rest::None)
     }
 
     /// Returns true if connections are left to be closed.
@@ -52,7 +79,7 @@ impl Doors {
     pub(crate) fn one_may_have_come(&mut self)
         ensures { self.new ≡ one_came self.old }
     {
-        self.accepts.one_may_have_come();
+        self.may_have_come = true;
     }
 
     /// Notes the result of a check for a connection, and whether one may have come before it.
@@ -63,11 +90,33 @@ impl Doors {
             TryOpened::Opened | TryOpened::NoMore => {}
             TryOpened::NotYet => {
                 if may_have_come {
-                    self.accepts.none_there();
+                    self.none_there();
                 }
             }
-            TryOpened::Later => self.accepts.rest(rt),
+            TryOpened::Later => self.rest(rt),
         }
+    }
+
+    // Notes that all connections were accepted. The system will report the next one.
+    fn none_there(&mut self)
+        ensures { self.new ≡ none_there self.old }
+    {
+        self.may_have_come = false;
+    }
+
+    // Notes that the system lacked resources for a connection. It does not report when it has them
+    // again.
+    fn rest<R: rt::Clock>(&mut self, rt: &R)
+        ensures rests { rests self.new.rest ≡ true }
+        ensures kept { self.new ≡ record self.old { rest = self.new.rest } }
+    {
+        self.rest = match Instant::now(rt) {
+            Ok(now) => match now.checked_add(Duration::from_millis(REST)) {
+                Some(until) => Rest::Until(until),
+                None => Rest::OneWait,
+            },
+            Err(_) => Rest::OneWait,
+        };
     }
 
     /// Lets a door close the connections that wait although all seats are taken, if it does so.
@@ -89,8 +138,8 @@ impl Doors {
         match turned {
             TurnedAway::Closed => self.are_more_away = true,
             TurnedAway::Waits => {}
-            TurnedAway::NoneThere => self.accepts.none_there(),
-            TurnedAway::Later => self.accepts.rest(rt),
+            TurnedAway::NoneThere => self.none_there(),
+            TurnedAway::Later => self.rest(rt),
         }
     }
 
@@ -98,20 +147,54 @@ impl Doors {
     /// time has passed.
     pub(crate) fn pass<R: rt::Clock>(&mut self, rt: &R)
         ensures away { self.new.are_more_away ≡ false }
-        ensures came { self.new.accepts.may_have_come ≡ self.old.accepts.may_have_come }
-        ensures rest { IsPassed self.old.accepts.rest self.new.accepts.rest }
+        ensures came { self.new.may_have_come ≡ self.old.may_have_come }
+        ensures rest { IsPassed self.old.rest self.new.rest }
     {
         self.are_more_away = false;
-        self.accepts.pass(rt);
+        if self.is_rested(rt) {
+            self.rest = Rest::None;
+        }
+    }
+
+    // Returns true if a pause ends with this wait, or there is none.
+    fn is_rested<R: rt::Clock>(&self, rt: &R) -> bool
+        ensures { result ≡ false → IsPassed self.now.rest self.now.rest }
+    {
+        match self.rest {
+            Rest::Until(until) => match Instant::now(rt) {
+                Ok(now) => now >= until,
+                Err(_) => true,
+            },
+            _ => true,
+        }
     }
 
     /// Returns how many milliseconds the loop may sleep: until something is due, or a pause of the
     /// doors ends, whichever is first. `None` is a wait without a limit.
     pub(crate) fn longest_wait<R: rt::Clock>(&self, rt: &R, due: Option<u64>) -> Option<u64>
         ensures due { IsNoLonger result due }
-        ensures rest { rests self.now.accepts.rest ≡ true → IsNoLonger result (Some 100) }
+        ensures rest { rests self.now.rest ≡ true → IsNoLonger result (Some 100) }
     {
-        longest_wait(due, self.accepts.rests_for(rt))
+        match (due, self.rests_for(rt)) {
+            (Some(due), Some(rest)) => Some(due.min(rest)),
+            (wait, None) | (None, wait) => wait,
+        }
+    }
+
+    // Returns for how many milliseconds no connection is accepted, at most 100, or `None` if
+    // connections are accepted.
+    fn rests_for<R: rt::Clock>(&self, rt: &R) -> Option<u64>
+        ensures none { IsNone result ↔ (rests self.now.rest ≡ false) }
+        ensures most { IfSome result (λ left. left ≤ 100) }
+    {
+        match self.rest {
+            Rest::None => None,
+            Rest::Until(until) => match Instant::now(rt) {
+                Ok(now) => Some(at_most_rest(until.saturating_duration_since(now))),
+                Err(_) => Some(REST),
+            },
+            Rest::OneWait => Some(REST),
+        }
     }
 }
 

@@ -14,7 +14,6 @@ pub use turns::{
 };
 pub use watch::Watch;
 
-mod accepts;
 mod control_watch;
 mod doors;
 mod event_loop;
@@ -27,5 +26,4 @@ mod sleeper;
 mod still;
 mod turns;
 mod waiting;
-mod waits;
 mod watch;

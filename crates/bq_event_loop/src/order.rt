@@ -325,18 +325,6 @@ impl Order {
         self.queue.enqueue(seat);
     }
 
-    // Returns true if a visit is under way, or a seat checks for a client.
-    fn is_visiting(&self) -> bool
-        ensures none { result ≡ false → visited_by self.now.stage self.now.visit ≡ None }
-        ensures some { result ≡ true → visited_by self.now.stage self.now.visit ≡ None → ⊥ }
-    {
-        match self.stage {
-            Stage::DoorTry(_) | Stage::Visit(_) | Stage::VisitTry(_, _) | Stage::HandOn(_, _) =>
-                true,
-            Stage::Control | Stage::Doors | Stage::Away | Stage::Visits(_) => false,
-        }
-    }
-
     // Returns true if no seat acts, and none checks for a client that may have come.
     #[tactic(auto, using(crate::proofs::KnownLemmas::idle_visits, crate::proofs::KnownLemmas::idle_queue, crate::proofs::KnownLemmas::idle_free))]
     fn is_idle(&self, may_come: bool) -> bool
@@ -345,7 +333,12 @@ impl Order {
         ensures busy { result ≡ false
             → AreIdle may_come (is_listed self.now.queue (visited_by self.now.stage self.now.visit)) (is_trying self.now.queue) → ⊥ }
     {
-        if self.is_visiting() {
+        // A visit is under way, or a seat checks for a client.
+        if let Stage::DoorTry(_)
+        | Stage::Visit(_)
+        | Stage::VisitTry(_, _)
+        | Stage::HandOn(_, _) = self.stage
+        {
             return false;
         }
         if !self.queue.is_empty() {

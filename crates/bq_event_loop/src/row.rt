@@ -67,6 +67,7 @@ impl<L: Line + Drop, D: Door<Line = L>> Row<L, D> {
     /// Checks for the next connection at a door, without waiting for it, and has it watched.
     /// `may_have_come` is false if none can have come since the last check. A seat that has a
     /// connection is left alone, and the result is `TryOpened::Opened`.
+    #[tactic(auto, using(crate::proofs::KnownLemmas::changed_one, crate::proofs::KnownLemmas::changed_phase))]
     pub fn try_open<W: Watcher>(
         &mut self,
         alloc: Global,
@@ -94,6 +95,7 @@ impl<L: Line + Drop, D: Door<Line = L>> Row<L, D> {
     }
 
     /// Notes what the connection of a seat is ready for, as the system reported it.
+    #[tactic(auto, using(crate::proofs::KnownLemmas::changed_one, crate::proofs::KnownLemmas::changed_phase))]
     pub fn note_ready(&mut self, seat: usize, ready: Readiness)
         requires tended { AreTended L.Line D.Door self.old }
         ensures keeps { KeepsRow L.Line D.Door self.old self.new }
@@ -109,13 +111,19 @@ impl<L: Line + Drop, D: Door<Line = L>> Row<L, D> {
     /// Swaps the read buffer of a seat's connection with this one, if both are empty. A seat
     /// between two connections swaps that of its door, which drops what the last connection left in
     /// it.
+    #[tactic(auto, using(crate::proofs::KnownLemmas::changed_one))]
     pub fn exchange(&mut self, seat: usize, buffer: &mut ReadBuffer)
         requires tended { AreTended L.Line D.Door self.old }
         ensures keeps { KeepsRow L.Line D.Door self.old self.new }
         ensures only { ChangesOnly seat self.old.seats.items self.new.seats.items }
     {
-        if seat < self.seats.len() {
-            exchange_at(&mut self.seats[seat], &mut self.doors[seat], buffer);
+        if seat >= self.seats.len() {
+            return;
+        }
+        if self.seats[seat].is_between() {
+            self.doors[seat].exchange(buffer);
+        } else {
+            self.seats[seat].exchange(buffer);
         }
     }
 
@@ -134,6 +142,7 @@ impl<L: Line + Drop, D: Door<Line = L>> Row<L, D> {
     /// Returns true if a seat reads a command, and no bytes have come as far as its connection knows,
     /// which then sends what it holds back.
     #[inline(always)]
+    #[tactic(auto, using(crate::proofs::KnownLemmas::changed_one, crate::proofs::RowLemmas::still_there))]
     pub fn rests(&mut self, seat: usize) -> bool
         requires tended { AreTended L.Line D.Door self.old }
         ensures keeps { KeepsRow L.Line D.Door self.old self.new }
@@ -148,6 +157,7 @@ impl<L: Line + Drop, D: Door<Line = L>> Row<L, D> {
     }
 
     /// Sends what the connection of a seat holds back in the expectation of more answers.
+    #[tactic(auto, using(crate::proofs::KnownLemmas::changed_one))]
     pub fn hand_on(&mut self, seat: usize)
         requires tended { AreTended L.Line D.Door self.old }
         ensures keeps { KeepsRow L.Line D.Door self.old self.new }
@@ -177,22 +187,4 @@ fn try_open_at<L: Line + Drop, D: Door<Line = L>, W: Watcher>(
         return TryOpened::Opened;
     }
     seat.try_open(alloc, door, may_have_come, watcher)
-}
-
-// Swaps the read buffer of a seat's connection, or of its door between two connections, with this
-// one.
-fn exchange_at<L: Line + Drop, D: Door<Line = L>>(
-    seat: &mut Attendant<L>,
-    door: &mut D,
-    buffer: &mut ReadBuffer,
-)
-    ensures trace { let at = door_seen D.Door in
-        Tends L.seen seat.old (at door.old) [] [] seat.new (at door.new) }
-    ensures same { (first : D) → D.same first door.old → D.same first door.new }
-{
-    if seat.is_between() {
-        door.exchange(buffer);
-    } else {
-        seat.exchange(buffer);
-    }
 }

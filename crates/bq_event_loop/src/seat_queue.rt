@@ -1,6 +1,6 @@
 //! Which seats can act, in the order of their visits, and which of them check for a connection.
 ghost use Rattle.std.specs.Prelude.{◌≡◌, ◌<◌, ◌≤◌, ◌+◌, ◌++◌, [], take, drop, ℕ, length, true, false, nat_lt, slice_get, slice_index_or};
-ghost use Rattle.std.specs.Prelude.{slice_set, vec_capacity, IfOk, IfSome, IsNone, IsTrue, None, ◌↔◌, if◌then◌else◌};
+ghost use Rattle.std.specs.Prelude.{slice_set, vec_capacity, IfOk, IfSome, IsNone, IsTrue, None, Some, ◌↔◌, if◌then◌else◌};
 ghost use Rattle.std.specs.Option.{option_to_list};
 ghost use Rattle.bq_event_loop.specs.Listings.{falling};
 
@@ -91,6 +91,7 @@ fn unmark(listed: &mut Vec<Listed, Global>, seat: usize)
 
 impl SeatQueue {
     ghost use Rattle.bq_host.specs.Marks.{times};
+    ghost use Rattle.bq_event_loop.specs.Keeping.{KeepsSeats};
     ghost use Rattle.bq_event_loop.specs.Listings.{IsDisjoint, all_free, enqueued, freed};
 
     /// Returns a queue of this many seats, all of which check for a connection.
@@ -109,7 +110,8 @@ impl SeatQueue {
     /// Puts a seat that can act at the end of the queue. A seat that is in a list stays where it
     /// is.
     pub fn enqueue(&mut self, seat: usize)
-        ensures { self.new ≡ enqueued seat self.old }
+        ensures queue { self.new ≡ enqueued seat self.old }
+        ensures keeps { KeepsSeats None None self.old (Some seat) self.new None }
     {
         if mark(&mut self.listed, seat, Listed::Queued) {
             self.queue.push_back_reserved(seat);

@@ -12,7 +12,7 @@ ghost use Rattle.bq_event_loop.specs.Sleeping.{IsWaitFor, stands_of};
 ghost use Rattle.bq_event_loop.specs.Still.{IsStill};
 ghost use Rattle.bq_host.specs.WakeLists.{Wakes, none_waits};
 ghost use Rattle.bq_line.specs.declared.control_steps.Stage.TheVariants as stages;
-ghost use Rattle.bq_line.specs.Tending.{is_polling, polls_by};
+ghost use Rattle.bq_line.specs.Tending.{is_polling};
 ghost use Rattle.bq_line.specs.declared.attendant.Attendant.{Attendant};
 ghost use Rattle.bq_seat.specs.SeatParts.{would_read};
 ghost use Rattle.bq_seat.specs.declared.machine.Action.{Action};
@@ -35,7 +35,7 @@ use bq_line::clock::Clock;
 use bq_line::control_line::ControlInput;
 use bq_line::control_steps::ControlSteps;
 use bq_line::line::{Line, ReadBuffer};
-use bq_seat::{Does, NextAction, PIECE_ROOM, SeatMachine};
+use bq_seat::{Does, PIECE_ROOM};
 use std::alloc::Global;
 use std::snapshot::Snapshot;
 
@@ -293,19 +293,7 @@ fn acts<L: Line + Drop>(
         return true;
     }
     let stands = stands_of(at);
-    goes_with(task, stands) && !waits_on(at, stands, mails, seat)
-}
-
-// Returns true if a seat waits for an answer that has not come, and no bytes have come either.
-fn waits_on<L: Line + Drop>(
-    at: &Attendant<L>,
-    stands: Stands,
-    mails: &Vec<Mail, Global>,
-    seat: usize,
-) -> bool
-    ensures { result ≡ true → IsStill L.Line at.now (slice_index_or mails.now.items seat []) }
-{
-    matches!(stands, Stands::Waits) && is_still(at, has_no_mail(mails, seat))
+    goes_with(task, stands) && !(stands == Stands::Waits && is_still(at, has_no_mail(mails, seat)))
 }
 
 // Returns true if a seat has a command that is under way, or bytes of its connection may have come.
@@ -318,21 +306,12 @@ fn has_command<L: Line + Drop>(seat: &Attendant<L>) -> bool
         → (action ≡ Action.PollMail) ⊎ (L.may_give line ≡ false) }
 {
     match &seat.phase {
-        SeatPhase::On(line, action, _) => has_command_on(line, action),
+        SeatPhase::On(line, action, _) => match action.does() {
+            Does::Read => line.may_give(),
+            Does::PollMail => false,
+            Does::Submit | Does::Write | Does::LineOver(_) | Does::Stray => true,
+        },
         _ => false,
-    }
-}
-
-// The same for a seat with this connection and this next action.
-#[inline(always)]
-fn has_command_on<L: Line>(line: &L, action: &NextAction) -> bool
-    ensures polls { result ≡ true → polls_by action.now ≡ false }
-    ensures none { result ≡ false → (action.now ≡ Action.PollMail) ⊎ (L.may_give line.now ≡ false) }
-{
-    match action.does() {
-        Does::Read => line.may_give(),
-        Does::PollMail => false,
-        Does::Submit | Does::Write | Does::LineOver(_) | Does::Stray => true,
     }
 }
 
@@ -449,19 +428,10 @@ fn takes_next<L: Line + Drop>(seat: &Attendant<L>) -> bool
     ensures { result ≡ (is_polling seat.now.phase && not (would_read seat.now.machine)) }
 {
     match &seat.phase {
-        SeatPhase::On(_, action, _) => takes_on(action, &seat.machine),
+        SeatPhase::On(_, action, _) => {
+            matches!(action.does(), Does::PollMail) && !seat.machine.would_read()
+        }
         _ => false,
-    }
-}
-
-// The same for a seat with a connection and this next action.
-#[inline(always)]
-fn takes_on(action: &NextAction, machine: &SeatMachine) -> bool
-    ensures { result ≡ (polls_by action.now && not (would_read machine.now)) }
-{
-    match action.does() {
-        Does::PollMail => !machine.would_read(),
-        Does::Submit | Does::Read | Does::Write | Does::LineOver(_) | Does::Stray => false,
     }
 }
 
@@ -485,6 +455,7 @@ fn act<L: Line + Drop, D: Door<Line = L>, C: Clock + Drop, K: QueueCore + Drop>(
 
 // Reads the control line as far as the turn says, and submits its steps. It stops early if a step
 // is rejected.
+#[tactic(auto, using(crate::proofs::ServingLemmas::control_none, crate::proofs::ServingLemmas::control_then))]
 fn serve_control<C: Clock + Drop, I: ControlInput, K: QueueCore + Drop>(
     control: &mut ControlSteps<I>,
     core: &mut Hub<C, K>,
@@ -496,37 +467,19 @@ fn serve_control<C: Clock + Drop, I: ControlInput, K: QueueCore + Drop>(
 {
     let mut may_wait = reads != ControlReads::Buffered;
     for _ in 0..u64::MAX {
-        if !submit_owed(control, core) {
+        // At most it owes a drain and its end.
+        if !submit_one(control, core) {
             return;
         }
-        if stops(control, may_wait) {
+        if !submit_one(control, core) {
+            return;
+        }
+        if control.is_over() || !(may_wait || control.has_unread()) {
             return;
         }
         control.read();
         may_wait = reads == ControlReads::ToEnd;
     }
-}
-
-// Returns true if the control line is not read further now.
-fn stops<I: ControlInput>(control: &ControlSteps<I>, may_wait: bool) -> bool {
-    control.is_over() || !(may_wait || control.has_unread())
-}
-
-// Submits the steps that the control line owes: at most a drain and its end. Returns false if one
-// was rejected.
-#[tactic(auto, using(crate::proofs::ServingLemmas::control_then))]
-fn submit_owed<C: Clock + Drop, I: ControlInput, K: QueueCore + Drop>(
-    control: &mut ControlSteps<I>,
-    core: &mut Hub<C, K>,
-) -> bool
-    requires order { IsInOrder (state_of K.QueueCore core.old) }
-    requires few { length core.old.mails.items ≤ 65535 }
-    ensures { ControlTrace K.QueueCore C.Clock I.ControlInput core.old control.old core.new control.new }
-{
-    if !submit_one(control, core) {
-        return false;
-    }
-    submit_one(control, core)
 }
 
 // Submits the next step of the control line, if there is one. Returns false if it was rejected.

@@ -1,7 +1,7 @@
 //! The system, as a loop sees it: what it reports, and the one call that may wait.
 ghost use Rattle.std.specs.Prelude.{◌≡◌, ℕ, [], Bool, true, false, None, Some};
-ghost use Rattle.bq_event_loop.specs.Accepting.{may_come, rests};
 ghost use Rattle.bq_event_loop.specs.Known.{AreStill};
+ghost use Rattle.bq_event_loop.specs.Reports.{may_come, rests};
 ghost use Rattle.bq_event_loop.specs.Sleeping.{HasWork, IsNoLonger, MayWait, stands_of};
 
 use crate::doors::Doors;
@@ -73,7 +73,7 @@ pub trait Sleeper {
     )
         // Nothing moves at any seat: its next action would move nothing, or it checks for a client,
         // and none can have come.
-        requires seats { AreStill L.Line (may_come doors.now.accepts) row.now.seats.items mails.now.items }
+        requires seats { AreStill L.Line (may_come doors.now) row.now.seats.items mails.now.items }
         requires mails { mails.now.items ≡ so_far.now.whole_core.value.mails.items }
         // No seat is left to be visited, and no connection is left to be closed.
         requires unvisited { (seat : ℕ) → T.listed turns.now seat ≡ false }
@@ -83,7 +83,7 @@ pub trait Sleeper {
         // All answers are in the mail of their seats, and the next due moment is not missed.
         requires due { MayWait K.QueueCore due so_far.now.whole_core.value }
         requires limit { IsNoLonger most due }
-        requires rest { rests doors.now.accepts.rest ≡ true → IsNoLonger most (Some 100) }
+        requires rest { rests doors.now.rest ≡ true → IsNoLonger most (Some 100) }
         // The control line owes nothing, and the system reports when there is more of it.
         requires control { awaits_control self.old ≡ true }
         requires owes { stands_of so_far.now.whole_control.value.owes_drain so_far.now.whole_control.value.stage ≡ ControlStands.Owes → ⊥ };
@@ -101,7 +101,7 @@ pub trait Sleeper {
     )
         // A seat acts, or checks for a client that may have come, connections are left to be
         // closed, something is due now, or the control line owes a step or is read.
-        requires work { HasWork (may_come doors.now.accepts) (T.listed turns.now) (T.tries turns.now) doors.now.are_more_away
+        requires work { HasWork (may_come doors.now) (T.listed turns.now) (T.tries turns.now) doors.now.are_more_away
             due stands reads };
 
     /// Returns how many reports the last wait or question gave.

@@ -1,9 +1,7 @@
 //! Whether nothing moves at a seat until its connection is ready or it has mail.
 ghost use Rattle.std.specs.Prelude.{◌≡◌, ◌⊎◌, ◌↔◌, ◌&&◌, [], true, false, List, slice_index_or};
 ghost use Rattle.bq_job.specs.declared.answer.Answer.{Answer};
-ghost use Rattle.bq_seat.specs.Outstanding.{ReadsWith};
 ghost use Rattle.bq_seat.specs.SeatParts.{would_read};
-ghost use Rattle.bq_seat.specs.declared.machine.Action.TheVariants as actions;
 ghost use Rattle.bq_line.specs.Tending.{DoorSeen, Tends};
 ghost use Rattle.bq_event_loop.specs.Still.{IsStill, IsStillOn};
 
@@ -36,33 +34,11 @@ fn is_still_on<L: Line>(
         → IsStillOn action.now machine.now (L.may_give line.now) (L.may_take line.now) mail }
 {
     match action.does() {
-        Does::Read => reads_nothing(machine, line, has_none),
-        Does::PollMail => polls_nothing(machine, line, has_none),
+        Does::Read => !line.may_give() && (has_none || !machine.has_outstanding()),
+        Does::PollMail => has_none && (!line.may_give() || !machine.would_read()),
         Does::Write => !line.may_take(),
         _ => false,
     }
-}
-
-// Returns true if the connection has no bytes, and no answer that a read would delay waits.
-fn reads_nothing<L: Line>(machine: &SeatMachine, line: &L, has_none: bool) -> bool
-    ensures gives { result ≡ true → L.may_give line.now ≡ false }
-    ensures mail { result ≡ true → (has_none ≡ true) ⊎ ReadsWith false machine.now }
-{
-    if line.may_give() {
-        return false;
-    }
-    has_none || !machine.has_outstanding()
-}
-
-// Returns true if there is no mail, and the read after it would find no bytes.
-fn polls_nothing<L: Line>(machine: &SeatMachine, line: &L, has_none: bool) -> bool
-    ensures none { result ≡ true → has_none ≡ true }
-    ensures reads { result ≡ true → (L.may_give line.now && would_read machine.now) ≡ false }
-{
-    if !has_none {
-        return false;
-    }
-    !line.may_give() || !machine.would_read()
 }
 
 /// Returns true if this seat has no mail.
@@ -96,38 +72,25 @@ fn stands_on<L: Line>(line: &L, action: &NextAction, machine: &SeatMachine) -> S
         → IsStillOn action.now machine.now (L.may_give line.now) (L.may_take line.now) mail }
 {
     match action.does() {
-        Does::Read => read_stands(line, machine),
+        Does::Read => {
+            if machine.has_outstanding() {
+                Stands::ReadsOn
+            } else if line.may_give() {
+                Stands::Reads
+            } else {
+                Stands::Awaits
+            }
+        }
         Does::Submit => Stands::Submits,
         Does::Write => Stands::Writes,
-        Does::PollMail => poll_stands(machine),
+        Does::PollMail => {
+            if machine.would_read() {
+                Stands::Waits
+            } else {
+                Stands::Other
+            }
+        }
         _ => Stands::Other,
-    }
-}
-
-fn poll_stands(machine: &SeatMachine) -> Stands
-    ensures between { result ≡ Stands.Between → ⊥ }
-    ensures done { result ≡ Stands.Done → ⊥ }
-    ensures awaits { result ≡ Stands.Awaits → ⊥ }
-{
-    if machine.would_read() {
-        Stands::Waits
-    } else {
-        Stands::Other
-    }
-}
-
-fn read_stands<L: Line>(line: &L, machine: &SeatMachine) -> Stands
-    ensures between { result ≡ Stands.Between → ⊥ }
-    ensures done { result ≡ Stands.Done → ⊥ }
-    ensures gives { result ≡ Stands.Awaits → L.may_give line.now ≡ false }
-    ensures alone { result ≡ Stands.Awaits → ReadsWith false machine.now }
-{
-    if machine.has_outstanding() {
-        Stands::ReadsOn
-    } else if line.may_give() {
-        Stands::Reads
-    } else {
-        Stands::Awaits
     }
 }
 
@@ -151,18 +114,9 @@ fn rests_on<L: Line>(machine: &SeatMachine, next: &NextAction, line: &mut L) -> 
     ensures still { result ≡ true → (mail : List Answer)
         → IsStillOn next.now machine.now (L.may_give line.new) (L.may_take line.new) mail }
 {
-    if !awaits(machine, next, line) {
+    if line.may_give() || !next.is_read() || machine.has_outstanding() {
         return false;
     }
     line.expect_more(false);
     !line.may_give()
-}
-
-// Returns true if a seat reads a command, and no bytes have come as far as its connection knows.
-#[inline(always)]
-fn awaits<L: Line>(machine: &SeatMachine, next: &NextAction, line: &L) -> bool
-    ensures reads { result ≡ true → next.now ≡ actions.Read }
-    ensures alone { result ≡ true → ReadsWith false machine.now }
-{
-    !line.may_give() && next.is_read() && !machine.has_outstanding()
 }

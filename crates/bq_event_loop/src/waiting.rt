@@ -1,9 +1,8 @@
 //! What a loop does after a turn: it tries doors, and it waits for the system.
 ghost use Rattle.std.specs.Prelude.{◌≡◌, ◌⊎◌, ℕ, [], true, false, None, Some};
-ghost use Rattle.bq_event_loop.specs.Accepting.{may_come};
 ghost use Rattle.bq_event_loop.specs.Known.{ChangesOnly, IsFreeSeat, IsListedIn, IsStillSeat, KeepsAll};
 ghost use Rattle.bq_event_loop.specs.KnownTurns.{AreKnownBy, IsAtTurnOf};
-ghost use Rattle.bq_event_loop.specs.Reports.{ChangesOnlyBy, IsAfterTurn, IsToldOf, MayHaveCome, doors_after};
+ghost use Rattle.bq_event_loop.specs.Reports.{may_come, ChangesOnlyBy, IsAfterTurn, IsToldOf, MayHaveCome, doors_after};
 ghost use Rattle.bq_event_loop.specs.Rows.{AreTended, KeepsRow};
 ghost use Rattle.bq_event_loop.specs.Sleeping.{HasWork};
 
@@ -68,7 +67,7 @@ pub fn end_turn<
     ensures due { news.new.due ≡ news.old.due }
     ensures control { news.new.control ≡ news.old.control }
     // The turns learn whether a door should be checked.
-    ensures may_come { news.old.may_come ≡ may_come doors.old.accepts → news.new.may_come ≡ may_come doors.new.accepts }
+    ensures may_come { news.old.may_come ≡ may_come doors.old → news.new.may_come ≡ may_come doors.new }
     ensures doors { IsAfterTurn turn news.new.free doors.old doors.new }
 {
     news.free = None;
@@ -103,24 +102,8 @@ fn note_seat<L: Line + Drop, D: Door<Line = L>>(
     if row.rests(seat) {
         news.stands = Stands::Awaits;
         news.still = Some(seat);
-    } else {
-        note_other(row, mails, seat, news);
+        return;
     }
-}
-
-// The same for a seat that does something else next.
-fn note_other<L: Line + Drop, D: Door<Line = L>>(
-    row: &mut Row<L, D>,
-    mails: &Vec<Mail, Global>,
-    seat: usize,
-    news: &mut News,
-)
-    requires tended { AreTended L.Line D.Door row.old }
-    ensures keeps { KeepsRow L.Line D.Door row.old row.new }
-    ensures only { ChangesOnly seat row.old.seats.items row.new.seats.items }
-    ensures still { IsStillSeat L.Line news.new.still row.new.seats.items mails.now.items }
-    ensures rest { news.new ≡ record news.old { stands = news.new.stands; still = news.new.still } }
-{
     news.stands = row.stands(seat);
     if may_rest(news.stands, news.progress) {
         note_rest(row, mails, seat, news);
@@ -145,7 +128,11 @@ fn note_rest<L: Line + Drop, D: Door<Line = L>>(
     ensures rest { news.new ≡ record news.old { stands = news.new.stands; still = news.new.still } }
 {
     row.hand_on(seat);
-    news.still = still_seat(row, mails, seat);
+    news.still = if row.is_still(seat, has_no_mail(mails, seat)) {
+        Some(seat)
+    } else {
+        None
+    };
 }
 
 // Returns true if a seat that stands so may rest: it has nothing to do, or nothing moved.
@@ -158,21 +145,6 @@ fn may_rest(stands: Stands, progress: Progress) -> bool
     match stands {
         Stands::Done | Stands::Awaits | Stands::Waits => true,
         _ => !progress.has_moved(),
-    }
-}
-
-// Returns this seat if nothing moves at it until its connection is ready or it has mail.
-fn still_seat<L: Line + Drop, D: Door<Line = L>>(
-    row: &Row<L, D>,
-    mails: &Vec<Mail, Global>,
-    seat: usize,
-) -> Option<usize>
-    ensures { IsStillSeat L.Line result row.now.seats.items mails.now.items }
-{
-    if row.is_still(seat, has_no_mail(mails, seat)) {
-        Some(seat)
-    } else {
-        None
     }
 }
 
@@ -189,7 +161,7 @@ fn try_open<W: Sleeper, L: Line + Drop, D: Door<Line = L>>(
     ensures keeps { KeepsRow L.Line D.Door row.old row.new }
     ensures only { ChangesOnly seat row.old.seats.items row.new.seats.items }
     ensures free { IsFreeSeat news.new.free row.new.seats.items }
-    ensures may_come { news.new.may_come ≡ may_come doors.new.accepts }
+    ensures may_come { news.new.may_come ≡ may_come doors.new }
     ensures rest { news.new ≡ record news.old { free = news.new.free; may_come = news.new.may_come; progress = news.new.progress } }
     // Only a check that found no client changes what is known of the doors.
     ensures found { news.new.free ≡ None → doors.new ≡ doors.old }
@@ -200,7 +172,10 @@ fn try_open<W: Sleeper, L: Line + Drop, D: Door<Line = L>>(
     doors.note_tried(sleeper.system(), may_have_come, tried);
     news.may_come = doors.may_come();
     news.free = free_after(tried, seat);
-    news.progress = progress_of(tried);
+    news.progress = match news.free {
+        Some(_) => Progress::NothingToDo,
+        None => Progress::Moved,
+    };
 }
 
 // Returns the seat if it found no client and checks again when one may have come.
@@ -211,13 +186,6 @@ fn free_after(tried: TryOpened, seat: usize) -> Option<usize>
     match tried {
         TryOpened::Opened | TryOpened::NoMore => None,
         TryOpened::NotYet | TryOpened::Later => Some(seat),
-    }
-}
-
-fn progress_of(tried: TryOpened) -> Progress {
-    match tried {
-        TryOpened::Opened | TryOpened::NoMore => Progress::Moved,
-        TryOpened::NotYet | TryOpened::Later => Progress::NothingToDo,
     }
 }
 
@@ -244,45 +212,21 @@ fn wait<
     requires turn { IsAtTurnOf L.Line K.QueueCore T.Turns turns.old row.old.seats.items mails.now.items news.old so_far.now }
     ensures keeps { KeepsRow L.Line D.Door row.old row.new }
     ensures known { AreKnownBy L.Line T.Turns turns.new [] row.new.seats.items mails.now.items }
-    ensures may_come { news.new.may_come ≡ may_come doors.new.accepts }
+    ensures may_come { news.new.may_come ≡ may_come doors.new }
     ensures rest { news.new ≡ record news.old { may_come = news.new.may_come; reads = news.new.reads } }
-    ensures come { doors.old.accepts.may_have_come ≡ true → doors.new.accepts.may_have_come ≡ true }
-{
-    sleep_or_ask(turns, sleeper, doors, row, mails, news, so_far);
-    doors.pass(sleeper.system());
-    note_reports(turns, sleeper, doors, row, mails);
-    news.may_come = doors.may_come();
-    news.reads = sleeper.control_reads(news.control);
-}
-
-// Waits until the system reports something, or only asks it if the loop has something to do.
-fn sleep_or_ask<
-    T: Turns,
-    W: Sleeper,
-    L: Line + Drop,
-    D: Door<Line = L>,
-    C: Clock + Drop,
-    I: ControlInput + Drop,
-    K: QueueCore + Drop,
->(
-    turns: &mut T,
-    sleeper: &mut W,
-    doors: &Doors,
-    row: &Row<L, D>,
-    mails: &Vec<Mail, Global>,
-    news: &News,
-    so_far: &SoFar<L, D, C, I, K>,
-)
-    requires turn { IsAtTurnOf L.Line K.QueueCore T.Turns turns.old row.now.seats.items mails.now.items news.now so_far.now }
-    ensures { AreKnownBy L.Line T.Turns turns.new [] row.now.seats.items mails.now.items }
+    ensures come { doors.old.may_have_come ≡ true → doors.new.may_have_come ≡ true }
 {
     let reads = sleeper.control_reads(news.control);
     if is_busy(turns, doors, news, reads) {
         sleeper.ask(turns, doors, news.due, news.control, reads);
-        return;
+    } else {
+        let most = doors.longest_wait(sleeper.system(), news.due);
+        sleeper.sleep(turns, row, mails, so_far, doors, news.due, most);
     }
-    let most = doors.longest_wait(sleeper.system(), news.due);
-    sleeper.sleep(turns, row, mails, so_far, doors, news.due, most);
+    doors.pass(sleeper.system());
+    note_reports(turns, sleeper, doors, row, mails);
+    news.may_come = doors.may_come();
+    news.reads = sleeper.control_reads(news.control);
 }
 
 // Returns true if the loop must not sleep: a seat acts, or checks for a client that may have come,
@@ -293,12 +237,12 @@ fn is_busy<T: Turns>(turns: &mut T, doors: &Doors, news: &News, reads: Option<Co
     ensures listed { (seat : ℕ) → T.listed turns.new seat ≡ T.listed turns.old seat }
     ensures tries { (seat : ℕ) → T.tries turns.new seat ≡ T.tries turns.old seat }
     ensures acts { result ≡ false → (seat : ℕ) → T.listed turns.new seat ≡ false }
-    ensures checks { result ≡ false → may_come doors.now.accepts ≡ true → (seat : ℕ) → T.tries turns.new seat ≡ false }
+    ensures checks { result ≡ false → may_come doors.now ≡ true → (seat : ℕ) → T.tries turns.new seat ≡ false }
     ensures away { result ≡ false → doors.now.are_more_away ≡ false }
     ensures due { result ≡ false → news.now.due ≡ Some 0 → ⊥ }
     ensures owes { result ≡ false → news.now.control ≡ ControlStands.Owes → ⊥ }
     ensures control { result ≡ false → reads ≡ None }
-    ensures busy { result ≡ true → HasWork (may_come doors.now.accepts) (T.listed turns.new) (T.tries turns.new)
+    ensures busy { result ≡ true → HasWork (may_come doors.now) (T.listed turns.new) (T.tries turns.new)
         doors.now.are_more_away news.now.due news.now.control reads }
 {
     if !turns.may_sleep(doors.may_come()) {

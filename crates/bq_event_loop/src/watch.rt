@@ -1,8 +1,7 @@
 //! The system as epoll (`mio`) reports it.
 ghost use Rattle.std.specs.Prelude.{◌≡◌, None, IfOk, IfSome};
-ghost use Rattle.bq_event_loop.specs.Waits.{timeout_of};
 ghost use Rattle.bq_event_loop.specs.Reports.{IsReportOf};
-ghost use Rattle.bq_event_loop.specs.Sleeping.{is_awaited};
+ghost use Rattle.bq_event_loop.specs.Sleeping.{is_awaited, timeout_of};
 
 use crate::control_watch::{ControlCame, ControlWatch};
 use crate::doors::Doors;
@@ -60,48 +59,19 @@ impl<'r, R: Net> Watch<'r, R> {
         let Ok(events) = Vec::from_elem(alloc, unused, EVENTS) else {
             return Err(TurnsFault::NoMemory);
         };
-        match watch_all(rt, doors, control) {
-            Ok((poll, control)) => Ok(Watch {
-                rt,
-                poll,
-                events,
-                came: 0,
-                control,
-            }),
-            Err(fault) => {
-                drop(events);
-                Err(fault)
-            }
-        }
+        let Ok(poll) = Poll::new(rt) else {
+            return Err(TurnsFault::Refused);
+        };
+        watch_doors(poll.registry(), doors)?;
+        let control = ControlWatch::new(poll.registry(), control)?;
+        Ok(Watch {
+            rt,
+            poll,
+            events,
+            came: 0,
+            control,
+        })
     }
-}
-
-// Returns an epoll that has the doors and the control line registered.
-fn watch_all<R: Net, L: Line + Drop, D: Door<Line = L>>(
-    rt: &R,
-    doors: &[D],
-    control: Option<RawFd>,
-) -> Result<(Poll, ControlWatch), TurnsFault> {
-    let Ok(poll) = Poll::new(rt) else {
-        return Err(TurnsFault::Refused);
-    };
-    match register_all(poll.registry(), doors, control) {
-        Ok(control) => Ok((poll, control)),
-        Err(fault) => {
-            drop(poll);
-            Err(fault)
-        }
-    }
-}
-
-// Registers the doors and the control line.
-fn register_all<L: Line + Drop, D: Door<Line = L>>(
-    registry: &Registry,
-    doors: &[D],
-    control: Option<RawFd>,
-) -> Result<ControlWatch, TurnsFault> {
-    watch_doors(registry, doors)?;
-    ControlWatch::new(registry, control)
 }
 
 impl<'r, R> Watch<'r, R> {

@@ -69,7 +69,9 @@ impl Pace {
                     return took;
                 }
                 self.stepped = Some(seat);
-                self.is_held_up = self.is_held_up || holds_up(part, took);
+                // Between two turns of the part of the steps there is no call of the system, so that
+                // a long time is that of a step.
+                self.is_held_up = self.is_held_up || matches!(part, Part::Steps) && took >= LONG;
                 0
             }
         }
@@ -88,16 +90,5 @@ impl Pace {
         ensures { result ≡ not (nat_lt (self.now.reading - self.now.began) 2000) }
     {
         self.reading.saturating_sub(self.began) >= ROUND
-    }
-}
-
-// Between two turns of the part of the steps there is no call of the system, so that a long time is
-// that of a step.
-fn holds_up(part: Part, took: u64) -> bool
-    ensures { result ≡ holds_up part took }
-{
-    match part {
-        Part::Steps => took >= LONG,
-        Part::Reads | Part::Answers => false,
     }
 }

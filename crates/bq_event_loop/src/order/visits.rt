@@ -1,7 +1,7 @@
 //! The visits of a round: the actions that a visited seat does without waiting, before other seats
 //! have their turn.
-ghost use Rattle.std.specs.Prelude.{◌≡◌, ◌-◌, not, true, false, IsNone};
-ghost use Rattle.bq_event_loop.specs.Visits.{actions_of, cost_of, is_over_after, left_after, only_writes, task_in, turn_of};
+ghost use Rattle.std.specs.Prelude.{◌≡◌, ◌-◌, ◌||◌, nat_lt, not, true, false, IsNone};
+ghost use Rattle.bq_event_loop.specs.Visits.{actions_of, cost_of, left_after, only_writes, task_in, turn_of};
 
 use crate::turns::{Stands, Task, Turn};
 use bq_line::attendant::Progress;
@@ -62,25 +62,6 @@ pub enum VisitLimit {
     OneAnswer,
 }
 
-impl VisitLimit {
-    // Returns how many actions the visit may do.
-    fn actions(self) -> u32
-        ensures { result ≡ actions_of self }
-    {
-        match self {
-            VisitLimit::OneCommand => COMMAND,
-            VisitLimit::Commands | VisitLimit::OneAnswer => MOST,
-        }
-    }
-
-    // Returns true if the visit begins no command.
-    fn only_writes(self) -> bool
-        ensures { result ≡ only_writes self }
-    {
-        matches!(self, VisitLimit::OneAnswer)
-    }
-}
-
 /// The reason why a visit pauses.
 #[derive(Clone, Copy)]
 pub enum Pause {
@@ -120,12 +101,17 @@ impl Visit {
         ensures time { result.time ≡ 200 }
         ensures over { result.is_over ≡ only_writes limit }
     {
+        let (left, is_over) = match limit {
+            VisitLimit::Commands => (MOST, false),
+            VisitLimit::OneCommand => (COMMAND, false),
+            VisitLimit::OneAnswer => (MOST, true),
+        };
         Visit {
             seat,
             part,
-            left: limit.actions(),
+            left,
             time: LONGEST,
-            is_over: limit.only_writes(),
+            is_over,
             last: Progress::Moved,
             unmoved: 0,
         }
@@ -143,7 +129,18 @@ impl Visit {
     pub fn turn(&self) -> Turn
         ensures { result ≡ turn_of self.now }
     {
-        Turn::Serve(self.seat, task_in(self.is_over, self.part))
+        let task = match self.part {
+            Part::Reads => Task::Read,
+            Part::Steps => Task::Step,
+            Part::Answers => {
+                if self.is_over {
+                    Task::Answer
+                } else {
+                    Task::Command
+                }
+            }
+        };
+        Turn::Serve(self.seat, task)
     }
 
     /// Notes another turn: the result of its last action, and how many microseconds the command
@@ -153,9 +150,16 @@ impl Visit {
         ensures part { self.new.part ≡ self.old.part }
         ensures left { self.new.left ≡ left_after progress (cost_of self.old.part) self.old.left }
         ensures time { self.new.time ≡ self.old.time - took }
-        ensures over { self.new.is_over ≡ is_over_after took (self.old.time - took) self.old.is_over }
+        // It is over if it was before, or if a further command that takes as long would be too long.
+        ensures over { self.new.is_over ≡ (self.old.is_over || not (nat_lt took (self.old.time - took))) }
     {
-        self.left = left_after(progress, self.part, self.left);
+        self.left = match progress {
+            Progress::Part => 0,
+            _ => self.left.saturating_sub(match self.part {
+                Part::Answers => COMMAND,
+                Part::Reads | Part::Steps => 1,
+            }),
+        };
         self.time = self.time.saturating_sub(took);
         self.is_over = self.is_over || self.time <= took;
         self.last = progress;
@@ -196,36 +200,16 @@ impl Visit {
         match stands {
             Stands::Between => Some(Pause::IsFree),
             Stands::Done | Stands::Awaits => Some(Pause::Stuck),
-            _ => self.end_on_line(stands),
+            _ => {
+                if self.is_stuck() {
+                    Some(Pause::Stuck)
+                } else if self.left == 0 || self.is_over && stands != Stands::Writes {
+                    Some(Pause::GoesOn)
+                } else {
+                    None
+                }
+            }
         }
-    }
-
-    // The same if its connection is open and bytes have come, or it does not read a command.
-    fn end_on_line(&self, stands: Stands) -> Option<Pause>
-        ensures left { IsNone result → self.now.left ≡ 0 → ⊥ }
-        ensures over { IsNone result → self.now.is_over ≡ true → stands ≡ Stands.Writes }
-    {
-        if self.is_stuck() {
-            Some(Pause::Stuck)
-        } else if self.is_used_up(stands) {
-            Some(Pause::GoesOn)
-        } else {
-            None
-        }
-    }
-
-    // Returns true if no action is left, or the next one would begin a command and none begins.
-    fn is_used_up(&self, stands: Stands) -> bool
-        ensures left { result ≡ false → self.now.left ≡ 0 → ⊥ }
-        ensures over { result ≡ false → self.now.is_over ≡ true → stands ≡ Stands.Writes }
-    {
-        if self.left == 0 {
-            return true;
-        }
-        if self.is_over {
-            return !is_writing(stands);
-        }
-        false
     }
 
     // Returns true if nothing moves now. A seat whose answer is outstanding alternately polls its
@@ -237,44 +221,6 @@ impl Visit {
             Progress::NoMail | Progress::NoBytes | Progress::NothingToDo => self.unmoved > 1,
         }
     }
-}
-
-// Returns how much the seat of a visit does in a turn.
-fn task_in(is_over: bool, part: Part) -> Task
-    ensures { result ≡ task_in is_over part }
-{
-    match part {
-        Part::Reads => Task::Read,
-        Part::Steps => Task::Step,
-        Part::Answers => { if is_over { Task::Answer } else { Task::Command } }
-    }
-}
-
-// Returns how many actions a turn counts as.
-fn cost_of(part: Part) -> u32
-    ensures { result ≡ cost_of part }
-{
-    match part {
-        Part::Answers => COMMAND,
-        Part::Reads | Part::Steps => 1,
-    }
-}
-
-// Returns how many actions are left after a turn with this result.
-fn left_after(progress: Progress, part: Part, left: u32) -> u32
-    ensures { result ≡ left_after progress (cost_of part) left }
-{
-    match progress {
-        Progress::Part => 0,
-        _ => left.saturating_sub(cost_of(part)),
-    }
-}
-
-// Returns true if the next action writes.
-fn is_writing(stands: Stands) -> bool
-    ensures { result ≡ true → stands ≡ Stands.Writes }
-{
-    matches!(stands, Stands::Writes)
 }
 
 // Returns true if a part that is not the last ends before the next action.

@@ -1,4 +1,4 @@
-use Rattle.std.proofs.Common.{◌∙◌, ap, arith, rules}
+use Rattle.std.proofs.Common.{◌∙◌, ap, rules}
 use Rattle.bq_event_loop.proofs.SoFarLemmas.{serving_over, serving_settings, serving_so_far}
 use Rattle.bq_event_loop.proofs.run.run_at.Goals as goal
 

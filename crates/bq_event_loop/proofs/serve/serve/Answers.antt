@@ -12,7 +12,8 @@ pub loop-init : goal.loop-init
 loop-init g c =
     let new = c.requires.new in
     let ready : AreReady g.K.QueueCore g.L.Line g.D.Door c.args.core.now c.args.row.now = ready_first new in
-    let serving : IsServing g.K.QueueCore g.C.Clock g.L.Line g.D.Door g.I.ControlInput [] _ c.args.core.now c.args.row.now c.args.control.now =
+    let serving : IsServing g.K.QueueCore g.C.Clock g.L.Line g.D.Door g.I.ControlInput [] _ c.args.core.now c.args.row.now
+    c.args.control.now =
     serving_first new g.met.C.Clock.none_given g.met.D.Door.same_self in
     let known : AreKnownBy g.L.Line g.T.Turns c.args.turns.now [] c.args.row.now.seats.items c.args.core.now.mails.items =
     known_at_first new.many new.knows new.new_seats in
@@ -51,7 +52,8 @@ wake_all-requires g c =
     let turned = (c.take_turn.ensures.served _ _ c.loop.invariant.serving).served in
     let now = c.so_far.ensures in
     record {
-      known = known_after c.next-turn.result c.loop.invariant.woken (omega (arith, turned.many, turned.trace.many, old.many, old.trace.many, c.loop.invariant.ready.2))
+      known = known_after c.next-turn.result c.loop.invariant.woken
+          (omega (arith, turned.many, turned.trace.many, old.many, old.trace.many, c.loop.invariant.ready.2))
           c.take_turn.ensures.wakes c.next-turn.ensures.acts c.take_turn.ensures.only
           (rw (now.seats, now.mails) at c.next-turn.ensures.known);
     }

@@ -1,4 +1,3 @@
-use Rattle.std.proofs.Common.{arith}
 use Rattle.bq_event_loop.proofs.ServingLemmas.{loop_control, loop_serves, serves_time}
 use Rattle.bq_event_loop.proofs.serve.take_turn.Goals as goal
 
