@@ -1,6 +1,6 @@
 //! Why a program fails.
 ghost use Rattle.std.specs.Prelude.{◌≡◌, option_map};
-ghost use Rattle.bq_program.specs.Faults.{fault_detail, fault_of_end, fault_of_loop, fault_of_run, fault_text, need_text};
+ghost use Rattle.bq_program.specs.Faults.{fault_detail, fault_of_end, fault_of_loop, fault_of_run, fault_text};
 
 use crate::chosen::OptionFault;
 use bq_host::RunFault;
@@ -66,21 +66,19 @@ impl Fault {
         ensures { option_map (λ text. text.now) result ≡ fault_detail self }
     {
         match self {
-            Fault::NoMemory(need) => Some(text_of_need(need)),
+            Fault::NoMemory(Need::Options) => Some("could not allocate memory for the options"),
+            Fault::NoMemory(Need::ControlLine) => {
+                Some("could not allocate memory for the control line")
+            }
+            Fault::NoMemory(Need::Doors) => {
+                Some("could not allocate memory for the buffers of the seats")
+            }
+            Fault::NoMemory(Need::Queue) => {
+                Some("could not allocate memory for the queue and its seats")
+            }
             Fault::EpollRefused => Some("could not watch the listener and standard input"),
             _ => None,
         }
-    }
-}
-
-fn text_of_need(need: Need) -> &'static str
-    ensures { result.now ≡ need_text need }
-{
-    match need {
-        Need::Options => "could not allocate memory for the options",
-        Need::ControlLine => "could not allocate memory for the control line",
-        Need::Doors => "could not allocate memory for the buffers of the seats",
-        Need::Queue => "could not allocate memory for the queue and its seats",
     }
 }
 
@@ -102,9 +100,8 @@ pub fn fault_of_loop(fault: RunFault) -> Fault
     ensures { result ≡ fault_of_loop fault }
 {
     match fault {
-        RunFault::NoMemory => Fault::NoMemory(Need::Queue),
         RunFault::ThreadRefused => Fault::EpollRefused,
-        RunFault::BadConfiguration => Fault::BadConfiguration,
+        _ => Fault::from(fault),
     }
 }
 

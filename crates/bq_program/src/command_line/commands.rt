@@ -40,9 +40,17 @@ const VERBOSE: &str = "verbose";
 
 const VERSION_WORD: &str = "version";
 
+// A command gets all its arguments at once. Each further call that may fail for lack of memory
+// would be one more path on which everything is dropped, with a proof of its own.
+
 /// Returns the command line of `bq`.
 pub fn bq_command<'a>(alloc: Global) -> Result<Command<'a>, AllocError> {
-    let args = bq_args(alloc)?;
+    let args = vec![in alloc;
+        still_arg(alloc),
+        max_job_size_arg(alloc),
+        max_jobs_arg(alloc),
+        version_arg(alloc),
+    ]?;
     Command::new(alloc, "bq")
         .version(VERSION)
         .disable_version_flag(true)
@@ -52,28 +60,7 @@ pub fn bq_command<'a>(alloc: Global) -> Result<Command<'a>, AllocError> {
 
 /// Returns the command line of `bqd`.
 pub fn bqd_command<'a>(alloc: Global) -> Result<Command<'a>, AllocError> {
-    let args = bqd_args(alloc)?;
-    Command::new(alloc, "bqd")
-        .version(VERSION)
-        .disable_version_flag(true)
-        .about("Serves a work queue to many clients over TCP")
-        .args(args)
-}
-
-// A command gets all its arguments at once. Each further call that may fail for lack of memory
-// would be one more path on which everything is dropped, with a proof of its own.
-
-fn bq_args<'a>(alloc: Global) -> Result<Vec<Arg<'a>>, AllocError> {
-    Ok(vec![in alloc;
-        still_arg(alloc),
-        max_job_size_arg(alloc),
-        max_jobs_arg(alloc),
-        version_arg(alloc),
-    ]?)
-}
-
-fn bqd_args<'a>(alloc: Global) -> Result<Vec<Arg<'a>>, AllocError> {
-    Ok(vec![in alloc;
+    let args = vec![in alloc;
         listen_arg(alloc),
         port_arg(alloc),
         seats_arg(alloc),
@@ -85,7 +72,12 @@ fn bqd_args<'a>(alloc: Global) -> Result<Vec<Arg<'a>>, AllocError> {
         when_full_arg(alloc),
         verbose_arg(alloc),
         version_arg(alloc),
-    ]?)
+    ]?;
+    Command::new(alloc, "bqd")
+        .version(VERSION)
+        .disable_version_flag(true)
+        .about("Serves a work queue to many clients over TCP")
+        .args(args)
 }
 
 // An option with a number, by its long name.
