@@ -8,19 +8,17 @@ use Rattle.bq_job.proofs.OneClientLemmas.{answers_append}
 use Rattle.bq_link.specs.EndStates.{CoreState, room_for, sent_to}
 use Rattle.bq_link.specs.EndChanges.{with_room, with_sent}
 use Rattle.bq_thread_work.specs.Sending.{AreSent}
-
--- one sending after another
-pub sent_on : (a b c : CoreState) (xs ys zs : List GivenAnswer) → AreSent a xs b ys → AreSent b ys c zs → AreSent a xs c zs
-sent_on a b c xs ys zs h i = grind arith
+use Rattle.bq_thread_work.specs.declared.core_work.sender.Sender.{Sender}
 
 -- with other answers after them
 pub sent_before : (a b : CoreState) (xs ys more : List GivenAnswer) → AreSent a xs b ys → AreSent a (xs ++ more) b (ys ++ more)
 sent_before a b xs ys more h = grind (arith, answers_append, append_assoc)
 
--- one answer is the next to be sent, and the others follow
-pub sent_next : (a b : CoreState) (kept left rest new : List GivenAnswer) (g : GivenAnswer) → left ≡ g ∷ rest
-    → AreSent a (kept ++ g ∷ []) b new → AreSent a (kept ++ left) b (new ++ rest)
-sent_next a b kept left rest new g is h = grind (arith, append_assoc kept (g ∷ []) rest, sent_before a b (kept ++ g ∷ []) new rest h)
+-- the next answer was sent or kept, and the others follow
+pub sent_next : (first a b : CoreState) (all kept left rest new : List GivenAnswer) (g : GivenAnswer) → AreSent first all a (kept ++ left)
+    → left ≡ g ∷ rest → AreSent a (kept ++ g ∷ []) b new → AreSent first all b (new ++ rest)
+sent_next first a b all kept left rest new g so_far is h =
+    grind (arith, append_assoc kept (g ∷ []) rest, sent_before a b (kept ++ g ∷ []) new rest h)
 
 -- the answer of another end
 pub to_other : (seat t : ℕ) (answer : Answer) → seat ≢ t → answers_to t ((seat, answer) ∷ []) ≡ []
@@ -35,7 +33,16 @@ sent_else : (old new : CoreState) (seat t : ℕ) (answer : Answer) → new ≡ w
 sent_else old new seat t answer is other = grind (arith, common_steps)
 
 -- an answer is sent if none is kept for its end
-pub sent_one : (old new : CoreState) (kept : List GivenAnswer) (seat : ℕ) (answer : Answer)
-    → new ≡ with_room (with_sent old seat answer) seat (room_for new seat)
-    → sent_to new seat ≡ sent_to old seat ++ answer ∷ [] → answers_to seat kept ≡ [] → AreSent old (kept ++ (seat, answer) ∷ []) new kept
-sent_one old new kept seat answer is to none = grind (arith, eqb-true, eqb-false, answers_append, to_own, append-nil, sent_else, to_other)
+pub sent_now : (old mid : Sender) (new : CoreState) (seat : ℕ) (answer : Answer)
+    → mid ≡ record old { end = mid.end } → AreSent old.end old.kept.items mid.end old.kept.items
+    → new ≡ with_room (with_sent mid.end seat answer) seat (room_for new seat) → sent_to new seat ≡ sent_to mid.end seat ++ answer ∷ []
+    → answers_to seat old.kept.items ≡ [] → AreSent old.end (old.kept.items ++ (seat, answer) ∷ []) new mid.kept.items
+sent_now old mid new seat answer e unsent is to none =
+    grind (arith, eqb-true, eqb-false, answers_append, to_own, append-nil, sent_else, to_other)
+
+-- an answer is kept after the rings were looked at
+pub sent_kept : (old mid : Sender) (seat : ℕ) (answer : Answer) (last : List GivenAnswer) → mid ≡ record old { end = mid.end }
+    → last ≡ mid.kept.items ++ (seat, answer) ∷ [] → AreSent old.end old.kept.items mid.end old.kept.items
+    → AreSent old.end (old.kept.items ++ (seat, answer) ∷ []) mid.end last
+sent_kept old mid seat answer last e is unsent =
+    grind (arith, sent_before old.end mid.end old.kept.items old.kept.items ((seat, answer) ∷ []) unsent)

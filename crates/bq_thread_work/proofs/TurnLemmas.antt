@@ -1,30 +1,31 @@
 -- How the turns of the core's driver combine.
-use Rattle.std.proofs.Common.{◌≡◌, ℕ, Bool, true, false, List, [], ◌∷◌, ◌++◌, Option}
+use Rattle.std.proofs.Common.{◌≡◌, ℕ, ◌<◌, ◌⊎◌, Bool, true, false, List, [], ◌∷◌, ◌++◌, Option, length}
 use Rattle.std.proofs.Common.{append-nil, refl, inl, inr, arith}
+use Rattle.bq_job.specs.declared.step.Step.{Step}
 use Rattle.bq_job.specs.declared.step.Step.TheVariants.{Tick}
 use Rattle.bq_job.specs.machine.Dispatch.{GivenAnswer}
 use Rattle.bq_job.specs.machine.Machine.{Machine}
 use Rattle.bq_job.specs.promise.Runs.{Entry}
 use Rattle.bq_host.specs.Meanings.{Clock, Core}
-use Rattle.bq_host.specs.Timed.{HasHeard, IsReady, LooksAndSteps, PassesOver}
+use Rattle.bq_host.specs.Timed.{HasHeard, IsReady, LooksAndSteps, PassesOver, TakesStep}
 use Rattle.bq_host.specs.declared.timed_core.HeardClock.{HeardClock}
 use Rattle.bq_host.specs.declared.timed_core.TimedCore.{TimedCore}
 use Rattle.bq_thread_work.specs.CoreWork.{steps_made}
-use Rattle.bq_thread_work.specs.Worked.{IsInOrder, WorkWent, WorksOn}
-use Rattle.bq_thread_work.specs.declared.core_work.polling.Polling.{Polling}
+use Rattle.bq_thread_work.specs.Worked.{HasTicked, IsInOrder, TookOne, WorkWent, WorksOn, driver_state, gone_after}
+use Rattle.bq_link.specs.EndStates.{CoreState}
 use Rattle.bq_thread_work.specs.declared.core_work.yielding.Yielding.{Yielding}
 use Rattle.bq_thread_work.specs.declared.core_work.core_driver.CoreDriver.{CoreDriver}
-use Rattle.bq_host.proofs.TimedRunLemmas.{TimedRan, entry_of, machine_over, outs_over, timed_heard, timed_late, timed_over}
-use Rattle.bq_thread_work.proofs.WorkedLemmas.{pending_on, worked_inside}
+use Rattle.bq_host.proofs.TimedRunLemmas.{TimedRan, entry_of, machine_over, outs_over, timed_heard, timed_late, timed_over, timed_step}
+use Rattle.bq_thread_work.proofs.WorkedLemmas.{pending_on, worked_inside, worked_step}
 
 -- Nothing was done.
 pub on_still : {C K : Type 0} (k : Core K) (c : Clock C) (h : CoreDriver C K) → IsInOrder k.machine h → WorksOn k c h h
 on_still k c h order = grind arith
 
--- Nothing but the pace of the thread changed.
-pub on_paced : {C K : Type 0} (k : Core K) (c : Clock C) (h : CoreDriver C K) (yielding : Yielding) (polling : Polling)
-    → IsInOrder k.machine h → WorksOn k c h (record h { yielding = yielding; polling = polling })
-on_paced k c h yielding polling order = assumption
+-- A wait was counted, then something was done, and its pace was noted.
+pub on_paced : {C K : Type 0} (k : Core K) (c : Clock C) (old mid new : CoreDriver C K) (yielding : Yielding) → WorksOn k c mid new
+    → mid ≡ record old { yielding = mid.yielding } → WorksOn k c old (record new { yielding = yielding })
+on_paced k c old mid new yielding on paced = grind arith
 
 -- One thing was done, and then another.
 pub on_both : {C K : Type 0} (k : Core K) (c : Clock C) (old mid new : CoreDriver C K) → WorksOn k c old mid → WorksOn k c mid new
@@ -67,7 +68,28 @@ on_passed k c old t false order ready none over ticked =
     let ran = timed_over k c old.timed t passed in
     grind (arith, on_timed k c old t [] [] order ready, machine_over k c old.timed t passed, outs_over k c old.timed t passed, append-nil)
 
--- What the core did after answers were sent or the clock was read.
-pub trace_from : {C K : Type 0} (machine : K → Machine) (old mid new : CoreDriver C K) → mid.sender.end.taken ≡ old.sender.end.taken
-    → mid.timed.core ≡ old.timed.core → WorkWent machine mid new → WorkWent machine old new
-trace_from {C} {K} machine old mid new taken core trace = elim trace [ inl t ↦ grind arith | inr more ↦ grind arith ]
+-- The core found work after it had yielded.
+pub work_after : {C K : Type 0} (machine : K → Machine) (old mid new : CoreDriver C K)
+    → mid ≡ record old { timed = record old.timed { time = mid.timed.time }; yielding = mid.yielding }
+    → TookOne mid.sender.end new.sender.end ⊎ HasTicked machine mid new → WorkWent machine old new
+work_after machine old mid new yielded work = elim work [ inl t ↦ grind arith | inr more ↦ grind arith ]
+
+-- The core took a step that arrived at its end.
+pub on_step : {C K : Type 0} (k : Core K) (c : Clock C) (old new : CoreDriver C K) (end : CoreState) (step : ℕ × Step)
+    → IsInOrder k.machine new → TakesStep k c old.timed step.0 step.1 new.timed
+    → new.gone.flags.items ≡ gone_after step.0 step.1 old.gone.flags.items → new.sender ≡ record old.sender { end = end }
+    → end ≡ record old.sender.end { taken = old.sender.end.taken ++ step ∷ [] } → step.0 < length old.sender.end.rings
+    → old.timed.outs.given ≡ [] → WorksOn k c old new
+on_step k c old new end step order t marked sender taken below none =
+    record {
+      order = order;
+      end = grind arith;
+      settings = t.settings;
+      work = λ settings from first w.
+          let r = timed_step k c old.timed new.timed step.0 step.1 t in (
+            w.0 ++ r.0,
+            r.1 first w.0 w.1,
+            worked_step settings from w.0 r.0 (driver_state k old) (driver_state k new) new.timed.time.moment step.0 step.1
+                new.timed.outs.given below w.2 r.2 (grind arith) (grind (arith, append-nil)) marked,
+          );
+    }

@@ -1,11 +1,9 @@
 //! The work of the core's thread, which serves the other ends of the links.
-ghost use Rattle.std.specs.Prelude.{ℕ, ◌≡◌, ◌<◌, ◌+◌, [], length};
-ghost use Rattle.bq_job.specs.declared.settings.Settings.{Settings};
+ghost use Rattle.std.specs.Prelude.{◌≡◌, ◌<◌, ◌+◌, []};
 ghost use Rattle.bq_job.specs.machine.Machine.{new_machine};
 ghost use Rattle.bq_link.specs.EndStates.{IsSameCore};
 ghost use Rattle.bq_link.specs.NewEnds.{IsNewCore};
 ghost use Rattle.bq_thread_work.specs.CoreWork.{IsNewRoom, RanToEnd};
-ghost use Rattle.bq_thread_work.specs.Worked.{IsAtWork, IsInOrderAt};
 
 pub use core_room::CoreRoom;
 pub use polling::most_looks;
@@ -52,26 +50,7 @@ pub fn core_work<R: Wait, C: Clock + Drop, K: QueueCore + Drop>(
     ensures ran { RanToEnd C.given (K.machine core).settings clock result.0 (K.machine result.1) result.2 (K.comparisons core)
         (K.comparisons result.1) }
 {
-    run_out(
-        rt,
-        intake,
-        CoreDriver::new(alloc, end, core, outs, room, clock),
-    )
-}
-
-// Works until no end has more to submit and every answer was sent.
-fn run_out<R: Wait, C: Clock + Drop, K: QueueCore + Drop>(
-    rt: &R,
-    intake: &Intake<NoTicks>,
-    driver: CoreDriver<C, K>,
-) -> (CoreEnd, K, C)
-    requires order { IsInOrderAt K.machine intake.now driver }
-    ensures end { IsSameCore driver.sender.end result.0 }
-    ensures ran { (settings : Settings) (from : ℕ) (first : C) → IsAtWork K.QueueCore C.Clock settings from first driver
-        → length driver.sender.end.rings ≡ settings.seats + 1
-        → RanToEnd C.given settings first result.0 (K.machine result.1) result.2 from (K.comparisons result.1) }
-{
-    let mut driver = driver;
+    let mut driver = CoreDriver::new(alloc, end, core, outs, room, clock);
     for _ in rt.forever() {
         if driver.turn(rt, intake) {
             return driver.into_parts();

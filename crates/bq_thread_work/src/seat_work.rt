@@ -37,6 +37,7 @@ const INTAKE_REST: u64 = 1;
 
 /// Serves the connections of a door one after another, until no more come. Steps are submitted at
 /// an end of the links, which also delivers their answers.
+#[tactic(auto, using(bq_line::proofs::TendingLemmas::tended_new, crate::proofs::SeatWorkLemmas::tended_on))]
 pub fn seat_work<R: Wait, L: Line + Drop, D: Door<Line = L> + Drop>(
     rt: &R,
     alloc: Global,

@@ -119,6 +119,7 @@ impl<C: Clock + Drop, K: QueueCore + Drop> CoreDriver<C, K> {
     }
 
     // Takes a step or a tick, or waits for a step. It may yield before.
+    #[tactic(auto, using(crate::proofs::TurnLemmas::on_both, crate::proofs::TurnLemmas::work_after))]
     fn work<R: Wait>(&mut self, rt: &R, intake: &Intake<NoTicks>)
         requires order { IsInOrderAt K.machine intake.now self.old }
         requires none { self.old.timed.outs.given ≡ [] }

@@ -1,6 +1,5 @@
-use Rattle.std.proofs.Common.{arith}
 use Rattle.bq_thread_work.proofs.TurnLemmas.{on_heard}
 use Rattle.bq_thread_work.proofs.core_work.core_driver.CoreDriver.hear.Goals as goal
 
 pub returns-clause-on : goal.returns-clause-on
-returns-clause-on g c = grind (arith, on_heard g.K.QueueCore g.C.Clock c.args.self.now c.hear-reading.new.self c.hear-reading.result)
+returns-clause-on g c = search on_heard
