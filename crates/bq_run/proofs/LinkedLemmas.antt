@@ -1,36 +1,33 @@
 -- What the threads of a run did, combined along the core's history.
-use Rattle.std.proofs.Common.{◌≡◌, ℕ, zero, suc, ◌+◌, ◌<◌, Bool, true, List, [], ◌∷◌, ◌++◌, Option, map, filter, length}
+use Rattle.std.proofs.Common.{◌≡◌, ℕ, suc, ◌+◌, ◌<◌, Bool, true, List, [], ◌∷◌, ◌++◌, Option, map, filter, length}
 use Rattle.std.proofs.Common.{refl, ◌∙◌, arith, append-nil, slice_index_or, not, nat_le}
 use Rattle.std.specs.Prelude.{◌==◌}
 use Rattle.std.specs.List.{list_all}
-use Rattle.std.proofs.lemmas.List.{get_or_append_left, length-append, length-map}
+use Rattle.std.proofs.Math.Seq.{get_or-append_seam}
+use Rattle.std.proofs.lemmas.List.{get_or_append_left, get_or_default, length-append, length-map}
 use Rattle.std.proofs.lemmas.Slice.Zip.{AllZip-long}
 use Rattle.std.proofs.lemmas.{Bool.{cases_Bool, eqb-true, eqb-false, le-leb}, Grind.common_steps}
-use Rattle.bq_job.specs.declared.answer.Answer.{Answer}
 use Rattle.bq_job.specs.declared.settings.Settings.{Settings}
 use Rattle.bq_job.specs.declared.step.Step.{Step}
 use Rattle.bq_job.specs.promise.ControlDid.{IsControlDone}
-use Rattle.bq_job.specs.promise.CoreDid.{IsRun}
 use Rattle.bq_job.specs.machine.Dispatch.{GivenAnswer}
 use Rattle.bq_job.specs.promise.Headline.{IsHistoryOf}
 use Rattle.bq_job.specs.promise.History.{LineOver, is_tick, steps_at, without_ticks}
-use Rattle.bq_job.specs.machine.Machine.{Machine, new_machine}
-use Rattle.bq_job.specs.promise.Runs.{Entry, GoesBy, Transition, answers_to}
+use Rattle.bq_job.specs.machine.Machine.{Machine}
+use Rattle.bq_job.specs.promise.Runs.{Entry, answers_to}
 use Rattle.bq_job.specs.beside.SeatDid.{IsSeatDone}
-use Rattle.bq_job.specs.machine.Steps.{IsStep, Outcome}
 use Rattle.bq_job.specs.beside.Ties.{AreTied}
 use Rattle.bq_link.specs.EndStates.{CoreState, SeatState}
 use Rattle.bq_link.specs.Submissions.{AreBelow, steps_of}
 use Rattle.bq_line.specs.Tending.{DoorSeen, IsDoorServed}
 use Rattle.bq_line.specs.declared.control_line.ControlLine.{ControlLine}
 use Rattle.bq_job.proofs.JoinLemmas.{doors_owed}
-use Rattle.bq_host.specs.Compared.{AreCompared}
 use Rattle.bq_thread_work.specs.CoreWork.{IsCoreDone}
 use Rattle.bq_link.specs.Ticks.{IsTickless}
 use Rattle.bq_run.specs.Linked.{AreSettled, AreStill, IsCoreStill, IsEndOf, IsLinked}
 use Rattle.bq_run.specs.Threads.{AreServed, IsControlOver, IsCoreOver}
 use Rattle.bq_run.proofs.GoneLemmas.{EndsByGone, control_ends_by_gone, none_waits, seat_ends_by_gone}
-use Rattle.bq_run.proofs.ThreadLemmas.{last_at, zipped_at}
+use Rattle.bq_run.proofs.ThreadLemmas.{zipped_at}
 
 -- the seat and the step of each entry
 abbrev pairs : List Entry → List (ℕ × Step)
@@ -56,25 +53,6 @@ seats_below : (seats : ℕ) (entries : List Entry) → AreBelow (seats + 1) (pai
     → list_all (λ (e : Entry). nat_le e.seat seats) entries ≡ true
 seats_below seats [] h = refl
 seats_below seats (e ∷ entries) h = grind (arith, le-leb, seats_below seats entries h.1)
-
--- the answers of the end at a place
-answers_at : (SeatState → List Answer) → List SeatState → ℕ → List Answer
-answers_at of [] place = []
-answers_at of (e ∷ ends) zero = of e
-answers_at of (e ∷ ends) (suc place) = answers_at of ends place
-
-answers_there : (of : SeatState → List Answer) (ends : List SeatState) (place : ℕ) (d : SeatState) → place < length ends
-    → answers_at of ends place ≡ of (slice_index_or ends place d)
-unfolding answers_at
-answers_there of [] place d h = absurd (omega (arith, h))
-answers_there of (e ∷ ends) zero d h = refl
-answers_there of (e ∷ ends) (suc place) d h = answers_there of ends place d (omega (arith, h))
-
-abbrev taken_at : List SeatState → ℕ → List Answer
-taken_at = answers_at (λ e. e.taken)
-
-abbrev waiting_at : List SeatState → ℕ → List Answer
-waiting_at = answers_at (λ e. e.waiting)
 
 -- a list with an element at this place has one
 some_of : {X : Type 0} (xs : List X) (place : ℕ) → place < length xs → X
@@ -103,52 +81,54 @@ module _ {D : Type 0} (at : D → DoorSeen) (settings : Settings) (readings : Li
   abbrev given : List GivenAnswer
   given = a.core_done.given
 
-  abbrev end_at : ℕ → SeatState → SeatState
-  end_at place e = slice_index_or ends place e
+  some : 0 < length ends
+  some = let m = a.many in omega arith
+
+  pub any_end : SeatState
+  any_end = some_of ends 0 some
+
+  abbrev end_at : ℕ → SeatState
+  end_at place = slice_index_or ends place any_end
 
   -- The core received no tick.
   taken_is : pairs (without_ticks history) ≡ core.taken
   taken_is =
-      let none : 0 < length ends = let e = a.many in omega arith in
-      let s = a.settled 0 (some_of ends 0 none) none in
+      let s = a.settled 0 any_end some in
       grind (arith, a.core_done.taken_is, tickless_whole, tickless_first core.taken s.waiting)
 
-  door_ends_by_gone : (place : ℕ) (e : SeatState) → place < length doors → EndsByGone (end_at place e).submitted
-  door_ends_by_gone place e less =
-      let d = some_of doors place less in
-      let s = a.served place d e less in
-      seat_ends_by_gone settings.max_job_size (at (slice_index_or doors place d)).lines_over (end_at place e).submitted
-      (end_at place e).taken s.done
+  door_ends_by_gone : (place : ℕ) → place < length doors → EndsByGone (end_at place).submitted
+  door_ends_by_gone place less =
+      let s = a.served place (some_of doors place less) any_end less in
+      seat_ends_by_gone settings.max_job_size _ (end_at place).submitted (end_at place).taken s.done
 
-  ends_by_gone : (place : ℕ) (e : SeatState) → place < length ends → EndsByGone (end_at place e).submitted
-  ends_by_gone place e below = grind (arith, cases_Bool, eqb-true, control_ends_by_gone, eqb-false, door_ends_by_gone)
+  ends_by_gone : (place : ℕ) → place < length ends → EndsByGone (end_at place).submitted
+  ends_by_gone place below = grind (arith, cases_Bool, eqb-true, control_ends_by_gone, eqb-false, door_ends_by_gone)
 
-  submitted_is : (place : ℕ) (e : SeatState) → place < length ends → steps_at place history ≡ (end_at place e).submitted
-  submitted_is place e below =
-      let s = a.settled place e below in
+  submitted_is : (place : ℕ) → place < length ends → steps_at place history ≡ (end_at place).submitted
+  submitted_is place below =
+      let s = a.settled place any_end below in
       let within : place < settings.seats + 1 = let m = a.many in omega (arith, below) in
       let none : steps_of place s.waiting ≡ [] =
-      none_waits _ _ (steps_of place s.waiting) (ends_by_gone place e below) (a.core_done.all_gone place within) s.submitted_is in
+      none_waits _ _ (steps_of place s.waiting) (ends_by_gone place below) (a.core_done.all_gone place within) s.submitted_is in
       grind (arith, of_pairs place (without_ticks history), taken_is, append-nil)
 
-  end_of : (place : ℕ) (e : SeatState) → place < length ends → IsEndOf history given core place (end_at place e)
-  end_of place e below = grind (arith, submitted_is)
+  end_of : (place : ℕ) (e : SeatState) → place < length ends → IsEndOf history given core place (slice_index_or ends place e)
+  end_of place e below = grind (arith, submitted_is, get_or_default)
 
   pub linked : IsLinked settings.seats history given core ends
   linked = record { many = a.many; taken_is = taken_is; each = end_of }
 
   -- a door whose seat has ended, and its answers
   record IsDoorTied (place : ℕ) (door : DoorSeen) : Type 0 where
-    done : IsSeatDone settings.max_job_size door.lines_over (steps_at place history) (taken_at ends place)
-    answers_are : answers_to place given ≡ taken_at ends place ++ waiting_at ends place
+    done : IsSeatDone settings.max_job_size door.lines_over (steps_at place history) (end_at place).taken
+    answers_are : answers_to place given ≡ (end_at place).taken ++ (end_at place).waiting
 
   door_tied : (place : ℕ) → place < length doors → (d : D) → IsDoorTied place (at (slice_index_or doors place d))
   door_tied place below d =
       let here : place < length ends = let m = a.many in let n = a.doored in omega (arith, below) in
-      let e : SeatState = some_of ends place here in
-      let s = a.served place d e below in
-      let of = end_of place e here in
-      grind (arith, answers_there)
+      let s = a.served place d any_end below in
+      let of = end_of place any_end here in
+      grind arith
 
   abbrev lines_of : D → List LineOver
   lines_of d = (at d).lines_over
@@ -156,49 +136,40 @@ module _ {D : Type 0} (at : D → DoorSeen) (settings : Settings) (readings : Li
   -- the doors from this place on
   doors_tied : (from : ℕ) (rest : List D)
       → ((j t : ℕ) → t ≡ from + j → j < length rest → (d : D) → IsDoorTied t (at (slice_index_or rest j d)))
-      → AreTied settings.max_job_size from (map lines_of rest) (λ place. steps_at place history) (taken_at ends)
-      (waiting_at ends) history given
+      → AreTied settings.max_job_size from (map lines_of rest) (λ place. steps_at place history) (λ place. (end_at place).taken)
+      (λ place. (end_at place).waiting) history given
   doors_tied from [] h = tt
   doors_tied from (d ∷ rest) h =
       let here = h 0 from (omega arith) (omega arith) d in
       (refl, here.answers_are, here.done, doors_tied (suc from) rest (λ j t is below. h (suc j) t (omega arith) (omega arith)))
 
-  all_tied : AreTied settings.max_job_size 0 (map lines_of doors) (λ place. steps_at place history) (taken_at ends)
-      (waiting_at ends) history given
+  pub all_tied : AreTied settings.max_job_size 0 (map lines_of doors) (λ place. steps_at place history) (λ place. (end_at place).taken)
+      (λ place. (end_at place).waiting) history given
   all_tied = doors_tied 0 doors (λ j t is below d. rw (let e : t ≡ j = omega (arith, is) in e) (door_tied j below d))
 
-  control_tied : IsControlDone text failed (steps_at settings.seats history)
+  pub control_tied : IsControlDone text failed (steps_at settings.seats history)
   control_tied =
       let here : settings.seats < length ends = let m = a.many in omega arith in
-      let e : SeatState = some_of ends settings.seats here in
-      grind (arith, submitted_is settings.seats e here, a.control_done e)
+      grind (arith, submitted_is settings.seats here, a.control_done any_end)
 
-  nobody_else : list_all (λ (e : Entry). nat_le e.seat settings.seats) (without_ticks history) ≡ true
+  pub nobody_else : list_all (λ (e : Entry). nat_le e.seat settings.seats) (without_ticks history) ≡ true
   nobody_else = grind (arith, seats_below, taken_is)
 
-  -- One history of all threads.
-  pub record IsJoinedRun : Type 0 where
-    pub history : IsHistoryOf settings (map lines_of doors) text failed readings last
-    pub linked : IsLinked settings.seats history.history history.given core ends
-    pub compared : AreCompared (new_machine settings) history.history history.given last 0 to
+  pub many_lines : length (map lines_of doors) ≡ settings.seats
+  many_lines = length-map doors lines_of ∙ a.doored
 
-  pub run_joined : IsJoinedRun
-  run_joined =
-      let many : length (map lines_of doors) ≡ settings.seats = length-map doors lines_of ∙ a.doored in
-      record {
-        history = record {
-          history = history;
-          given = given;
-          run = a.core_done.run;
-          many = many;
-          of_doors = doors_owed settings settings.max_job_size 0 (map lines_of doors) (λ place. steps_at place history) (taken_at ends)
-              (waiting_at ends) history given last (omega arith) a.core_done.run.runs all_tied;
-          of_control = control_tied;
-          of_nobody_else = nobody_else;
-        };
-        linked = linked;
-        compared = a.core_done.compared;
-      }
+  -- One history of all threads.
+  abbrev pub run_joined : IsHistoryOf settings (map lines_of doors) text failed readings last
+  run_joined = record {
+    history = history;
+    given = given;
+    run = a.core_done.run;
+    many = many_lines;
+    of_doors = doors_owed settings settings.max_job_size 0 (map lines_of doors) _ _ _ history given last (omega (arith, many_lines))
+        a.core_done.run.runs all_tied;
+    of_control = control_tied;
+    of_nobody_else = nobody_else;
+  }
 
 -- The core's end has taken nothing and sent nothing since.
 pub core_done_still : (settings : Settings) (readings : List (Option ℕ)) (first last : CoreState) (machine : Machine) (to : ℕ)
@@ -236,7 +207,7 @@ all_done at gives left may_fail settings doors core core_back core_last firsts l
       served = λ place d e below.
           let here = get_or_append_left lasts (last ∷ []) e place in
           grind (arith, kept.each place e, zipped_at _ doors lasts served.1 place d e below);
-      control_done = λ e. grind (arith, kept.each settings.seats e, last_at lasts last e, k.done);
+      control_done = λ e. grind (arith, kept.each settings.seats e, get_or-append_seam lasts last [] e, k.done);
     }
 
 -- There is still a door for each seat.
@@ -245,19 +216,3 @@ pub still_doored : {D : Type 0} (at : D → DoorSeen) (size seats : ℕ) (all fi
     → firsts ++ first ∷ [] ≡ all → length all ≡ seats + 1 → AreServed at size firsts lasts doors → length doors ≡ seats
 still_doored at size seats all firsts lasts doors first whole many s =
     grind (arith, length-append firsts (first ∷ []), AllZip-long _ firsts lasts s.0, AllZip-long _ doors lasts s.1)
-
-abbrev pub StepsKeepSettings : Type 0
-StepsKeepSettings = (first last : Machine) (at seat : ℕ) (what : Step) (outcome : Outcome) (given : List GivenAnswer)
-    → IsStep first at seat what outcome given last → last.settings ≡ first.settings
-
-run_keeps : StepsKeepSettings → (first : Machine) (taken : List Transition) (last : Machine) → GoesBy first taken last
-    → last.settings ≡ first.settings
-run_keeps law first [] last e = grind arith
-run_keeps law first (t ∷ taken) last g =
-    let kept = law t.first t.last t.entry.moment t.entry.seat t.entry.what t.outcome t.given g.1.step in
-    grind (arith, run_keeps law t.last taken last g.2)
-
--- A run does not change the settings.
-pub run_keeps_settings : StepsKeepSettings → (settings : Settings) (readings : List (Option ℕ)) (history : List Entry)
-    (given : List GivenAnswer) (last : Machine) → IsRun settings readings history given last → last.settings ≡ settings
-run_keeps_settings law settings readings _ _ last run = grind (arith, run_keeps)

@@ -2,14 +2,14 @@
 use Rattle.std.proofs.Common.{◌≡◌, ◌≢◌, ℕ, ◌+◌, ◌<◌, List, length, arith, inl, inr, slice_set, slice_index_or}
 use Rattle.std.specs.Prelude.{◌==◌}
 use Rattle.std.proofs.lemmas.Bool.{cases_Bool, eqb-false, eqb-true}
-use Rattle.std.proofs.lemmas.List.{get_or-set_other, get_or-set_same, get_or_default, length-set}
+use Rattle.std.proofs.lemmas.List.{get_or-set_other, get_or-set_same, get_or_default, length-append, length-set, with_items_is}
 use Rattle.bq_link.specs.EndStates.{CoreState, IsPair, SeatState}
 use Rattle.bq_run.specs.Linked.{ArePaired, AreStill, IsCoreStill, IsEndStill, IsSettled}
 use Rattle.bq_run.specs.declared.run.Run.{Run}
 use Rattle.bq_run.specs.declared.run.posts.Ended.{Ended}
 
-pub core_still_on : (first next last : CoreState) → IsCoreStill first next → IsCoreStill next last → IsCoreStill first last
-core_still_on first next last a b = grind arith
+-- The ends of a run are those of the seats, and one more that was pushed.
+pub ruleset last_pushed = (length-append, with_items_is)
 
 -- An end that was compared stays settled.
 settled_on : (core later : CoreState) (place : ℕ) (seat : SeatState) → IsCoreStill core later → IsSettled core place seat

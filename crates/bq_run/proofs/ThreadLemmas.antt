@@ -1,6 +1,6 @@
 -- The threads of a run: their posts, their starts and what they returned.
-use Rattle.std.proofs.Common.{◌≡◌, ◌==◌, ◌&&◌, ℕ, zero, suc, ◌<◌, true, false, not, Ok, Err, List, []}
-use Rattle.std.proofs.Common.{◌∷◌, ◌++◌, ◌∙◌, Some, map, length, refl, sym, ap, arith}
+use Rattle.std.proofs.Common.{◌≡◌, ◌==◌, ◌&&◌, ℕ, zero, suc, ◌<◌, true, false, not, List, []}
+use Rattle.std.proofs.Common.{◌∷◌, ◌++◌, ◌∙◌, Some, map, length, sym, ap, arith}
 use Rattle.std.proofs.Common.{slice_get, slice_index_or}
 use Rattle.std.specs.Prelude.{◌↔◌, IsErrOf, IsTrue, Result}
 use Rattle.bq_job.specs.declared.settings.Settings.{Settings}
@@ -9,13 +9,12 @@ use Rattle.std.specs.List.{All, AllZip}
 use Rattle.std.proofs.lemmas.{List.Elements.{All-head, All-tail, AllZip-get_or}, Slice.Zip.{AllZip-long, all_zipped_more}}
 use Rattle.bq_line.specs.Tending.{AreSame, DoorSeen, IsDoorServed}
 use Rattle.bq_host.specs.declared.fault.RunFault.{RunFault}
-use Rattle.bq_host.specs.declared.fault.RunFault.TheVariants.{BadConfiguration, NoMemory}
+use Rattle.bq_host.specs.declared.fault.RunFault.TheVariants.{BadConfiguration}
 use Rattle.bq_link.specs.EndStates.{CoreState, IsSameCore, IsSameSeat, SeatState}
 use Rattle.bq_link.specs.NewEnds.{AreNewSeats}
 use Rattle.atomic_table.specs.Seated.{TableId}
-use Rattle.bq_thread_work.specs.Ends.{IsNewEnd}
 use Rattle.bq_run.specs.Linked.{ArePaired}
-use Rattle.bq_run.specs.Threads.{AreServed}
+use Rattle.bq_run.specs.Threads.{AreServed, IsNewEndAt}
 
 -- What the threads of the seats returned, as a list of ends and one of doors.
 pub given_served : {D P : Type 0} (at : D → DoorSeen) (same : D → D → Type 0) (size : ℕ) (end : P → SeatState) (door : P → D)
@@ -64,29 +63,17 @@ all_at_end at size (e ∷ es) (x ∷ xs) h zero d below = (h.0.inside, h.0.at_en
 all_at_end at size (e ∷ es) (x ∷ xs) h (suc place) d below = all_at_end at size es xs h.1 place d (omega (arith, below))
 all_at_end at size _ _ h place d below = absurd h
 
-pub last_at : (lasts : List SeatState) (last e : SeatState) → slice_index_or (lasts ++ last ∷ []) (length lasts) e ≡ last
-last_at [] last e = refl
-last_at (x ∷ lasts) last e = last_at lasts last e
-
 -- New ends belong to the intake of the core's end, and are unused.
-pub new_intakes : (core : CoreState) (all : List SeatState) (intake : TableId) → AreNewSeats core all → core.intake ≡ intake
-    → All (λ (e : SeatState). e.intake ≡ intake) all
-new_intakes core all intake new is place d below = let n = new place d below in sym n.pair.0 ∙ is
-
-pub new_ends : (core : CoreState) (all : List SeatState) → AreNewSeats core all → All (λ (e : SeatState). IsNewEnd e) all
-new_ends core all new place d below = let n = new place d below in record { submitted = n.submitted; taken = n.taken; waiting = n.waiting }
-
--- a success is not an error
-pub no_fault : {T E : Type 0} (t : T) (fault : E) → IsErrOf {T = T} {E = E} (Ok t) fault → ⊥
-no_fault t fault e = absurd cc
-
--- A lack of memory is not a bad configuration.
-pub other_fault : {T : Type 0} → IsErrOf {T = T} {E = RunFault} (Err NoMemory) BadConfiguration → ⊥
-other_fault e = absurd cc
+pub new_ends : (core : CoreState) (all : List SeatState) (intake : TableId) → AreNewSeats core all → core.intake ≡ intake
+    → All (λ (e : SeatState). IsNewEndAt intake e) all
+new_ends core all intake new is place d below = let n = new place d below in record {
+  at = sym n.pair.0 ∙ is;
+  new = record { submitted = n.submitted; taken = n.taken; waiting = n.waiting };
+}
 
 -- A run with a configuration in its ranges and a door for each seat is not rejected for its
 -- configuration.
-pub well_configured : {T : Type 0} (result : Result T RunFault) (config same : Settings) (doors : ℕ) → same ≡ config
-    → IsTrue (are_in_range same) → doors ≡ config.seats → (IsErrOf result BadConfiguration → ⊥)
+pub well_configured : {T : Type 0} (result : Result T RunFault) (config : Settings) (doors : ℕ) → (IsErrOf result BadConfiguration → ⊥)
+    → doors ≡ config.seats → are_in_range config ≡ true
     → IsErrOf result BadConfiguration ↔ IsTrue (not (are_in_range config && doors == config.seats))
-well_configured result config same doors is range many other = grind arith
+well_configured result config doors other many range = grind arith

@@ -10,6 +10,8 @@ use Rattle.bq_line.specs.declared.control_line.ControlLine.{ControlLine}
 use Rattle.bq_link.specs.EndStates.{CoreState, IsSameCore, IsSameSeat, SeatState}
 use Rattle.bq_host.specs.Clocks.{Gives}
 use Rattle.bq_thread_work.specs.CoreWork.{IsCoreDone}
+use Rattle.bq_thread_work.specs.Ends.{IsNewEnd}
+use Rattle.atomic_table.specs.Seated.{TableId}
 
 -- The seats' threads have ended, in the order of their seats: each has the end that it began with,
 -- and served its door to its end.
@@ -35,3 +37,8 @@ pub record IsControlOver {I : Type 0} (left : I → Option (List ℕ)) (may_fail
   pub read : IsReadToEnd (left control) (left after.reader) after.read after.failed
   pub fault : after.failed ≡ true → may_fail control ≡ true
   pub done : IsControlDone after.read after.failed last.submitted
+
+-- A new end of this intake.
+pub record IsNewEndAt (intake : TableId) (end : SeatState) : Type 0 where
+  pub at : end.intake ≡ intake
+  pub new : IsNewEnd end

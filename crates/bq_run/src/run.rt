@@ -56,6 +56,7 @@ pub struct Run<D, C, I, K> {
 /// is not the number of seats. Otherwise it is `NoMemory` if an allocation failed, or
 /// `ThreadRefused` if a thread could not be started. After any error no door was opened, and the
 /// doors are dropped.
+#[tactic(auto, using(crate::proofs::ThreadLemmas::well_configured, crate::proofs::ThreadLemmas::all_at_end))]
 pub fn run_sessions<
     R: Threads + Wait + Sync,
     L: Line + Drop + Send,
@@ -122,6 +123,7 @@ pub fn run_sessions<
 
 // Returns the ended run, after comparing each end with the core's. There is already room for the
 // control line's end, so this cannot fail.
+#[tactic(auto, using(crate::proofs::SettleLemmas::last_pushed))]
 fn settled_run<D: Drop, C: Drop, I: Drop, K: Drop>(
     intake: Intake<NoTicks>,
     ended: Ended<D, C, I, K>,

@@ -1,7 +1,5 @@
 //! The control line with its end of the links, for the calling thread.
-ghost use Rattle.std.specs.Prelude.{◌≡◌};
-ghost use Rattle.bq_thread_work.specs.Ends.{IsNewEnd};
-ghost use Rattle.bq_run.specs.Threads.{IsControlOver};
+ghost use Rattle.bq_run.specs.Threads.{IsControlOver, IsNewEndAt};
 
 use bq_host::Member;
 use bq_line::control_line::{ControlLine, ControlReader};
@@ -16,8 +14,7 @@ pub struct ControlPost<'a, I> {
     pub intake: &'a Intake<NoTicks>,
     pub end: SeatEnd,
     pub control: I,
-    ghost of_intake: { end.intake ≡ intake.now.id },
-    ghost new_end: { IsNewEnd end },
+    ghost new_end: { IsNewEndAt intake.now.id end },
 }
 
 impl<'a, I: ControlReader + Drop> Member<(SeatEnd, ControlLine<I>)> for ControlPost<'a, I> {

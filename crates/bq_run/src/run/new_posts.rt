@@ -4,7 +4,7 @@ ghost use Rattle.std.specs.List.{All};
 ghost use Rattle.bq_core_api.specs.Limits.{is_body_size};
 ghost use Rattle.bq_line.specs.Tending.{IsNewDoor, door_seen};
 ghost use Rattle.bq_link.specs.NewEnds.{AreNewSeats, IsNewCore};
-ghost use Rattle.bq_thread_work.specs.Ends.{IsNewEnd};
+ghost use Rattle.bq_run.specs.Threads.{IsNewEndAt};
 
 use crate::run::control_post::ControlPost;
 use crate::run::core_post::{CorePost, NewCore};
@@ -76,8 +76,7 @@ fn new_seats<'a, D: Door + Drop>(
 ) -> Result<Vec<SeatPost<'a, D>, Global>, NoMemory>
     requires size { IsTrue (is_body_size max_job_size) }
     requires many { vec_len ends ≡ vec_len doors }
-    requires of_intake { All (λ end. end.intake ≡ intake.now.id) ends.items }
-    requires new_ends { All (λ end. IsNewEnd end) ends.items }
+    requires new_ends { All (λ end. IsNewEndAt intake.now.id end) ends.items }
     requires new { All
         (λ door. IsNewDoor (door_seen D.Door door)) doors.items }
     ensures limits { IfOk result

@@ -5,7 +5,7 @@ ghost use Rattle.bq_seat.specs.Past.{Awaited};
 ghost use Rattle.bq_seat.specs.SeatStands.{awaited};
 ghost use Rattle.bq_line.specs.Tending.{IsDoorServed, IsNewDoor, door_seen};
 ghost use Rattle.bq_link.specs.EndStates.{IsSameSeat};
-ghost use Rattle.bq_thread_work.specs.Ends.{IsNewEnd};
+ghost use Rattle.bq_run.specs.Threads.{IsNewEndAt};
 
 use bq_host::Member;
 use bq_job::NoMemory;
@@ -27,8 +27,7 @@ pub struct SeatPost<'a, D: Door> {
     machine: SeatMachine,
     pub door: D,
     pub max_job_size: u32,
-    ghost of_intake: { end.intake ≡ intake.now.id },
-    ghost new_end: { IsNewEnd end },
+    ghost new_end: { IsNewEndAt intake.now.id end },
     ghost limit: { machine.reader.max_job_size ≡ max_job_size },
     ghost waits: { awaited machine ≡ Awaited.ALine },
     ghost new_door: { IsNewDoor (door_seen D.Door door) },
@@ -44,8 +43,7 @@ impl<'a, D: Door + Drop> SeatPost<'a, D> {
         door: D,
     ) -> Result<SeatPost<'a, D>, NoMemory>
         requires size { IsTrue (is_body_size max_job_size) }
-        requires of_intake { end.intake ≡ intake.now.id }
-        requires new_end { IsNewEnd end }
+        requires new_end { IsNewEndAt intake.now.id end }
         requires new { IsNewDoor (door_seen D.Door door) }
         ensures end { IfOk result (λ post. post.end ≡ end) }
         ensures limit { IfOk result (λ post. post.max_job_size ≡ max_job_size) }

@@ -8,6 +8,7 @@ use bq_link::{CoreEnd, Intake, NoTicks, SeatEnd};
 /// Compares each end with the core's. The steps that an end submitted are those that the core took
 /// and those that still wait. The answers that were sent to an end are those that it took and those
 /// that wait for it.
+#[tactic(auto, using(crate::proofs::SettleLemmas::pair_at))]
 pub fn settle(intake: &Intake<NoTicks>, core: &mut CoreEnd, ends: &mut [SeatEnd])
     requires of_intake { core.old.intake ≡ intake.now.id }
     requires pairs { ArePaired core.old ends.old }

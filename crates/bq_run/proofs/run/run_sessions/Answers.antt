@@ -1,38 +1,13 @@
-use Rattle.std.proofs.Common.{◌≡◌, ◌∙◌, List, ap, map, vec_len, sym, arith, Err}
+use Rattle.std.proofs.Common.{◌∙◌, List, ap, map, sym}
 use Rattle.bq_job.specs.declared.settings.Settings.{Settings}
 use Rattle.bq_line.specs.Tending.{door_seen}
-use Rattle.bq_host.specs.declared.fault.RunFault.TheVariants.{BadConfiguration}
 use Rattle.bq_link.specs.EndStates.{SeatState}
 use Rattle.bq_run.specs.ThreadRuns.{IsRunOf}
-use Rattle.bq_run.proofs.LinkedLemmas.{all_done, run_joined, run_keeps_settings, still_doored}
+use Rattle.bq_host.proofs.SettingsLemmas.{run_keeps_settings}
+use Rattle.bq_run.proofs.LinkedLemmas.{all_done, linked, run_joined, still_doored}
 use Rattle.bq_run.proofs.SettleLemmas.{same_run}
-use Rattle.bq_run.proofs.ThreadLemmas.{all_at_end, back_paired, no_fault, other_fault, well_configured}
+use Rattle.bq_run.proofs.ThreadLemmas.{back_paired}
 use Rattle.bq_run.proofs.run.run_sessions.Goals as goal
-
-pub returns-in-Err-clause-bad_configuration : goal.returns-in-Err-clause-bad_configuration
-returns-in-Err-clause-bad_configuration g c =
-    well_configured _ c.args.config c.in_ok-new_core.new_core.config
-    (vec_len c.args.doors) c.in_ok-new_core.ensures.config c.in_ok-new_core.new_core.range
-    (let b = c.if-len-from.false in let d = c.len.ensures in let e = c.from.ensures in omega arith)
-    (λ e. let same : c.in-Err.fault ≡ BadConfiguration = cc in absurd (c.serve_posts.ensures.fault (c.in-Err.is ∙ ap (λ f. Err f) same)))
-
-pub returns-in_default-clause-bad_configuration : goal.returns-in_default-clause-bad_configuration
-returns-in_default-clause-bad_configuration g c = grind arith
-
-pub returns-in_default-new_posts-clause-bad_configuration : goal.returns-in_default-new_posts-clause-bad_configuration
-returns-in_default-new_posts-clause-bad_configuration g c =
-    well_configured _ c.args.config c.in_ok-new_core.new_core.config
-    (vec_len c.args.doors) c.in_ok-new_core.ensures.config c.in_ok-new_core.new_core.range
-    (let b = c.if-len-from.false in let d = c.len.ensures in let e = c.from.ensures in omega arith) other_fault
-
-pub returns-clause-bad_configuration : goal.returns-clause-bad_configuration
-returns-clause-bad_configuration g c =
-    well_configured _ c.args.config c.in_ok-new_core.new_core.config
-    (vec_len c.args.doors) c.in_ok-new_core.ensures.config c.in_ok-new_core.new_core.range
-    (let b = c.if-len-from.false in let d = c.len.ensures in let e = c.from.ensures in omega arith) (no_fault _ BadConfiguration)
-
-pub settled_run-requires-clause-of_intake : goal.settled_run-requires-clause-of_intake
-settled_run-requires-clause-of_intake g c = grind arith
 
 pub settled_run-requires-clause-pairs : goal.settled_run-requires-clause-pairs
 settled_run-requires-clause-pairs g c =
@@ -66,8 +41,6 @@ returns-clause-served g c =
     all_done at g.C.Clock.given g.I.Read.remaining g.I.ControlReader.may_fail config ended.doors.items c.in-Ok.core_end ended.core_end
     run.core_end firsts lasts run.ends.items posts.control.end ended.control_end c.args.clock ended.clock c.args.control
     ended.control (g.K.QueueCore.machine ended.core) (g.K.QueueCore.comparisons ended.core) doored s o k f.core f.ends f.settled in
-    let j = run_joined at config o.readings ended.control.read ended.control.failed run.core_end (g.K.QueueCore.machine ended.core)
-    (g.K.QueueCore.comparisons ended.core) run.ends.items ended.doors.items done in
     same_run (IsRunOf g.C.Clock.given g.D.Door.lines_over g.I.Read.remaining g.I.ControlReader.may_fail g.K.QueueCore.machine
     g.K.QueueCore.comparisons config c.args.clock c.args.control) run ended f.rest.0 f.rest.1 f.rest.2 f.rest.3 (record {
       readings = o.readings;
@@ -75,17 +48,11 @@ returns-clause-served g c =
       over = k.over;
       read = k.read;
       fault = k.fault;
-      history = j.history;
-      linked = j.linked;
+      history = run_joined _ _ _ _ _ _ _ _ _ _ done;
+      linked = linked _ _ _ _ _ _ _ _ _ _ done;
       of_intake = f.core.same.0 ∙ o.same.0 ∙ c.in-Ok.ensures.core.0 ∙ ap (λ i. i.id) (sym f.intake);
-      compared = j.compared;
+      compared = done.core_done.compared;
     })
-
-pub returns-clause-at_end : goal.returns-clause-at_end
-returns-clause-at_end g c = grind (arith, all_at_end)
-
-pub returns-clause-same : goal.returns-clause-same
-returns-clause-same g c = grind arith
 
 pub returns-clause-settings : goal.returns-clause-settings
 returns-clause-settings g c = run_keeps_settings c.steps_keep_settings.ensures _ _ _ _ _ (returns-clause-served g c).history.run
