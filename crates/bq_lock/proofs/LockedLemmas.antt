@@ -1,6 +1,6 @@
 -- The invariant of the lock's content holds after each operation.
 use Rattle.std.proofs.Common.{◌≡◌, ℕ, ◌<◌, ◌≤◌, ◌⊎◌, Bool, true, false, not, List, [], ◌++◌}
-use Rattle.std.proofs.Common.{Option, drop, length, map, refl, ap, arith, inl, inr, replicate}
+use Rattle.std.proofs.Common.{Option, drop, length, map, refl, ap, arith, inl, inr}
 use Rattle.std.specs.Prelude.{◌==◌, IfSome, IsNone, IsSome}
 use Rattle.std.proofs.lemmas.Grind.{common_steps}
 use Rattle.std.proofs.lemmas.Bool.{and_parts, cases_Bool, cases_lt, eqb-true, eqb-false}
@@ -12,7 +12,7 @@ use Rattle.bq_job.specs.declared.settings.Settings.{Settings}
 use Rattle.bq_job.specs.declared.step.Step.{Step}
 use Rattle.bq_job.specs.machine.Dispatch.{GivenAnswer}
 use Rattle.bq_job.specs.beside.Lawful.{IsLawful}
-use Rattle.bq_job.specs.machine.Machine.{Machine, new_machine}
+use Rattle.bq_job.specs.machine.Machine.{new_machine}
 use Rattle.bq_job.specs.beside.Replay.{outcome_of}
 use Rattle.bq_job.specs.promise.Runs.{answers_to}
 use Rattle.bq_job.specs.machine.Steps.{IsStep, Outcome}
@@ -21,13 +21,17 @@ use Rattle.bq_job.proofs.OneClientLemmas.{answers_append}
 use Rattle.bq_job.proofs.ReplayLemmas.{replay_more}
 use Rattle.bq_host.specs.Journals.{JournalState, with_entry, without_entry}
 use Rattle.bq_host.specs.LastParts.{EndsWith, last_part}
-use Rattle.bq_lock.specs.LockedState.{IsLawfulHold, IsReplayed, LockedState, locked_of, new_locked, outbox_at, without_oldest}
+use Rattle.bq_lock.specs.LockedState.{IsLawfulHold, IsReplayed, LockedState, new_locked, outbox_at, without_oldest}
 use Rattle.bq_lock.specs.LockedSteps.{AreDelivered, IsAdded, IsLeftOut, TakesStepUnless}
 use Rattle.bq_lock.proofs.DeliveryLemmas.{few_delivered, outbox_past}
 use Rattle.bq_lock.proofs.LastPartLemmas.{ends_with_drop, ends_with_last, ends_with_more, ends_with_none, ends_with_then}
 
-pub hold_new : (settings : Settings) (room : ℕ) → IsLawful (new_machine settings) → IsLawfulHold (new_locked settings room)
-hold_new settings room lawful = grind (arith, common_steps)
+hold_first : (settings : Settings) (room : ℕ) → IsLawful (new_machine settings) → IsLawfulHold (new_locked settings room)
+hold_first settings room lawful = grind (arith, common_steps)
+
+-- The content of a new lock keeps the invariant.
+pub hold_new : (settings : Settings) (room : ℕ) (l : LockedState) → l ≡ new_locked settings room → IsLawfulHold l
+hold_new settings room l new = rw new (hold_first settings room (new_is_lawful settings))
 
 -- after the delivery of answers, each outbox is a last part of all answers that were given to its
 -- seat
@@ -52,16 +56,15 @@ pub noted_of : (copy : Option Step) (old : JournalState) (at seat : ℕ) (what :
 noted_of copy old at seat what left_out unshared new same room without added = grind arith
 
 -- The effect of a step whose answers were delivered and that was noted.
-pub stepped : (copy : Option Step) (m n : Machine) (boxes new_boxes : List (List Answer)) (answered new_answered : List ℕ)
-    (old new : JournalState) (at seat : ℕ) (what : Step) (left_out unshared : Bool) (given : List GivenAnswer)
-    → IsStep m at seat what (record { left_out = left_out; unshared = unshared }) given n
-    → AreDelivered given boxes new_boxes → new_answered ≡ map (λ (g : GivenAnswer). g.0) given
-    → IfSome copy (λ step. step ≡ what) → (IsSome copy → length old.entries < old.capacity)
-    → (IsNone copy → new ≡ without_entry old)
-    → IfSome copy (λ step. new ≡ with_entry (record { moment = at; seat = seat; step = step; left_out = left_out }) unshared old)
-    → TakesStepUnless (IsNone copy) (locked_of m boxes answered old) at seat what (locked_of n new_boxes new_answered new)
-stepped copy m n boxes new_boxes answered new_answered old new at seat what left_out unshared given step delivered told same room without
-    added = grind (arith, noted_of)
+pub stepped : (copy : Option Step) (old new : LockedState) (at seat : ℕ) (what : Step) (left_out unshared : Bool) (given : List GivenAnswer)
+    → IsStep old.machine at seat what (record { left_out = left_out; unshared = unshared }) given new.machine
+    → AreDelivered given old.outboxes new.outboxes → new.answered ≡ map (λ (g : GivenAnswer). g.0) given
+    → IfSome copy (λ step. step ≡ what) → (IsSome copy → length old.journal.entries < old.journal.capacity)
+    → (IsNone copy → new.journal ≡ without_entry old.journal)
+    → IfSome copy (λ step. new.journal
+    ≡ with_entry (record { moment = at; seat = seat; step = step; left_out = left_out }) unshared old.journal)
+    → TakesStepUnless (IsNone copy) old at seat what new
+stepped copy old new at seat what left_out unshared given step delivered told same room without added = grind (arith, noted_of)
 
 -- If the journal is complete after a step, it was complete before it, and no reference to a body
 -- was refused in the step.
@@ -112,9 +115,8 @@ ends_fetched outboxes seat other =
 few_of_part : (xs part : List Answer) → EndsWith xs part → length xs ≤ 4 → length part ≤ 4
 few_of_part xs part (front, is) few = grind (arith, length-append)
 
--- a fetch preserves the invariant
-pub hold_fetch : (l : LockedState) (seat : ℕ) → IsLawfulHold l → IsLawfulHold (record l { outboxes = without_oldest seat l.outboxes })
-hold_fetch l seat h = record {
+hold_without : (l : LockedState) (seat : ℕ) → IsLawfulHold l → IsLawfulHold (record l { outboxes = without_oldest seat l.outboxes })
+hold_without l seat h = record {
   lawful = h.lawful;
   many = grind (arith, length-set);
   few = λ other. few_of_part (outbox_at other l.outboxes) _ (ends_fetched l.outboxes seat other) (h.few other);
@@ -126,16 +128,7 @@ hold_fetch l seat h = record {
   };
 }
 
--- the same for the parts of the lock's content when it is created
-pub hold_first : (settings : Settings) (room : ℕ) (machine : Machine) (outboxes : List (List Answer)) (answered : List ℕ)
-    (journal : JournalState)
-    → machine ≡ new_machine settings → outboxes ≡ replicate settings.seats [] → answered ≡ [] → journal ≡ (new_locked settings room).journal
-    → IsLawfulHold (locked_of machine outboxes answered journal)
-hold_first settings room machine outboxes answered journal m o a j =
-    rw (m, o, a, j) (hold_new settings room (new_is_lawful settings))
-
-pub hold_fetched : (machine : Machine) (outboxes fetched : List (List Answer)) (answered still : List ℕ) (journal : JournalState) (seat : ℕ)
-    → fetched ≡ without_oldest seat outboxes → still ≡ answered
-    → IsLawfulHold (locked_of machine outboxes answered journal) → IsLawfulHold (locked_of machine fetched still journal)
-hold_fetched machine outboxes fetched answered still journal seat f s h =
-    rw (f, s) (hold_fetch (locked_of machine outboxes answered journal) seat h)
+-- a fetch preserves the invariant
+pub hold_fetch : (old new : LockedState) (seat : ℕ) → new ≡ record old { outboxes = without_oldest seat old.outboxes } → IsLawfulHold old
+    → IsLawfulHold new
+hold_fetch old new seat fetched h = rw fetched (hold_without old seat h)

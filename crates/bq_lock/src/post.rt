@@ -1,5 +1,5 @@
 //! A seat with its door, for a thread of its own, and the control line.
-ghost use Rattle.std.specs.Prelude.{◌≡◌, IfOk, IsTrue, false, []};
+ghost use Rattle.std.specs.Prelude.{◌≡◌, IfOk, IsTrue};
 ghost use Rattle.bq_core_api.specs.Limits.{is_body_size};
 ghost use Rattle.bq_seat.specs.Past.{Awaited};
 ghost use Rattle.bq_seat.specs.SeatStands.{awaited};
@@ -34,9 +34,7 @@ pub struct Post<'a, D: Door, K> {
     pub door: D,
     ghost limit: { machine.reader.max_job_size ≡ max_job_size },
     ghost waits: { awaited machine ≡ Awaited.ALine },
-    ghost inside: { D.is_out door ≡ false },
-    ghost more: { D.is_at_end door ≡ false },
-    ghost none_over: { D.lines_over door ≡ [] },
+    ghost new_door: { IsNewDoor (door_seen D.Door door) },
 }
 
 impl<'a, D: Door + Drop, K> Post<'a, D, K> {
