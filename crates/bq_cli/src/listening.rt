@@ -1,5 +1,6 @@
 //! The listener of a server.
 ghost use Rattle.std.specs.Prelude.{◌≡◌};
+ghost use Rattle.libc.specs.Net.{SockOption};
 
 use bq_program::{names_port, with_usual_port};
 use libc::net;
@@ -74,41 +75,19 @@ fn widen_backlog(fd: RawFd) -> io::Result<()> {
 
 // On Linux an accepted connection inherits these options from its listener.
 fn keep_alive(fd: RawFd) -> io::Result<()> {
-    check(unsafe { net::setsockopt(fd, net::SOL_SOCKET, net::SO_KEEPALIVE, &option(1), 4) })?;
-    check(unsafe {
-        net::setsockopt(
-            fd,
-            net::IPPROTO_TCP,
-            net::TCP_KEEPIDLE,
-            &option(KEEP_IDLE),
-            4,
-        )
-    })?;
-    check(unsafe {
-        net::setsockopt(
-            fd,
-            net::IPPROTO_TCP,
-            net::TCP_KEEPINTVL,
-            &option(KEEP_INTERVAL),
-            4,
-        )
-    })?;
-    check(unsafe {
-        net::setsockopt(
-            fd,
-            net::IPPROTO_TCP,
-            net::TCP_KEEPCNT,
-            &option(KEEP_PROBES),
-            4,
-        )
-    })
+    set(fd, net::SOL_SOCKET, net::SO_KEEPALIVE, 1)?;
+    set(fd, net::IPPROTO_TCP, net::TCP_KEEPIDLE, KEEP_IDLE)?;
+    set(fd, net::IPPROTO_TCP, net::TCP_KEEPINTVL, KEEP_INTERVAL)?;
+    set(fd, net::IPPROTO_TCP, net::TCP_KEEPCNT, KEEP_PROBES)
 }
 
-// The value of an option that is an `int`, in the first four bytes.
-fn option(number: i32) -> [u8; 16] {
+// Sets an option that is an `int`, in the first four bytes of its value.
+fn set(fd: RawFd, level: i32, name: i32, number: i32) -> io::Result<()>
+    requires { SockOption level name }
+{
     let mut value = [0u8; 16];
     value[..4].copy_from_slice(&number.to_ne_bytes());
-    value
+    check(unsafe { net::setsockopt(fd, level, name, &value, 4) })
 }
 
 fn check(status: i32) -> io::Result<()> {
