@@ -1,9 +1,8 @@
--- A wait that is shorter than one that ends in time ends in time too.
+-- A wait that is no longer than one that ends in time ends in time too.
 use Rattle.std.proofs.Common.{ℕ, Option, Some, None, arith}
 use Rattle.bq_event_loop.specs.Sleeping.{IsNoLonger}
-use Rattle.bq_cli.specs.Sooner.{IsSooner}
 
-pub no_longer : (wait most limit : Option ℕ) → IsSooner wait most → IsNoLonger wait limit → IsNoLonger most limit
+pub no_longer : (wait most limit : Option ℕ) → IsNoLonger most wait → IsNoLonger wait limit → IsNoLonger most limit
 no_longer wait most None s h = tt
 no_longer None most (Some limit) s h = absurd h
 no_longer (Some a) None (Some limit) s h = absurd s

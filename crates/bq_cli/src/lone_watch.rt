@@ -1,7 +1,6 @@
 //! The system as an event loop sees it that has no other thread beside it.
 ghost use Rattle.std.specs.Prelude.{◌≤◌};
-ghost use Rattle.bq_event_loop.specs.Sleeping.{is_awaited};
-ghost use Rattle.bq_cli.specs.Sooner.{IsSooner};
+ghost use Rattle.bq_event_loop.specs.Sleeping.{IsNoLonger, is_awaited};
 
 use crate::descriptors::{STANDARD_INPUT, end_standard_input};
 use crate::ending::Ending;
@@ -87,7 +86,7 @@ impl<'e, 'r, R: Eprint> LoneWatch<'e, 'r, R> {
 
     // Tries reports again that wait. While they do, the loop does not sleep for long.
     fn with_reports(&self, most: Option<u64>) -> Option<u64>
-        ensures { IsSooner most result }
+        ensures { IsNoLonger result most }
     {
         if self.keeps_reports() {
             return sooner(most);
@@ -166,7 +165,7 @@ impl<'e, 'r, R: rt::Clock + Eprint> Sleeper for LoneWatch<'e, 'r, R> {
 
 // Returns a wait that is no longer than this one, and short.
 fn sooner(most: Option<u64>) -> Option<u64>
-    ensures { IsSooner most result }
+    ensures { IsNoLonger result most }
 {
     match most {
         None => Some(AGAIN),

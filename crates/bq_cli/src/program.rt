@@ -40,7 +40,7 @@ pub fn run_bqd<
     // The status is one that some words lead to: by their fault, or by the server that they choose, with a control line
     // over this input. No clause says which words were given, and every status up to 2 is possible for some words.
     ensures status { IsStatusOfProgram (Logging R) ⟦<BufReader<I> as Read>⟧.remaining ⟦<BufReader<I> as ControlReader>⟧.may_fail
-        ⟦<Core as QueueCore>⟧.machine ⟦<Core as QueueCore>⟧.comparisons (I.remaining input) result }
+        ⟦<Core as QueueCore>⟧ (I.remaining input) result }
     ensures at_most { result ≤ 2 }
 {
     let form = log_form(rt);

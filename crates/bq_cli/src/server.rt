@@ -132,8 +132,7 @@ pub fn serve<R: Net + Threads + Wait + Clock + Print + Eprint + Sync, I: Control
 ) -> u8
     // The status follows from what came of the server. It is 0 only after a run of these options at this listener in
     // which no door met a fault.
-    ensures status { IsStatusOfServer R I.remaining I.may_fail ⟦<Core as QueueCore>⟧.machine
-        ⟦<Core as QueueCore>⟧.comparisons options.now listener control result }
+    ensures status { IsStatusOfServer R I.remaining I.may_fail ⟦<Core as QueueCore>⟧ options.now listener control result }
     ensures at_most { result ≤ 1 }
 {
     let ending = Ending::new(options.seats, LogForm::Plain);
@@ -142,6 +141,7 @@ pub fn serve<R: Net + Threads + Wait + Clock + Print + Eprint + Sync, I: Control
 
 /// Does the same as `serve` in a thread that another one watches: it reports how the run ended, unless that thread has
 /// done so. The descriptor is that of the control line, if it has one.
+#[tactic(auto, using(crate::proofs::BeginLemmas::cannot_begin))]
 pub(crate) fn serve_to<
     R: Net + Threads + Wait + Clock + Print + Eprint + Sync,
     I: ControlReader + Drop,
@@ -154,15 +154,22 @@ pub(crate) fn serve_to<
     control: I,
     source: Option<RawFd>,
 ) -> u8
-    ensures status { IsStatusOfServer R I.remaining I.may_fail ⟦<Core as QueueCore>⟧.machine
-        ⟦<Core as QueueCore>⟧.comparisons options.now listener control result }
+    ensures status { IsStatusOfServer R I.remaining I.may_fail ⟦<Core as QueueCore>⟧ options.now listener control result }
     ensures at_most { result ≤ 1 }
 {
     match listener.local_addr() {
         Ok(address) => {
             // If standard output is closed, there is no reader.
             let _told = println!(rt; "listening {address}");
-            serve_at(rt, alloc, options, &listener, ending, control, source)
+            if options.event_loop {
+                // An event loop accepts only what is there.
+                if let Err(e) = listener.set_nonblocking(true) {
+                    return cannot_listen(rt, ending.form(), options, &e);
+                }
+                serve_by_loop(rt, alloc, options, &listener, ending, control, source)
+            } else {
+                serve_by_threads(rt, alloc, options, &listener, ending, control)
+            }
         }
         Err(e) => cannot_listen(rt, ending.form(), options, &e),
     }
@@ -176,28 +183,7 @@ fn cannot_listen<R: Eprint>(rt: &R, form: LogForm, options: &Options, e: &io::Er
     tell_cannot_listen(rt, Program::Bqd, form, address, e)
 }
 
-// Serves at this listener by the engine that the options choose, and reports how that ended.
-fn serve_at<R: Net + Threads + Wait + Clock + Print + Eprint + Sync, I: ControlReader + Drop>(
-    rt: &R,
-    alloc: Global,
-    options: &Options,
-    listener: &TcpListener,
-    ending: &Ending,
-    control: I,
-    source: Option<RawFd>,
-) -> u8
-    ensures status { IsStatusOfServer R I.remaining I.may_fail ⟦<Core as QueueCore>⟧.machine
-        ⟦<Core as QueueCore>⟧.comparisons options.now listener.now control result }
-    ensures at_most { result ≤ 1 }
-{
-    if options.event_loop {
-        serve_by_loop(rt, alloc, options, listener, ending, control, source)
-    } else {
-        serve_by_threads(rt, alloc, options, listener, ending, control)
-    }
-}
-
-// Serves by an event loop, whose listener must not block.
+// Serves by an event loop. The listener must not block.
 fn serve_by_loop<R: Net + Clock + Print + Eprint, I: ControlReader + Drop>(
     rt: &R,
     alloc: Global,
@@ -207,13 +193,9 @@ fn serve_by_loop<R: Net + Clock + Print + Eprint, I: ControlReader + Drop>(
     control: I,
     source: Option<RawFd>,
 ) -> u8
-    ensures status { IsStatusOfLoop R I.remaining I.may_fail ⟦<Core as QueueCore>⟧.machine
-        ⟦<Core as QueueCore>⟧.comparisons options.now listener.now control result }
+    ensures status { IsStatusOfLoop R I.remaining I.may_fail ⟦<Core as QueueCore>⟧ options.now listener.now control result }
     ensures at_most { result ≤ 1 }
 {
-    if let Err(e) = listener.set_nonblocking(true) {
-        return cannot_listen(rt, ending.form(), options, &e);
-    }
     let tell = DoorsTell::new(rt, options, ending);
     let came = run_loop(rt, alloc, options, listener, &tell, control, source);
     let status = status_of_loop(rt, ending, &came);
@@ -234,8 +216,7 @@ fn serve_by_threads<R: Threads + Wait + Clock + Print + Eprint + Sync, I: Contro
     ending: &Ending,
     control: I,
 ) -> u8
-    ensures status { IsStatusOfThreads R I.remaining I.may_fail ⟦<Core as QueueCore>⟧.machine
-        ⟦<Core as QueueCore>⟧.comparisons options.now listener.now control result }
+    ensures status { IsStatusOfThreads R I.remaining I.may_fail ⟦<Core as QueueCore>⟧ options.now listener.now control result }
     ensures at_most { result ≤ 1 }
 {
     let tell = DoorsTell::new(rt, options, ending);
@@ -257,7 +238,16 @@ pub fn status_of_loop<'l, R: Clock + Eprint, C, I, K>(
 ) -> u8
     ensures { result ≡ status_of_server (came_of_loop (λ door. door.met_fault) came.now) }
 {
-    tell_end(rt, ending, came_of_loop(came))
+    match came {
+        Ok(run) => {
+            if run.is_over {
+                tell_end(rt, ending, came_of_doors(run.doors.as_slice()))
+            } else {
+                tell_end(rt, ending, Err(Fault::TooManyTurns))
+            }
+        }
+        Err(fault) => tell_end(rt, ending, Err(*fault)),
+    }
 }
 
 /// Does the same for a run by threads.
@@ -268,7 +258,10 @@ pub fn status_of_threads<'l, R: Clock + Eprint, C, I, K>(
 ) -> u8
     ensures { result ≡ status_of_server (came_of_run (λ door. door.met_fault) came.now) }
 {
-    tell_end(rt, ending, came_of(came))
+    match came {
+        Ok(run) => tell_end(rt, ending, came_of_doors(run.doors.as_slice())),
+        Err(fault) => tell_end(rt, ending, Err(*fault)),
+    }
 }
 
 // Reports how a server ended, unless another thread has done so. Returns the status.
@@ -300,8 +293,7 @@ pub fn run_by_threads<
     control: I,
 ) -> Result<Run<TcpDoor<'l, R>, TellingClock<'l, R>, I, Core>, Fault>
     ensures served { IfOk result
-        (λ run. IsServerRun I.remaining I.may_fail ⟦<Core as QueueCore>⟧.machine ⟦<Core as QueueCore>⟧.comparisons options.now
-        listener.now control run) }
+        (λ run. IsServerRun I.remaining I.may_fail ⟦<Core as QueueCore>⟧ options.now listener.now control run) }
     ensures refused { IfErr result (λ fault. MayRefuse options.now fault) }
 {
     let Ok(doors) = new_doors(rt, alloc, options, listener, tell) else {
@@ -326,8 +318,7 @@ pub fn run_loop<'l, R: Net + Clock + Print + Eprint, I: ControlReader + Drop>(
     source: Option<RawFd>,
 ) -> Result<EventLoopRun<TcpLine, TcpDoor<'l, R>, TellingClock<'l, R>, I, Core>, Fault>
     ensures served { IfOk result
-        (λ run. IsServerLoop I.remaining I.may_fail ⟦<Core as QueueCore>⟧.machine ⟦<Core as QueueCore>⟧.comparisons options.now
-        listener.now control run) }
+        (λ run. IsServerLoop I.remaining I.may_fail ⟦<Core as QueueCore>⟧ options.now listener.now control run) }
     ensures refused { IfErr result (λ fault. MayRefuse options.now fault) }
 {
     let Ok(doors) = new_doors(rt, alloc, options, listener, tell) else {
@@ -443,36 +434,7 @@ fn config_of(options: &Options) -> Config
     }
 }
 
-// Returns the fault of a server, or that some connection could not be accepted.
-fn came_of<'l, R: Clock + Eprint, C, I, K>(
-    came: &Result<Run<TcpDoor<'l, R>, C, I, K>, Fault>,
-) -> Result<(), Fault>
-    ensures { result ≡ came_of_run (λ door. door.met_fault) came.now }
-{
-    match came {
-        Ok(run) => came_of_doors(run.doors.as_slice()),
-        Err(fault) => Err(*fault),
-    }
-}
-
-// Returns the same for an event loop. If it was broken off, that is a fault too.
-fn came_of_loop<'l, R: Clock + Eprint, C, I, K>(
-    came: &Result<EventLoopRun<TcpLine, TcpDoor<'l, R>, C, I, K>, Fault>,
-) -> Result<(), Fault>
-    ensures { result ≡ came_of_loop (λ door. door.met_fault) came.now }
-{
-    match came {
-        Ok(run) => {
-            if run.is_over {
-                came_of_doors(run.doors.as_slice())
-            } else {
-                Err(Fault::TooManyTurns)
-            }
-        }
-        Err(fault) => Err(*fault),
-    }
-}
-
+// Returns the fault of a server if some connection could not be accepted.
 fn came_of_doors<R: Clock + Eprint>(doors: &[TcpDoor<'_, R>]) -> Result<(), Fault>
     ensures { result ≡ came_of_doors (λ door. door.met_fault) doors.now }
 {

@@ -1,7 +1,7 @@
 //! A server on the calling thread, or in one that the calling thread watches.
 ghost use Rattle.std.specs.Prelude.{◌≡◌, ◌≤◌, IfOk, IfSome};
 ghost use Rattle.bq_program.specs.Chosen.{of_bqd};
-ghost use Rattle.bq_cli.specs.Servers.{IsStatusFrom, IsStatusOfListening, IsStatusOfServer};
+ghost use Rattle.bq_cli.specs.Servers.{IsStatusOfListening, IsStatusOfServer, IsStatusOrOne};
 ghost use Rattle.bq_cli.specs.declared.logging.Logging.{Logging};
 
 use crate::descriptors::STANDARD_INPUT;
@@ -65,7 +65,7 @@ pub(crate) fn listen_and_serve<R: System, I: Read + Drop + Send + 'static>(
     input: I,
 ) -> u8
     ensures status { IsStatusOfListening (Logging R) ⟦<BufReader<I> as Read>⟧.remaining ⟦<BufReader<I> as ControlReader>⟧.may_fail
-        ⟦<Core as QueueCore>⟧.machine ⟦<Core as QueueCore>⟧.comparisons (of_bqd options) (I.remaining input) result }
+        ⟦<Core as QueueCore>⟧ (of_bqd options) (I.remaining input) result }
     ensures at_most { result ≤ 1 }
 {
     let listener = match listen(rt, alloc, options.listen.as_str()) {
@@ -75,17 +75,8 @@ pub(crate) fn listen_and_serve<R: System, I: Read + Drop + Send + 'static>(
     let Ok(control) = BufReader::new(alloc, input) else {
         return tell_fault(rt, Program::Bqd, form, Fault::NoMemory(Need::ControlLine));
     };
-    let came = serve_begun(rt, alloc, form, Options::from(options), listener, control);
-    status_of(rt, form, came)
-}
-
-// Returns the status of a server, or 1 if it did not serve or its last door failed. That it did not serve is reported.
-fn status_of<R: Eprint>(rt: &R, form: LogForm, came: Result<Option<u8>, Fault>) -> u8
-    ensures { IsStatusFrom came result }
-{
-    match came {
-        Ok(Some(status)) => status,
-        Ok(None) => 1,
+    match serve_begun(rt, alloc, form, Options::from(options), listener, control) {
+        Ok(status) => status,
         Err(fault) => tell_fault(rt, Program::Bqd, form, fault),
     }
 }
@@ -102,7 +93,7 @@ fn tell_no_listener<R: Eprint>(rt: &R, form: LogForm, address: &str, why: &NoLis
     }
 }
 
-// Serves by the engine that the options choose. Returns the status, or None if the last door failed and that was
+// Serves by the engine that the options choose. Returns the status, which is 1 if the last door failed and that was
 // reported.
 fn serve_begun<R: System, I: ControlReader + Drop + Send + 'static>(
     rt: &R,
@@ -111,20 +102,17 @@ fn serve_begun<R: System, I: ControlReader + Drop + Send + 'static>(
     options: Options,
     listener: TcpListener,
     control: I,
-) -> Result<Option<u8>, Fault>
-    ensures { IfOk result (λ came. IfSome came (λ status. (IsStatusOfServer (Logging R) I.remaining I.may_fail
-        ⟦<Core as QueueCore>⟧.machine ⟦<Core as QueueCore>⟧.comparisons options listener control status) × (status ≤ 1))) }
+) -> Result<u8, Fault>
+    ensures { IfOk result (IsStatusOrOne (Logging R) I.remaining I.may_fail ⟦<Core as QueueCore>⟧ options listener control) }
 {
-    if !options.event_loop {
-        return serve_watched(rt, alloc, form, options, listener, control);
-    }
-    match serve_here(rt, alloc, form, &options, listener, control) {
-        Ok(status) => Ok(Some(status)),
-        Err(fault) => Err(fault),
+    if options.event_loop {
+        serve_here(rt, alloc, form, options, listener, control)
+    } else {
+        serve_watched(rt, alloc, form, options, listener, control)
     }
 }
 
-// Serves in a thread of its own. Returns its status, or None if its last door failed and that was reported.
+// Serves in a thread of its own. Returns its status, or 1 if its last door failed and that was reported.
 fn serve_watched<R: System, I: ControlReader + Drop + Send + 'static>(
     rt: &R,
     alloc: Global,
@@ -132,9 +120,8 @@ fn serve_watched<R: System, I: ControlReader + Drop + Send + 'static>(
     options: Options,
     listener: TcpListener,
     control: I,
-) -> Result<Option<u8>, Fault>
-    ensures { IfOk result (λ came. IfSome came (λ status. (IsStatusOfServer (Logging R) I.remaining I.may_fail
-        ⟦<Core as QueueCore>⟧.machine ⟦<Core as QueueCore>⟧.comparisons options listener control status) × (status ≤ 1))) }
+) -> Result<u8, Fault>
+    ensures { IfOk result (IsStatusOrOne (Logging R) I.remaining I.may_fail ⟦<Core as QueueCore>⟧ options listener control) }
 {
     let Ok(shared) = Shared::new(alloc, options.seats, form, Writer::Thread) else {
         return Err(Fault::NoMemory(Need::Queue));
@@ -167,12 +154,11 @@ fn serve_here<R: System, I: ControlReader + Drop>(
     rt: &R,
     alloc: Global,
     form: LogForm,
-    options: &Options,
+    options: Options,
     listener: TcpListener,
     control: I,
 ) -> Result<u8, Fault>
-    ensures { IfOk result (λ status. (IsStatusOfServer (Logging R) I.remaining I.may_fail
-        ⟦<Core as QueueCore>⟧.machine ⟦<Core as QueueCore>⟧.comparisons options.now listener control status) × (status ≤ 1)) }
+    ensures { IfOk result (IsStatusOrOne (Logging R) I.remaining I.may_fail ⟦<Core as QueueCore>⟧ options listener control) }
 {
     let Ok(shared) = Shared::new(alloc, options.seats, form, Writer::Itself) else {
         return Err(Fault::NoMemory(Need::Queue));
@@ -181,7 +167,7 @@ fn serve_here<R: System, I: ControlReader + Drop>(
     let status = serve_to(
         &logging,
         alloc,
-        options,
+        &options,
         listener,
         &logging.shared().ending,
         control,
@@ -228,8 +214,8 @@ struct Server<R, I> {
 impl<R: System, I: ControlReader + Drop> Server<R, I> {
     // Serves until the server has ended. Returns the status.
     fn serve(self) -> u8
-        ensures status { IsStatusOfServer (Logging R) I.remaining I.may_fail ⟦<Core as QueueCore>⟧.machine
-            ⟦<Core as QueueCore>⟧.comparisons self.options self.listener self.control result }
+        ensures status { IsStatusOfServer (Logging R) I.remaining I.may_fail ⟦<Core as QueueCore>⟧
+            self.options self.listener self.control result }
         ensures at_most { result ≤ 1 }
     {
         let Server {
@@ -268,25 +254,23 @@ impl<R, I: ControlReader> Promise<u8> for ServerPromise<R, I> {
     ghost use Rattle.bq_cli.specs.Servers.{IsStatusOfServer};
     ghost use Rattle.bq_cli.specs.declared.logging.Logging.{Logging};
 
-    ghost kept_by = { λ p status. (IsStatusOfServer (Logging R) I.remaining I.may_fail ⟦<Core as QueueCore>⟧.machine
-        ⟦<Core as QueueCore>⟧.comparisons p.options.value p.listener.value p.control.value status) × (status ≤ 1) };
+    ghost kept_by = { λ p status. (IsStatusOfServer (Logging R) I.remaining I.may_fail ⟦<Core as QueueCore>⟧
+        p.options.value p.listener.value p.control.value status) × (status ≤ 1) };
 }
 
-// Returns the status of the thread of a server that has ended, or reports that its last door failed and returns None. In
-// the second case the thread may still wait for the end of the control line.
+// Returns the status of the thread of a server that has ended. If its last door failed, that is reported and the status
+// is 1: the thread may still wait for the end of the control line.
 fn came_of<R: Threads + Wait + Eprint, I: ControlReader>(
     rt: &R,
     logging: &Logging<R>,
     thread: PromisedHandle<u8, ServerPromise<R, I>>,
-) -> Option<u8>
-    ensures { IfSome result (λ status. (IsStatusOfServer (Logging R) I.remaining I.may_fail
-        ⟦<Core as QueueCore>⟧.machine ⟦<Core as QueueCore>⟧.comparisons thread.promise.options.value
-        thread.promise.listener.value thread.promise.control.value status) × (status ≤ 1)) }
+) -> u8
+    ensures { IsStatusOrOne (Logging R) I.remaining I.may_fail ⟦<Core as QueueCore>⟧ thread.promise.options.value
+        thread.promise.listener.value thread.promise.control.value result }
 {
     let ending = &logging.shared().ending;
     if ending.doors().have_failed() && ending.is_first_to_report() {
-        tell_fault(logging, Program::Bqd, ending.form(), Fault::NotAccepted);
-        return None;
+        return tell_fault(logging, Program::Bqd, ending.form(), Fault::NotAccepted);
     }
-    Some(thread.join(rt))
+    thread.join(rt)
 }

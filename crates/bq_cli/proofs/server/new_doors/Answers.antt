@@ -11,11 +11,7 @@ pub loop-preserved : goal.loop-preserved
 unfolding IsNew
 loop-preserved g c =
     let i = c.loop.invariant in
-    record {
-      many = let h = i.many in let e = c.push_reserved.ensures.len in omega arith;
-      within = let h = c.loop-test.true in omega arith;
-      room = let h = i.room in let a = c.push_reserved.ensures.capacity in omega arith;
-      new = all_pushed c.loop.doors.items _ c.new_door-door.result IsNew c.push_reserved.ensures.items i.new c.new_door-door.ensures.new;
-      at = all_pushed c.loop.doors.items _ c.new_door-door.result
-          (λ d. IsDoorAt c.args.listener.now c.args.options.now.sessions d) c.push_reserved.ensures.items i.at c.new_door-door.ensures.at;
-    }
+    let new = all_pushed _ _ _ IsNew c.push_reserved.ensures.items i.new c.new_door-door.ensures.new in
+    let at = all_pushed _ _ _ (λ d. IsDoorAt c.args.listener.now c.args.options.now.sessions d) c.push_reserved.ensures.items i.at
+    c.new_door-door.ensures.at in
+    grind arith
