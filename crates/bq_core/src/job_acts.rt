@@ -119,7 +119,7 @@ fn put_shared(
         (machine_of state.new) }
     ensures asks { AsksAsChanged state.old.store.jobs state.new.store.jobs }
 {
-    let Ok(()) = changes::make_room(state, alloc) else {
+    let Ok(()) = state.store.reserve_one(alloc) else {
         drop(body);
         return answering::left_out(outs, seat);
     };
@@ -166,6 +166,7 @@ pub(crate) fn reserve_until(state: &mut CoreParts, seat: Seat, seconds: u32) -> 
 
 /// Reserves a job that no client holds, in any tube.
 #[inline(never)]
+#[tactic(auto, using(bq_state::proofs::PartsLemmas::compared_sound))]
 pub(crate) fn reserve_job(
     state: &mut CoreParts,
     seat: Seat,
@@ -179,7 +180,7 @@ pub(crate) fn reserve_job(
     if !state.has_job(id, JobTest::Free) {
         return not_found(answer);
     }
-    let Some(shared) = state.share(id) else {
+    let Some(shared) = state.store.share_body(id) else {
         return not_found(answer);
     };
     let Ok(body) = shared else {

@@ -28,7 +28,7 @@ fn list_to_kick(store: &mut Store, tube: &Tube) -> JobList
 }
 
 // Kicks at most `bound` jobs in this list of the tube, in order, and returns how many.
-#[tactic(auto, using(crate::proofs::ToldLemmas::loop_asks, crate::proofs::KickLemmas::none_in_list))]
+#[tactic(auto, using(crate::proofs::ToldLemmas::loop_asks, crate::proofs::KickLemmas::none_in_list, bq_state::proofs::PartsLemmas::compared_sound))]
 fn kick_some(state: &mut CoreParts, list: JobList, tube: &Tube, bound: u32) -> u64
     requires out { (k : Job) → is_listed list tube.now (kicked k) ≡ false }
     ensures kicked { machine_of state.new
@@ -41,7 +41,7 @@ fn kick_some(state: &mut CoreParts, list: JobList, tube: &Tube, bound: u32) -> u
     ensures asks { Asks (9 * result + 1) state.old.store.jobs state.new.store.jobs }
 {
     for done in 0..bound {
-        let Some(id) = state.first(list, tube) else {
+        let Some(id) = job_store::first(&mut state.store, list, tube) else {
             return u64::from(done);
         };
         changes::change_job(state, id, &JobChange::Kick);

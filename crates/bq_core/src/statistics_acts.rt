@@ -134,10 +134,11 @@ pub(crate) fn stats(state: &CoreParts, alloc: Global, answer: &mut Answer) -> Re
 
 /// Answers with the list of the existing tubes.
 #[inline(never)]
+#[tactic(auto, using(bq_state::proofs::NameLemmas::alive_in_order, bq_state::proofs::NameLemmas::names_by_counts))]
 pub(crate) fn list_tubes(state: &CoreParts, alloc: Global, answer: &mut Answer) -> Reply
     ensures { RepliesBy true list_tubes_effect state.now result answer.new state.now }
 {
-    let Ok(names) = changes::tube_names(state, alloc) else {
+    let Ok(names) = state.store.names_alive(alloc) else {
         return Reply::LeftOut;
     };
     match names_text(alloc, names) {

@@ -125,14 +125,14 @@ pub(crate) fn pause(state: &mut CoreParts, tube: &TubeName, seconds: u32, answer
     set_answer(answer, Answer::Paused);
 }
 
-// Shows the job with this id.
+/// Shows the job with this id.
 #[inline(never)]
-#[tactic(auto, using(crate::proofs::ToldLemmas::shown_so))]
-fn show(state: &mut CoreParts, id: JobId, answer: &mut Answer) -> Reply
+#[tactic(auto, using(crate::proofs::ToldLemmas::shown_so, bq_state::proofs::PartsLemmas::compared_sound))]
+pub(crate) fn peek(state: &mut CoreParts, id: JobId, answer: &mut Answer) -> Reply
     ensures reply { RepliesBy false (peek_effect id) state.old result answer.new state.new }
     ensures asks { Asks 1 state.old.store.jobs state.new.store.jobs }
 {
-    match state.share(id) {
+    match state.store.share_body(id) {
         None => not_found(answer),
         Some(Ok(body)) => {
             set_answer(answer, Answer::Found(id, body));
@@ -140,14 +140,6 @@ fn show(state: &mut CoreParts, id: JobId, answer: &mut Answer) -> Reply
         }
         Some(Err(_)) => Reply::Unshared,
     }
-}
-
-/// Shows the job with this id.
-pub(crate) fn peek(state: &mut CoreParts, id: JobId, answer: &mut Answer) -> Reply
-    ensures reply { RepliesBy false (peek_effect id) state.old result answer.new state.new }
-    ensures asks { AsksAsChanged state.old.store.jobs state.new.store.jobs }
-{
-    show(state, id, answer)
 }
 
 // Returns the id of the first job in this list of the tube that the client uses.
@@ -173,6 +165,6 @@ pub(crate) fn peek_first(
 {
     match first_used(state, seat, list) {
         None => not_found(answer),
-        Some(id) => show(state, id, answer),
+        Some(id) => peek(state, id, answer),
     }
 }

@@ -1,10 +1,11 @@
 -- Counts of the clients at tubes after a seat changes.
 use Rattle.std.proofs.Common.{List, None, Option, Some, [], ap, arith, false, if◌then◌else◌, length, map, not, refl, sym, true, ℕ, ◌&&◌}
-use Rattle.std.proofs.{Common.{◌∙◌, ◌∷◌, ◌≡◌, ◌≤◌}, lemmas.{Bool.{and_parts, cases_Bool, not-true}, Cmp.nat_list_eq_equiv}}
+use Rattle.std.proofs.{Common.{◌∙◌, ◌∷◌, ◌≡◌, ◌≤◌}, lemmas.{Bool.{and_parts, not-true}, Cmp.nat_list_eq_equiv}}
 use Rattle.std.{proofs.lemmas.{Grind.common_steps, List.map-id}, specs.{List.{AllByRecursion as All, list_any}, Option.option_map}}
 use Rattle.bq_job.{proofs.ListLemmas.{all_always, all_of_map, all_weaker, map_all_same}, specs.{beside.none_twice, declared.job.Job.Job}}
 use Rattle.bq_job.specs.{machine.{SeatRecord, greatest, is_seated_at, seat_with, watches}, reading.TubeName.is_same_name}
-use Rattle.bq_state.proofs.{ClientLemmas.{changed_at, count_changed, found_changed}, PartsLemmas.{all_read, all_set, changed_there}}
+use Rattle.bq_state.proofs.ClientLemmas.{changed_at, count_changed, found_changed}
+use Rattle.bq_state.proofs.PartsLemmas.{all_read, all_set, changed_there, none_passed}
 use Rattle.bq_state.{proofs.{PartsLemmas.{number_kept, seat_there}, TubeLemmas.same_name}, specs.Counting.{AreCounted, recounted_for}}
 use Rattle.bq_state.specs.Crowds.{IsSeated, crowd_of, crowd_with, crowd_without, has_seats, is_none, is_user, is_waiter, is_watcher}
 use Rattle.bq_state.specs.{Crowds.{may_wait, roles_as_user, roles_as_watcher, touched}, SeatChanges.{AreNumbered, seat_changed}}
@@ -82,12 +83,6 @@ pub crowd_moved : (n : ℕ) (what : SeatChange) (s : SeatRecord) (seats : List S
 crowd_moved n what s seats h fits found name =
     grind (arith, common_steps, crowd_changed n (seat_changed what) (number_kept what) (touched what) s seats name)
 
--- if there is no seat with this number, no seat is changed
-pub none_changed : (n : ℕ) (f : SeatRecord → SeatRecord) (seats : List SeatRecord) → seat_with n seats ≡ None
-    → changed_at n f seats ≡ seats
-none_changed n f [] h = refl
-none_changed n f (s ∷ seats) h = grind (arith, common_steps, cases_Bool, none_changed n f seats)
-
 -- The records stay.
 names_recounted : (how : AddOrRemove) (roles : List ℕ → Roles) (es : List Named)
     → map record_at (map (λ e. (e.0, entry_recounted how (roles e.0) e.1)) es) ≡ map record_at es
@@ -111,7 +106,7 @@ module _ (n : ℕ) (what : SeatChange) (seats : List SeatRecord) (h : AreNumbere
 
   pub seated_moved : All IsSeated (map (seat_changed_at n what) seats)
   seated_moved = elim (seat_with n seats) as (λ o. seat_with n seats ≡ o → All IsSeated (map (seat_changed_at n what) seats)) [
-    | None ↦ λ none. rw (none_changed n (seat_changed what) seats none) seated
+    | None ↦ λ none. rw (none_passed _ (seat_changed what) seats none) seated
     | Some s ↦ λ found. rw (changed_there seats n s (seat_changed what) h (seat_there seats n s h found))
         (all_set IsSeated seats n _ seated (seated_changed s found))
   ] refl
@@ -130,7 +125,7 @@ module _ (n : ℕ) (what : SeatChange) (seats : List SeatRecord) (h : AreNumbere
   counted_moved jobs k counts = rw (found_changed n (seat_changed what) (number_kept what) seats) (elim (seat_with n seats) as
       (λ o. seat_with n seats ≡ o → AreCounted jobs (map (seat_changed_at n what) seats)
       (recounted_for Add (touched what) (option_map (seat_changed what) o) (recounted_for Remove (touched what) o k)).entries) [
-        | None ↦ λ none. rw (none_changed n (seat_changed what) seats none) counts
+        | None ↦ λ none. rw (none_passed _ (seat_changed what) seats none) counts
         | Some s ↦ λ found. rw (all_recounted Add (touched what) (seat_changed what s) (recounted_for Remove (touched what) (Some s) k)
             (seated_changed s found).once) (all_of_map _ _ _ (all_weaker _ _ _ (λ e c.
             (c.0, ap (crowd_with (roles_at (touched what) (seat_changed what s) e.0)) c.1 ∙ crowd_moved n what s seats h fits found e.0))

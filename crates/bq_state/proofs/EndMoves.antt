@@ -10,8 +10,9 @@ use Rattle.bq_job.specs.{machine.with_record, reading.TubeName.is_same_name}
 use Rattle.bq_jobs.{proofs.Choice.lookup_removed, specs.{JobsSeen.JobsSeen, Names.number_in, Numbering.{Numbering, number_of}}}
 use Rattle.bq_jobs.specs.Table.{Tabled}
 use Rattle.bq_state.proofs.{EndLemmas.{has_entered, has_left, one_over}, NamedLemmas.{found_any, found_entry, have_numbers, in_order, ties}}
-use Rattle.bq_state.proofs.{NumberLemmas.{number_inserted, number_left, number_read}, TubeLemmas.{before_differs, same_itself, same_name}}
-use Rattle.bq_state.specs.PauseEnds.{AreEnds, AreTold, Ends, IsTold, end_cmp, end_of, ends_at, first_end, found_end, has_end, if_over}
+use Rattle.bq_state.proofs.NumberLemmas.{IsTold, number_inserted, number_left, number_read, told}
+use Rattle.bq_state.proofs.TubeLemmas.{before_differs, same_itself, same_name}
+use Rattle.bq_state.specs.PauseEnds.{AreApart, AreEnds, Ends, end_cmp, end_of, ends_at, first_end, found_end, has_end, if_over}
 use Rattle.bq_state.specs.PauseEnds.{is_end_in, is_paused, number_at, pause_at, pause_in, paused_count, with_end, without_end}
 use Rattle.bq_state.specs.{Store.AreStored, TubeEntries.{AreInOrder, has_entry}, TubesSeen.{EntrySeen, Named, edited_at, ended}}
 use Rattle.bq_state.specs.TubesSeen.{entry_changed, is_named_at, record_at, record_of, with_ended}
@@ -67,10 +68,10 @@ some_end name kept k n t r alone is same found end = grind (arith, number_read, 
 
 -- The end of a tube's pause is one of the ends.
 pub end_held : (name : List ℕ) (kept : Tabled EntrySeen) (ends : CatalogSeen PauseEnd (Unit {0})) (from : Option PauseEnd)
-    → AreEnds kept ends → InOrder (slice_cmp nat_cmp) kept.entries → AreTold kept
+    → AreEnds kept ends → InOrder (slice_cmp nat_cmp) kept.entries → AreApart kept
     → from ≡ end_of (number_at name kept.tubes.numbers) (pause_at name (map record_at kept.entries))
     → ForSome from (λ e. has_end e ends.entries ≡ true)
-end_held name kept ends from h order told was e is = grind (arith, common_steps, h.known e, named_ends, in_order, told name)
+end_held name kept ends from h order apart was e is = grind (arith, common_steps, h.known e, named_ends, in_order, told kept apart name)
 
 -- The end of the pause is removed, and that of the new pause is added.
 module _ (number : List ℕ) (old next : Option Pause) (kept new : Tabled EntrySeen) (ends mid : CatalogSeen PauseEnd (Unit {0}))
@@ -127,13 +128,14 @@ module _ (name : List ℕ) (f : EntrySeen → EntrySeen) where
     as_many : length last.entries ≡ length kept.entries
     as_many = grind (arith, length-map, same_names)
 
-    pub edit_moves : InOrder (slice_cmp nat_cmp) kept.entries → AreTold kept → Moves (number_at name kept.tubes.numbers)
+    pub edit_moves : InOrder (slice_cmp nat_cmp) kept.entries → AreApart kept → Moves (number_at name kept.tubes.numbers)
         (pause_at name (map record_at kept.entries)) (pause_at name (map record_at last.entries)) kept last
-    edit_moves order told = record {
-      was = λ until. named_ends name kept.tubes.numbers until (map record_at kept.entries) (in_order kept.entries order) (told name);
+    edit_moves order apart = record {
+      was = λ until. named_ends name kept.tubes.numbers until (map record_at kept.entries) (in_order kept.entries order)
+          (told kept apart name);
       is = λ until. rw n (named_ends name kept.tubes.numbers until (map record_at last.entries)
           (in_order last.entries (subst (IsStrictlySortedBy (slice_cmp nat_cmp)) (sym same_names) order))
-          (rw e (told_edited kept.tubes.numbers kept.entries (told name))));
+          (rw e (told_edited kept.tubes.numbers kept.entries (told kept apart name))));
       others = λ q other. rw (n, e) (others_edited kept.tubes.numbers q other kept.entries);
       count = rw e (count_edited kept.entries);
       fewer = omega (arith, as_many);
@@ -203,13 +205,14 @@ module _ (name : List ℕ) where
   fewer_left : (es : List Named) → length (left es) ≤ length es
   fewer_left es = let fewer = length_lost (is_named_at name) es (lookup (is_named_at name) es) refl in omega (arith, fewer)
 
-  pub moves_left : (kept last : Tabled EntrySeen) → InOrder (slice_cmp nat_cmp) kept.entries → AreTold kept
+  pub moves_left : (kept last : Tabled EntrySeen) → InOrder (slice_cmp nat_cmp) kept.entries → AreApart kept
       → last.entries ≡ remove_entry (is_named_at name) kept.entries
       → last.tubes.numbers ≡ remove_entry (is_named_at name) kept.tubes.numbers
       → Moves (number_at name kept.tubes.numbers) (pause_at name (map record_at kept.entries)) None kept last
-  moves_left kept last order told e n = record {
-    was = λ until. named_ends name kept.tubes.numbers until (map record_at kept.entries) (in_order kept.entries order) (told name);
-    is = λ until. rw (e, n) (is_left kept.tubes.numbers kept.entries order (told name) until);
+  moves_left kept last order apart e n = record {
+    was = λ until. named_ends name kept.tubes.numbers until (map record_at kept.entries) (in_order kept.entries order)
+        (told kept apart name);
+    is = λ until. rw (e, n) (is_left kept.tubes.numbers kept.entries order (told kept apart name) until);
     others = λ q other. rw (e, n) (renumbered_left kept.tubes.numbers kept.entries order q
         ∙ others_left kept.tubes.numbers q other kept.entries);
     count = rw e (count_left kept.entries);
@@ -261,13 +264,14 @@ to_at moment number e p is h = grind arith
 
 -- the first end, which is due
 module _ (moment : ℕ) (e : PauseEnd) (name : List ℕ) (kept last : Tabled EntrySeen) (ends : CatalogSeen PauseEnd (Unit {0}))
-    (h : AreEnds kept ends) (order : InOrder (slice_cmp nat_cmp) kept.entries) (told : AreTold kept)
+    (h : AreEnds kept ends) (order : InOrder (slice_cmp nat_cmp) kept.entries) (apart : AreApart kept)
     (come : Some e ≡ if_over moment (first_end ends.entries)) (own : e.number ≡ number_at name kept.tubes.numbers)
     (n : last.tubes ≡ kept.tubes)
     (edit : last.entries ≡ edited_at name (ended moment) kept.entries) where
   over_from : Some e ≡ end_of (number_at name kept.tubes.numbers) (pause_at name (map record_at kept.entries))
   over_from =
-      let ended = rw (← own) at (named_ends name kept.tubes.numbers e.until (records_in kept) (in_order kept.entries order) (told name)) in
+      let ended = rw (← own) at (named_ends name kept.tubes.numbers e.until (records_in kept) (in_order kept.entries order)
+      (told kept apart name)) in
       rw (← own) (from_at e.until e.number _ (sym ended ∙ sym (h.known e) ∙ (one_over moment e ends.entries come).0))
 
   over_to : None ≡ end_of (number_at name kept.tubes.numbers) (pause_at name (map record_at last.entries))
@@ -276,7 +280,7 @@ module _ (moment : ℕ) (e : PauseEnd) (name : List ℕ) (kept last : Tabled Ent
   over_moves : Moves (number_at name kept.tubes.numbers) (pause_at name (map record_at kept.entries))
       (pause_at name (map record_at last.entries))
       kept last
-  over_moves = edit_moves name (ended moment) kept last n edit order told
+  over_moves = edit_moves name (ended moment) kept last n edit order apart
 
   pub over_fewer : paused_count last.entries < paused_count kept.entries
   over_fewer = grind (arith, common_steps, over_moves.count, over_from, over_to)

@@ -1,10 +1,11 @@
 -- The first timeout of a waiting client, as seats change.
-use Rattle.std.proofs.Common.{List, None, Option, Some, [], ap, arith, length, map, refl, set, slice_get, sym, true, ℕ, ◌||◌, ◌∙◌, ◌∷◌, ◌≡◌}
+use Rattle.std.proofs.Common.{List, None, Option, Some, [], ap, arith, length, map, refl, set, slice_get, sym, true, ℕ, ◌||◌, ◌==◌, ◌∙◌}
+use Rattle.std.proofs.Common.{◌∷◌, ◌≡◌}
 use Rattle.std.{proofs.{Math.Bool.or-false, lemmas.{Bool.cases_Bool, Grind.common_steps}}, specs.List.{AllByRecursion as All, list_any}}
 use Rattle.std.specs.Prelude.{fold}
 use Rattle.bq_job.{proofs.{KeptLemmas.only_seat, ListLemmas.{all_always, all_both, all_of_map, all_weaker}}, specs.machine.SeatRecord}
 use Rattle.bq_job.specs.machine.{empty_seat, seat_with, watching}
-use Rattle.bq_state.{proofs.{CrowdLemmas.none_changed, PartsLemmas.changed_there}, specs.Dues.{earlier_of_both, is_end_over, with_seat_due}}
+use Rattle.bq_state.{proofs.PartsLemmas.{changed_there, none_passed}, specs.Dues.{earlier_of_both, is_end_over, with_seat_due}}
 use Rattle.bq_state.specs.{EndingWaits.has_waited, FirstTimeouts.{AreTimeouts, IsThere, gives_up_at, keeps_timeout, timeout_after}}
 use Rattle.bq_state.specs.{SeatChanges.{AreNumbered, seat_changed, seat_changed_at}, declared.known.first_timeout.FirstTimeout.FirstTimeout}
 use Rattle.bq_state.specs.declared.{known.first_timeout.FirstTimeout.TheVariants.{Known, Unknown}, seats.SeatChange.SeatChange}
@@ -31,7 +32,7 @@ timeouts_of_seat number what first seats numbered known =
     let kept : (s : SeatRecord) → seat_with number seats ≡ Some s → keeps_timeout what s ≡ true
     → AreTimeouts first (map (seat_changed_at number what) seats) = λ s e keeps. grind
     (arith, common_steps, cases_Bool, timeouts_kept, all_weaker, only_seat 0 (length seats) number seats s numbered e) in
-    grind (arith, common_steps, none_changed number (seat_changed what) seats)
+    grind (arith, common_steps, none_passed (λ (s : SeatRecord). s.number == number) (seat_changed what) seats)
 
 -- a client watches other tubes
 pub timeouts_watching : (names : List (List ℕ)) (i : ℕ) (s : SeatRecord) (first : FirstTimeout) (seats : List SeatRecord)

@@ -6,12 +6,14 @@ use Rattle.std.specs.{List.list_any, Option.option_map, Ordering.nat_cmp}
 use Rattle.bq_job.proofs.{KeptLemmas.{ids_of_filter, ids_of_map}, ListLemmas.{all_always, all_of_map, all_weaker, count_all_not}}
 use Rattle.bq_job.specs.{beside.AreIdsWithin, declared.job.Job.Job, machine.{SeatRecord, TubeRecord, empty_seat, forgetting, fresh_tube}}
 use Rattle.bq_job.specs.machine.{greatest, is_ready, is_ready_state, is_seated_at, is_waiting, job_with, last_id, next_job, numbers}
-use Rattle.bq_job.specs.{machine.{seat_with, tube_after_timers, watches, watching}, reading.TubeName.is_same_name}
-use Rattle.bq_jobs.{proofs.Told.told_of, specs.{Changed.{moved_by, removed_from, with_changed}, JobsSeen.{with_added, without}}}
-use Rattle.bq_jobs.specs.declared.numbered_jobs.JobMove.{JobMove}
+use Rattle.bq_job.specs.{machine.{seat_with, tube_after_timers, watches, watching, with_tube}, reading.TubeName.is_same_name}
+use Rattle.bq_index.{proofs.Removed.value_there, specs.Removed.passing}
+use Rattle.bq_jobs.proofs.{Changes.found_id, Told.{IsOf, told_of}}
+use Rattle.bq_jobs.specs.{Changed.{moved_by, removed_from, with_changed}, JobsSeen.{with_added, without}}
+use Rattle.bq_jobs.specs.declared.numbered_jobs.{JobMove.JobMove, JobRemoval.JobRemoval}
 use Rattle.bq_state.proofs.{ClientLemmas.{connected_moved, connected_watching}, CountedLemmas.counted_added}
 use Rattle.bq_state.proofs.CountedLemmas.{counted_provided as counted_with, counted_taken, first_counted, first_seated, tally_added}
-use Rattle.bq_state.proofs.{CountedLemmas.{tally_taken, waiters_counted}, CrowdLemmas.{counted_moved as counted_of_seat, records_recounted}}
+use Rattle.bq_state.proofs.{CountedLemmas.{seated_by_counts, tally_taken, waiters_counted}, CrowdLemmas.{records_recounted}}
 use Rattle.bq_state.proofs.{CrowdLemmas.{seated_moved, seated_there}, CrowdWatching.{counted_ignoring, counted_watching, seated_ignoring}}
 use Rattle.bq_state.proofs.{CrowdWatching.seated_watching, FirstTimeoutLemmas.{first_timeouts, timeouts_of_seat, timeouts_watching}}
 use Rattle.bq_state.proofs.{LeavingLemmas.alive_left, MaybeGoneLemmas.{alive_added, alive_forgotten, alive_ignoring, alive_provided}}
@@ -21,23 +23,31 @@ use Rattle.bq_state.proofs.{MovedLemmas.warned_moved, NamedLemmas.{change_kept, 
 use Rattle.bq_state.proofs.{NamedLemmas.records_with, PartsLemmas.{all_filtered, all_read, counted_provided, entries_forgotten}}
 use Rattle.bq_state.proofs.PartsLemmas.{entries_of_added, entries_of_fewer, entries_of_seat, entries_of_timers, entries_of_tube}
 use Rattle.bq_state.proofs.PartsLemmas.{entries_provided, few_jobs, first_entries, first_numbered, has_of_job, id_kept, name_kept_at}
-use Rattle.bq_state.proofs.PartsLemmas.{numbered_after, seat_there, tube_counts, tube_name_kept, watching_fewer, watching_more}
-use Rattle.bq_state.proofs.{PartsLemmas.watching_numbered, TubeLemmas.{filters_swap, has_inserted, record_changed, same_entries}}
+use Rattle.bq_state.proofs.PartsLemmas.{numbered_after, recorded, seat_there, tube_counts, tube_name_kept, watching_fewer, watching_more}
+use Rattle.bq_state.proofs.PartsLemmas.{watching_numbered}
+use Rattle.bq_state.proofs.TubeLemmas.{filter_of_map, filters_swap, has_inserted, record_changed, same_entries}
+use Rattle.bq_state.proofs.PauseLemmas.{no_pause_ends, none_counted, none_over}
+use Rattle.bq_state.specs.{Store.StoreSeen, WantedJobs.wanted_after_tube}
 use Rattle.bq_state.proofs.WaitingLemmas.{in_turn_watching, many_seats, none_in_turn, rising_left, waiters_moved, waiters_within}
 use Rattle.bq_state.proofs.WantedLemmas.{known_added, known_forgotten, known_ignoring, known_nothing, known_of_change, known_of_seat}
 use Rattle.bq_state.proofs.{WantedLemmas.known_watching, WarningLemmas.{warned_added, warned_by_due, warned_of_seat, warned_watching}}
-use Rattle.bq_state.specs.{CoreParts.machine_of, Counting.{AreCounted, existing, recounted_for}, Crowds.{IsSeated, is_waiter, may_wait}}
-use Rattle.bq_state.specs.{Crowds.{roles_of_watcher, roles_of_watching, touched}, Dues.with_warning_due, JobChanges.changed, Knowledge.IsSo}
-use Rattle.bq_state.specs.Knowledge.{is_wanted_by, nothing_known, with_forgotten, with_job, with_joined, with_left, with_moved}
-use Rattle.bq_state.specs.{Knowledge.{with_removal, with_tube_changed}, MaybeGoneTubes.{is_nothing, with_gone}, SeatChanges.AreNumbered}
+use Rattle.bq_state.specs.{CoreParts.machine_of, Counting.{AreCounted, existing, recounted_for}}
+use Rattle.bq_state.specs.Crowds.{IsSeated, has_seats, is_waiter, may_wait}
+use Rattle.bq_state.specs.{Crowds.{roles_of_watcher, roles_of_watching, touched}, Dues.with_warning_due, JobChanges.{changed, once_deleted}}
+use Rattle.bq_state.specs.Knowledge.{IsSo}
+use Rattle.bq_state.specs.Knowledge.{is_wanted_by, nothing_known, with_job, with_joined, with_left, with_moved}
+use Rattle.bq_state.specs.{Knowledge.with_removal, MaybeGoneTubes.{is_nothing, with_gone}, SeatChanges.AreNumbered}
 use Rattle.bq_state.specs.{SeatChanges.{has_tube_of, seat_changed_at}, Soundness.Soundness, TubeEntries.{AreEntries, counted, has_entry}}
-use Rattle.bq_state.specs.{TubeEntries.{is_counted, is_tube_of, provided, tube_changed, tube_changed_at}, TubesSeen.{Named, TubesSeen}}
-use Rattle.bq_state.specs.TubesSeen.{entry_changed, entry_moved, entry_recounted, entry_with, entry_without, first_tubes, fresh_entry}
+use Rattle.bq_state.specs.TubeEntries.{is_counted, is_tube_of, provided, tube_changed, tube_changed_at}
+use Rattle.bq_state.specs.TubesSeen.{EntrySeen, Named, TubesSeen}
+use Rattle.bq_state.specs.TubesSeen.{entry_at, entry_changed, entry_moved, entry_recounted, entry_with, entry_without, first_tubes}
+use Rattle.bq_state.specs.TubesSeen.{fresh_entry, record_of}
 use Rattle.bq_state.specs.{TubesSeen.{record_at, records, tubes_with, with_ended, with_entry}, WaitingList.{AreInTurn, WaitingList}}
 use Rattle.bq_state.specs.{Warnings.{has_waiting_holder, may_hold, warned_if_due}, declared.core_parts.CoreParts.CoreParts}
 use Rattle.bq_state.specs.declared.{job_store.JobChange.JobChange, known.Known.Known, seats.SeatChange.SeatChange}
 use Rattle.bq_state.specs.declared.tubes.entry.{AddOrRemove.TheVariants.{Add, Remove}, TubeChange.{TheVariants.CountDelete, TubeChange}}
 use Rattle.bq_state.specs.declared.tubes.entry.TubeChange.TheVariants.{CountPut}
+use Rattle.bq_state.specs.declared.known.maybe_gone.MaybeGone.TheVariants as gone_tubes
 use Rattle.bq_state.specs.declared.known.wanted.Wanted.TheVariants as wanted_jobs
 
 -- The invariants of a state, from the records of its tubes.
@@ -80,7 +90,7 @@ module _ (st : CoreParts) where
 
   -- The entry of a tube changes,
   so_with_tube : (name : List ℕ) (what : TubeChange) → has_entry name (records st.store.tubes) ≡ true
-      → IsSo (with_tube_changed name what st.known) st.store.jobs.jobs st.seats.items
+      → IsSo (record st.known { wanted = wanted_after_tube name what st.known.wanted }) st.store.jobs.jobs st.seats.items
       (map (tube_changed_at name what) (records st.store.tubes))
   so_with_tube name what there =
       let changed = sym (record_changed name (tube_changed what) (tube_counts what) (tube_name_kept what) (records st.store.tubes)
@@ -89,11 +99,19 @@ module _ (st : CoreParts) where
 
   pub sound_with_tube : (name : List ℕ) (what : TubeChange) → has_entry name (records st.store.tubes) ≡ true
       → Soundness st.store.jobs.jobs st.seats.items (with_entry name (entry_changed what) st.store.tubes) st.waiting
-      (with_tube_changed name what st.known) st.next_id st.draining
+      (record st.known { wanted = wanted_after_tube name what st.known.wanted }) st.next_id st.draining
   sound_with_tube name what there =
       sound_with (records_changed name (entry_changed what) (tube_changed what) (change_kept what) st.store.tubes.entries)
       (entries_of_tube name what _ _ _ st.sound.entries) (so_with_tube name what there)
       (all_of_map _ _ _ (all_weaker _ _ _ (λ e c. grind (arith, common_steps)) st.sound.counts)) st.sound.ids
+
+  -- and so does its record.
+  pub tube_then : (name : List ℕ) (f : EntrySeen → EntrySeen) (what : TubeChange)
+      → ((n : List ℕ) (t : EntrySeen) → record_of n (f t) ≡ tube_changed what (record_of n t))
+      → has_entry name (records st.store.tubes) ≡ true
+      → counted (records (with_entry name f st.store.tubes)) ≡ (with_tube name (tube_changed what) (machine_of st)).tubes
+  tube_then name f what made there =
+      ap counted (records_changed name f (tube_changed what) made st.store.tubes.entries) ∙ sym (recorded st name what there)
 
   -- A job is added,
   pub sound_with_job : (j : Job) → length (with_added j st.store.jobs.jobs) ≤ greatest
@@ -111,22 +129,45 @@ module _ (st : CoreParts) where
       (counted_added j st.store.jobs.jobs fits st.seats.items st.store.tubes.entries st.sound.counts) ids
 
   -- removed,
-  pub sound_without_job : (id : ℕ) (j : Job) (has_seats : Bool) → (has_seats ≡ true → list_any (is_seated_at j.tube) st.seats.items ≡ true)
-      → job_with id st.store.jobs.jobs ≡ Some j
-      → Soundness (without id st.store.jobs.jobs) st.seats.items (with_entry j.tube (entry_without (removed_from j)) st.store.tubes)
-      st.waiting
-      (with_removal (removed_from j) has_seats st.known) st.next_id st.draining
-  sound_without_job id j has_seats seated found =
-      let mid = so_with_tube j.tube CountDelete (has_of_job st id j found) in
-      let ids = st.sound.ids in
-      let so : IsSo (with_removal (removed_from j) has_seats st.known) (without id st.store.jobs.jobs) st.seats.items
-      (map (tube_changed_at j.tube CountDelete) (records st.store.tubes)) = search (tally_taken, alive_taken, all_filtered) in
-      sound_with
-      (records_changed j.tube (entry_without (removed_from j)) (tube_changed CountDelete) (change_kept CountDelete) st.store.tubes.entries)
-      (entries_of_fewer _ _ _ _ (entries_of_tube j.tube CountDelete _ _ _ st.sound.entries))
-      so
-      (counted_taken j st.store.jobs.jobs 1 st.next_id id st.sound.ids found st.seats.items st.store.tubes.entries st.sound.counts)
-      (ids_of_filter _ 1 st.next_id _ st.sound.ids)
+  module _ (id : ℕ) (p : Job → Bool) (r : JobRemoval)
+      (removed : Some r ≡ option_map removed_from (passing p (job_with id st.store.jobs.jobs))) where
+    of : IsOf removed_from (passing p (job_with id st.store.jobs.jobs)) r
+    of = told_of removed_from (passing p (job_with id st.store.jobs.jobs)) r (sym removed)
+
+    is_there : job_with id st.store.jobs.jobs ≡ Some of.job
+    is_there = sym (value_there p (job_with id st.store.jobs.jobs) of.job (sym of.there))
+
+    pub sound_without_job : (seats : Bool) → Some seats ≡ option_map (λ t. has_seats t.crowd) (entry_at r.tube st.store.tubes)
+        → Soundness (without id st.store.jobs.jobs) st.seats.items (with_entry r.tube (entry_without r) st.store.tubes) st.waiting
+        (with_removal r seats st.known) st.next_id st.draining
+    sound_without_job seats told =
+        let j = of.job in
+        let seated = seated_by_counts j.tube st.store.tubes _ _ st.sound.counts st.sound.entries.of_seats st.sound.seated in
+        let mid = so_with_tube j.tube CountDelete (has_of_job st id j is_there) in
+        let ids = st.sound.ids in
+        let found = is_there in
+        let there : seats ≡ true → list_any (is_seated_at j.tube) st.seats.items ≡ true = λ has. grind (arith, common_steps, of.is) in
+        let so : IsSo (with_removal (removed_from j) seats st.known) (without id st.store.jobs.jobs) st.seats.items
+        (map (tube_changed_at j.tube CountDelete) (records st.store.tubes)) = search (tally_taken, alive_taken, all_filtered) in
+        let f = entry_without (removed_from j) in
+        rw of.is (sound_with (records_changed j.tube f (tube_changed CountDelete) (change_kept CountDelete) st.store.tubes.entries)
+        (entries_of_fewer _ _ _ _ (entries_of_tube j.tube CountDelete _ _ _ st.sound.entries))
+        so
+        (counted_taken j st.store.jobs.jobs 1 st.next_id id st.sound.ids is_there st.seats.items st.store.tubes.entries st.sound.counts)
+        (ids_of_filter _ 1 st.next_id _ st.sound.ids))
+
+    pub deleted_is : record (machine_of st) {
+      jobs = without id st.store.jobs.jobs;
+      tubes = counted (records (with_entry r.tube (entry_without r) st.store.tubes));
+    } ≡ once_deleted (passing p (job_with id st.store.jobs.jobs)) (machine_of st)
+    deleted_is = grind (
+      arith,
+      common_steps,
+      of.there,
+      of.is,
+      found_id id st.store.jobs.jobs of.job is_there,
+      tube_then of.job.tube (entry_without r) CountDelete (change_kept CountDelete) (has_of_job st id of.job is_there),
+    )
 
   -- or changed.
   pub sound_with_moved : (id : ℕ) (what : JobChange) (m : JobMove) → AreIdsWithin 0 st.store.jobs.jobs (2 ^ 64)
@@ -220,14 +261,17 @@ module _ (st : CoreParts) where
       (counted_with name _ _ _ none st.sound.entries st.sound.seated st.sound.counts) st.sound.ids
 
   -- or pauses end.
-  pub sound_with_pauses : Soundness st.store.jobs.jobs st.seats.items
-      (record st.store.tubes { entries = with_ended st.moment st.store.tubes.entries }) st.waiting
-      (record st.known { wanted = wanted_jobs.Any }) st.next_id st.draining
-  sound_with_pauses = grind (arith, sound_with, records_ended, entries_of_timers, alive_renamed, all_always, all_of_map)
+  pub sound_with_pauses : (store : StoreSeen)
+      → store ≡ record st.store { tubes = record st.store.tubes { entries = with_ended st.moment st.store.tubes.entries } }
+      → Soundness store.jobs.jobs st.seats.items store.tubes st.waiting (record st.known { wanted = wanted_jobs.Any }) st.next_id
+      st.draining
+  sound_with_pauses store same =
+      rw same (grind (arith, sound_with, records_ended, entries_of_timers, alive_renamed, all_always, all_of_map))
 
   -- Entries of tubes that no longer exist are dropped.
   pub sound_forgotten : (new : TubesSeen) → new.entries ≡ existing st.store.jobs.jobs st.seats.items st.store.tubes.entries
-      → Soundness st.store.jobs.jobs st.seats.items new st.waiting (with_forgotten st.known) st.next_id st.draining
+      → Soundness st.store.jobs.jobs st.seats.items new st.waiting
+      (record st.known { maybe_gone = gone_tubes.Nothing }) st.next_id st.draining
   sound_forgotten new left =
       let p = is_tube_of st.store.jobs.jobs st.seats.items in
       sound_with (ap (map record_at) left ∙ records_filtered p st.store.tubes.entries) (entries_forgotten st)
@@ -260,10 +304,6 @@ sound_at_first n ns waiters nobody room =
 -- facts after a change of a seat, under a name that an attribute can cite
 pub ruleset kept_by_seat = (
   common_steps,
-  so_then,
-  entries_then,
-  counted_of_seat,
-  seated_moved,
   records_then,
   numbered_after,
   rising_left,
@@ -271,3 +311,6 @@ pub ruleset kept_by_seat = (
   waiters_within,
   length-map,
 )
+
+-- the ends of pauses, under a name that an attribute can cite
+pub ruleset pauses_end = (common_steps, sound_with_pauses, none_over, no_pause_ends, none_counted, records_ended, filter_of_map)

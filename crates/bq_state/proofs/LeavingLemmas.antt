@@ -1,12 +1,13 @@
 -- The tubes that may no longer exist after a seat changes: those that its client left, except those
 -- that exist by their counts.
-use Rattle.std.proofs.Common.{Bool, List, Some, [], ap, arith, length, map, not, sym, true, ℕ, ◌&&◌, ◌||◌, ◌∙◌, ◌∷◌, ◌≡◌, ◌≤◌}
+use Rattle.std.proofs.Common.{Bool, List, Some, [], ap, arith, length, map, not, sym, true, ℕ, ◌&&◌, ◌||◌, ◌==◌, ◌∙◌, ◌∷◌, ◌≡◌, ◌≤◌}
 use Rattle.std.{proofs.lemmas.Grind.common_steps, specs.List.{AllByRecursion as All, list_any}}
 use Rattle.bq_job.{proofs.ListLemmas.{all_at, all_from_members, all_weaker, list_any_with}, specs.declared.job.Job.Job}
 use Rattle.bq_job.specs.{machine.{SeatRecord, greatest, is_seated_at, seat_with}, reading.TubeName.is_same_name}
 use Rattle.bq_state.proofs.{CountedLemmas.{has_jobs_in, no_job_there, value_there}, CrowdLemmas.{counted_left, crowd_moved, has_seats_of}}
-use Rattle.bq_state.proofs.{CrowdLemmas.{none_changed, records_recounted, roles_at, seated_there}, MaybeGoneLemmas.{any_set, still_gone}}
-use Rattle.bq_state.{proofs.{PartsLemmas.{changed_there, seat_there}, TubeLemmas.{same_itself, same_name}}, specs.Counting.AreCounted}
+use Rattle.bq_state.proofs.{CrowdLemmas.{records_recounted, roles_at, seated_there}, MaybeGoneLemmas.{any_set, still_gone}}
+use Rattle.bq_state.proofs.{PartsLemmas.{changed_there, none_passed, seat_there}, TubeLemmas.{same_itself, same_name}}
+use Rattle.bq_state.specs.Counting.{AreCounted}
 use Rattle.bq_state.specs.{Counting.recounted_for, Crowds.{IsSeated, crowd_of, crowd_without, may_wait, touched}, Leaving.exists_in}
 use Rattle.bq_state.specs.{Leaving.{gone_all, gone_of, gone_unless, left_names}, MaybeGoneTubes.{AreAlive, is_accounted, may_be_gone}}
 use Rattle.bq_state.specs.{SeatChanges.{AreNumbered, seat_changed, seat_changed_at}, Tallies.tally_in, TubeEntries.{has_entry, is_tube_of}}
@@ -72,5 +73,5 @@ module _ (n : ℕ) (what : SeatChange) (maybe : MaybeGone) (jobs : List Job) (se
       → AreAlive (gone_of (touched what) (recounted_for Remove (touched what) (seat_with n seats) k) (seat_with n seats) maybe) jobs
       (map (seat_changed_at n what) seats) (records k)
   alive_left all =
-      let same = none_changed n (seat_changed what) seats in
+      let same = none_passed (λ (s : SeatRecord). s.number == n) (seat_changed what) seats in
       grind (arith, common_steps, all_from_members, entry_accounted, list_any_with, same_itself, all_at)

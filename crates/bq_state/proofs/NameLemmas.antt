@@ -68,8 +68,12 @@ pub names_by_counts : (st : CoreParts) → keys_of (filter is_alive_at st.store.
 names_by_counts st = listed_names st.store.jobs.jobs st.seats.items st.store.tubes.entries st.sound.counts
     ∙ alive_are_tubes (machine_of st) _ st.sound.entries
 
+pub alive_in_order : (st : CoreParts) (names : List (Bor (List ℕ)))
+    → names_of names ≡ keys_of (filter is_alive_at st.store.tubes.entries) → is_in_order (names_of names) ≡ true
+alive_in_order st names are = ap is_in_order (are ∙ names_by_counts st) ∙ tubes_in_order (machine_of st)
+
 -- The record of a tube is its entry.
-pub record_of_entry : (name : List ℕ) (entries : List TubeRecord) → AreInOrder entries → All IsFreshUnlessCounted entries
+record_of_entry : (name : List ℕ) (entries : List TubeRecord) → AreInOrder entries → All IsFreshUnlessCounted entries
     → unwrap_or (find (λ t. is_same_name name t.name) (counted entries)) (fresh_tube name) ≡ unwrap_or
     (find (λ t. is_same_name name t.name) entries) (fresh_tube name)
 record_of_entry name [] order fresh = refl

@@ -1,14 +1,15 @@
 -- The numbers of tubes, as the ends of their pauses have them.
 use Rattle.std.proofs.Common.{List, None, Option, Some, [], ap, arith, false, is_some, map, refl, true, ℕ, ◌∙◌, ◌∷◌, ◌≡◌, rules}
 use Rattle.std.proofs.lemmas.{Bool.cases_Bool, Cmp.nat_list_eq_equiv, Grind.common_steps}
-use Rattle.std.specs.{BTreeMap.insert_entry, Cmp.Lexicographic.slice_cmp, List.AllByRecursion as All}
-use Rattle.std.specs.{Map.{keys_of, lookup, remove_entry}, Ordering.{match_ordering, nat_cmp}}
+use Rattle.std.specs.{BTreeMap.insert_entry, Borrow.Bor, Cmp.Lexicographic.slice_cmp, List.AllByRecursion as All}
+use Rattle.std.specs.{Option.option_map, Prelude.IsSome}
+use Rattle.std.specs.{Map.{lookup, remove_entry}, Ordering.{match_ordering, nat_cmp}}
 use Rattle.std.specs.declared.cmp.Ordering.{Ordering}
 use Rattle.bq_job.proofs.ListLemmas.{all_from_members, all_weaker, list_any_with}
 use Rattle.bq_job.specs.{machine.TubeRecord, reading.TubeName.is_same_name}
-use Rattle.bq_jobs.specs.{Names.number_in, Numbering.{IsPaired, name_of}, Table.Tabled}
+use Rattle.bq_jobs.specs.{Names.number_in, Numbering.name_of, Table.Tabled}
 use Rattle.bq_state.proofs.{NamedLemmas.{have_numbers, ties}, TubeLemmas.{same_itself, same_name}}
-use Rattle.bq_state.specs.{PauseEnds.{AreTold, as_number, is_end_in, number_at}, TubesSeen.{EntrySeen, is_named_at, record_at}}
+use Rattle.bq_state.specs.{PauseEnds.{AreApart, as_number, is_end_in, number_at}, TubesSeen.{EntrySeen, is_named_at, record_at}}
 use Rattle.bq_state.specs.declared.tubes.pauses.PauseEnd.{PauseEnd}
 
 -- another tube keeps its number if this one is removed or added
@@ -41,10 +42,18 @@ module _ (name : List ℕ) (n : ℕ) where
   number_given [] = grind (arith, ties name name, same_itself name)
   number_given (p ∷ ns) = grind (arith, ties, same_itself, number_given ns)
 
+-- This tube has the same number as the one with this name only if it is that one.
+abbrev pub IsTold : List (List ℕ × ℕ) → List ℕ → TubeRecord → Type 0
+IsTold numbers name t = is_same_name (number_at name numbers) (number_at t.name numbers) ≡ is_same_name name t.name
+
+-- The tubes have numbers of their own.
+abbrev pub AreTold : Tabled EntrySeen → Type 0
+AreTold kept = (name : List ℕ) → All (IsTold kept.tubes.numbers name) (map record_at kept.entries)
+
 -- the numbers of the tubes of a table
-module _ (kept : Tabled EntrySeen) (paired : IsPaired kept.tubes) (keys : keys_of kept.entries ≡ keys_of kept.tubes.numbers) where
+module _ (kept : Tabled EntrySeen) (apart : AreApart kept) where
   has_name : (name : List ℕ) (n : ℕ) → lookup (is_named_at name) kept.tubes.numbers ≡ Some n → name_of n kept.tubes ≡ Some name
-  has_name name n found = paired.there name n found
+  has_name name n found = apart.paired.there name n found
 
   found_alike : (a b : List ℕ) → is_same_name a b ≡ true → lookup (is_named_at a) kept.tubes.numbers
       ≡ lookup (is_named_at b) kept.tubes.numbers
@@ -60,7 +69,7 @@ module _ (kept : Tabled EntrySeen) (paired : IsPaired kept.tubes) (keys : keys_o
 
   all_numbered : All (λ t. is_some (lookup (is_named_at t.name) kept.tubes.numbers) ≡ true) (map record_at kept.entries)
   all_numbered = all_from_members _ (map record_at kept.entries) (λ t here.
-      have_numbers kept.entries kept.tubes.numbers keys t.name
+      have_numbers kept.entries kept.tubes.numbers apart.keys t.name
       ∙ list_any_with (λ (u : TubeRecord). is_same_name t.name u.name) (map record_at kept.entries) t here (same_itself t.name))
 
   -- Each tube has a number of its own.
@@ -76,9 +85,9 @@ module _ (kept : Tabled EntrySeen) (paired : IsPaired kept.tubes) (keys : keys_o
   end_there e (t ∷ ts) all held = grind (arith, same_name, end_there e ts all.1)
 
   -- The number of an end is that of a tube,
-  pub end_numbered : (e : PauseEnd) → is_end_in kept.tubes.numbers e (map record_at kept.entries) ≡ true
-      → is_some (name_of (number_in e.number) kept.tubes) ≡ true
-  end_numbered e held = (end_there e (map record_at kept.entries) all_numbered held).0
+  pub end_numbered : (e : PauseEnd) (r : Option (Bor (List ℕ))) → is_end_in kept.tubes.numbers e (map record_at kept.entries) ≡ true
+      → option_map (λ name. name.now) r ≡ name_of (number_in e.number) kept.tubes → IsSome r
+  end_numbered e r held named = grind (arith, common_steps, end_there e (map record_at kept.entries) all_numbered held)
 
   -- whose name is found by it.
   pub number_is : (e : PauseEnd) (name : List ℕ) → is_end_in kept.tubes.numbers e (map record_at kept.entries) ≡ true

@@ -9,7 +9,7 @@ use Rattle.bq_job.specs.machine.{SeatRecord, empty_seat, is_waiting, numbers, se
 use Rattle.bq_state.proofs.{ClientLemmas.{all_others, heads, others, others_left}, PartsLemmas.{all_read, changed_there, number_kept}}
 use Rattle.bq_state.{proofs.PartsLemmas.numbered_after, specs.SeatChanges.{AreNumbered, seat_changed, seat_changed_at}}
 use Rattle.bq_state.specs.WaitingList.{AreInTurn, IsRising, WaitingList, is_none_or_before, is_waiter_before, placed, removed, waiters_of}
-use Rattle.bq_state.specs.{WaitingList.{once_joined, once_left}, declared.seats.SeatChange.SeatChange}
+use Rattle.bq_state.specs.{WaitingList.{once_joined, once_left}, declared.{core_parts.CoreParts.CoreParts, seats.SeatChange.SeatChange}}
 
 one_more : (k : ℕ) → 1 + k ≡ suc k
 one_more k = omega arith
@@ -128,6 +128,10 @@ count_of_waiters (s ∷ seats) = grind (arith, common_steps, placed_length, coun
 pub waiters_in_turn : (waiters : List (ℕ × ℕ)) (waiting : WaitingList) (seats : List SeatRecord) → waiters ≡ waiting.waiters
     → AreInTurn waiting seats → length waiters ≡ count_by is_waiting seats
 waiters_in_turn waiters waiting seats same q = ap length (same ∙ q.waiters) ∙ count_of_waiters seats
+
+pub many_wait : (st : CoreParts) (waiters : List (ℕ × ℕ)) (n : ℕ) → waiters ≡ st.waiting.waiters → n ≡ length waiters
+    → n ≡ count_by is_waiting st.seats.items
+many_wait st waiters n same is = is ∙ waiters_in_turn waiters st.waiting st.seats.items same st.sound.waiting
 
 -- and so at most as many as seats
 pub waiters_within : (seats : List SeatRecord) → length (waiters_of seats) ≤ length seats

@@ -5,9 +5,8 @@ use Rattle.bq_jobs.specs.declared.numbered_jobs.{JobMove.JobMove, JobRemoval.Job
 use Rattle.bq_state.specs.{FirstTimeouts.{AreTimeouts, timeout_after}, Leaving.gone_of, MaybeGoneTubes.{AreAlive, with_existing, with_gone}}
 use Rattle.bq_state.specs.{Offers.is_waited_at, SeatStates.seat_passes, Tallies.{count_with, count_without, tally_left, tally_moved}}
 use Rattle.bq_state.specs.{Tallies.{tally_of, tally_with}, TubeEntries.counted, TubesSeen.TubesSeen, WaitingList.WaitingList}
-use Rattle.bq_state.specs.{WantedJobs.{AreKnown, wanted_after_seat, wanted_after_tube, with_wanted}, Warnings.{AreWarned, warned_by_seat}}
+use Rattle.bq_state.specs.{WantedJobs.{AreKnown, wanted_after_seat, with_wanted}, Warnings.{AreWarned, warned_by_seat}}
 use Rattle.bq_state.specs.{Warnings.with_holder_of, declared.{known.Known.Known, seats.SeatChange.SeatChange, tubes.entry.Roles.Roles}}
-use Rattle.bq_state.specs.declared.tubes.entry.TubeChange.{TubeChange}
 use Rattle.bq_state.specs.declared.known.first_timeout.FirstTimeout.TheVariants as ends
 use Rattle.bq_state.specs.declared.known.maybe_gone.MaybeGone.TheVariants as gone_tubes
 use Rattle.bq_state.specs.declared.known.wanted.Wanted.TheVariants as wanted_jobs
@@ -82,11 +81,3 @@ with_joined o number what k = record k {
   wanted = wanted_after_seat number what k.wanted;
   warns = warned_by_seat number what k.warns;
 }
-
--- after a tube was changed
-abbrev pub with_tube_changed : List ℕ → TubeChange → Known → Known
-with_tube_changed name what k = record k { wanted = wanted_after_tube name what k.wanted }
-
--- after the entries of tubes that no longer exist were dropped
-abbrev pub with_forgotten : Known → Known
-with_forgotten k = record k { maybe_gone = gone_tubes.Nothing }

@@ -1,11 +1,11 @@
 -- The ordered ends of the pauses of tubes. An end has the number of its tube.
 use Rattle.std.specs.{BTreeMap.{insert_entry, is_at}, Cmp.{IsTotalOrder, nat_cmp_total, on_total, then_total}}
-use Rattle.std.specs.{List.{AllByRecursion, list_any}, Map.{lookup, remove_entry}, Ordering.{nat_cmp, on}}
+use Rattle.std.specs.{List.list_any, Map.{keys_of, lookup, remove_entry}, Ordering.{nat_cmp, on}}
 use Rattle.std.specs.{Ordering.then_cmp, Prelude.{Bool, List, None, Option, Some, [], count_by, false, find, if◌then◌else◌, is_some}}
 use Rattle.std.specs.{Prelude.{length, map, nat_le, ℕ, ◌&&◌, ◌+◌, ◌==◌, ◌∷◌, ◌≡◌, ◌≤◌}, declared.cmp.Ordering.Ordering}
 use Rattle.bq_index.specs.Catalog.{CatalogSeen}
 use Rattle.bq_job.specs.{machine.{Pause, TubeRecord}, reading.TubeName.is_same_name}
-use Rattle.bq_jobs.specs.{Names.{name_cmp, name_total}, Table.Tabled}
+use Rattle.bq_jobs.specs.{Names.{name_cmp, name_total}, Numbering.IsPaired, Table.Tabled}
 use Rattle.bq_state.specs.{TubesSeen.{EntrySeen, Named, is_named_at, record_at}, declared.tubes.pauses.PauseEnd.PauseEnd}
 
 -- by moment, then by number
@@ -90,10 +90,7 @@ pub record AreEnds (kept : Tabled EntrySeen) (ends : CatalogSeen PauseEnd (Unit 
   pub counted : length ends.entries ≡ paused_count kept.entries
   pub roomy : length kept.entries ≤ length ends.entries + ends.spare
 
--- This tube has the same number as the one with this name only if it is that one.
-abbrev pub IsTold : List (List ℕ × ℕ) → List ℕ → TubeRecord → Type 0
-IsTold numbers name t = is_same_name (number_at name numbers) (number_at t.name numbers) ≡ is_same_name name t.name
-
--- The tubes have numbers of their own.
-abbrev pub AreTold : Tabled EntrySeen → Type 0
-AreTold kept = (name : List ℕ) → AllByRecursion (IsTold kept.tubes.numbers name) (map record_at kept.entries)
+-- The tubes that have an entry are those that have a number, each one of its own.
+pub record AreApart (kept : Tabled EntrySeen) : Type 0 where
+  pub paired : IsPaired kept.tubes
+  pub keys : keys_of kept.entries ≡ keys_of kept.tubes.numbers

@@ -9,14 +9,11 @@ seat_passes p (Some s) = p s
 
 -- no client is connected there
 abbrev pub is_free : Option SeatRecord → Bool
-is_free None = false
-is_free (Some s) = not s.connected
+is_free = seat_passes (λ s. not s.connected)
 
 abbrev pub is_connected : Option SeatRecord → Bool
-is_connected None = false
-is_connected (Some s) = s.connected
+is_connected = seat_passes (λ s. s.connected)
 
 -- the client there may make a request
 abbrev pub is_asking : Option SeatRecord → Bool
-is_asking None = false
-is_asking (Some s) = s.connected && not (is_waiting s)
+is_asking = seat_passes (λ s. s.connected && not (is_waiting s))

@@ -1,7 +1,7 @@
 -- The tubes that have an entry.
 use Rattle.std.specs.{BTreeMap.{insert_entry, is_at}, Cmp.Lexicographic.slice_cmp, Map.{lookup, remove_entry, set_value}, Ordering.is_gt}
 use Rattle.std.specs.{Ordering.nat_cmp, Prelude.{Bool, List, None, Option, Some, [], false, fold, if◌then◌else◌, is_some, map, not, true}}
-use Rattle.std.specs.Prelude.{ℕ, ◌&&◌, ◌∷◌}
+use Rattle.std.specs.Prelude.{ℕ, ◌&&◌, ◌∷◌, ◌≡◌}
 use Rattle.bq_index.specs.Edited.{edited_if}
 use Rattle.bq_job.specs.{declared.job.Job.Job, machine.{Pause, TubeRecord, default_tube, pause_after_timers, raised}}
 use Rattle.bq_job.specs.reading.TubeName.{is_same_name}
@@ -47,6 +47,10 @@ fresh_entry = record { pause = None; puts = 0; deletes = 0; pauses = 0; tally = 
 -- only the default tube, without jobs and clients
 abbrev pub first_tubes : List (List ℕ × ℕ) → TubesSeen
 first_tubes numbers = record { entries = (default_tube, fresh_entry) ∷ []; numbers = numbers }
+
+-- the change keeps the pause
+abbrev pub KeepsPause : (EntrySeen → EntrySeen) → Type 0
+KeepsPause f = (t : EntrySeen) → (f t).pause ≡ t.pause
 
 -- the entry after this happened to the tube
 abbrev pub entry_after : TubeRecord → EntrySeen → EntrySeen

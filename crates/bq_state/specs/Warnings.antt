@@ -1,8 +1,9 @@
 -- Which clients wait while they hold a job: they get DEADLINE_SOON when its time to run ends soon.
 use Rattle.std.specs.List.{AllByRecursion, list_any}
-use Rattle.std.specs.Prelude.{◌&&◌, ◌==◌, ◌||◌, ◌≡◌, if◌then◌else◌, Bool, List, None, Option, Some, ℕ, false, not, true}
+use Rattle.std.specs.Prelude.{◌&&◌, ◌==◌, ◌||◌, ◌≡◌, if◌then◌else◌, Bool, List, Option, ℕ, false, not, true}
 use Rattle.bq_job.specs.{declared.job.{Job.Job, JobState.JobState}, machine.{SeatRecord, is_held_by, is_waiting, seat_with}}
 use Rattle.bq_job.specs.declared.job.JobState.TheVariants as states
+use Rattle.bq_state.specs.SeatStates.{seat_passes}
 use Rattle.bq_state.specs.declared.known.warns.Warns.{Warns, TheVariants.{Any, Client, Nothing}}
 use Rattle.bq_state.specs.declared.seats.SeatChange.{SeatChange, TheVariants.{Clear, StopWaiting, Wait}}
 
@@ -42,8 +43,7 @@ warned_if_due false warns = Nothing
 
 -- there is a client at the seat, and it waits
 abbrev pub is_waiting_there : Option SeatRecord → Bool
-is_waiting_there None = false
-is_waiting_there (Some s) = is_waiting s
+is_waiting_there = seat_passes is_waiting
 
 -- the holder of a job in this state waits
 abbrev pub has_waiting_holder : JobState → List SeatRecord → Bool

@@ -3,14 +3,14 @@
 ghost use Rattle.std.specs.{List.list_any, Map.lookup, Prelude.{IfOk, None, OnErr, [], false, fold, if◌then◌else◌, is_some, length, map}};
 ghost use Rattle.std.specs.Prelude.{nat_le, nat_lt, true, unwrap_or, ◌&&◌, ◌+◌, ◌<◌, ◌≡◌, ◌≤◌};
 ghost use Rattle.bq_index.specs.Removed.{passing};
-ghost use Rattle.bq_job.specs.{beside.NameOrder.is_in_order, machine.Changes.{is_held_by, is_ready_state, is_waiting, job_with, seat_with}};
+ghost use Rattle.bq_job.specs.machine.Changes.{is_held_by, is_ready_state, is_waiting, job_with, seat_with};
 ghost use Rattle.bq_job.specs.machine.{Changes.{with_job, with_seat, without_wait}, Dispatch.next_job, JobCommands.{last_id, waiting_from, with_put}};
 ghost use Rattle.bq_job.specs.machine.{Limits.{grown, raised}, Machine.{empty_seat, new_machine, numbers}, Timers.at_moment, TubeOrder.tubes};
 ghost use Rattle.bq_job.specs.machine.Tubes.{forgetting, watches, with_tube};
 ghost use Rattle.bq_jobs.specs.{JobsSeen.{ComparesAtMost, with_added}, Names.number_in, Numbering.HasNumber, Searching.Asks};
 ghost use Rattle.bq_state.specs.{CoreParts.{AtSeat, Watches, fields, machine_of, with_pauses_ended}, Crowds.may_wait, Dues.with_warning_due};
 ghost use Rattle.bq_state.specs.{JobChanges.{changed, is_passed_by, once_deleted, passes}, TubesSeen.{is_named_at, records}};
-ghost use Rattle.bq_state.specs.{Store.first_store, Names.names_of, Offers.is_waited_at, SeatChanges.{fewer_watched, has_tube_of, more_watched, seat_changed}};
+ghost use Rattle.bq_state.specs.{Store.first_store, Offers.is_waited_at, SeatChanges.{fewer_watched, has_tube_of, more_watched, seat_changed}};
 ghost use Rattle.bq_state.specs.{SeatChanges.watches_other, TubeEntries.{has_entry, is_tube_of, tube_changed}, Warnings.may_hold};
 ghost use Rattle.bq_state.specs.Warnings.{warned_if_due, with_holder};
 ghost use Rattle.bq_state.specs.{HandOuts.{CountsIf, CountsMove, HandsOutTo, HasNumberIf, body_in}, SeatChanges.AreNumbered};
@@ -20,7 +20,6 @@ ghost use Rattle.bq_state.specs.declared.seats.SeatChange.TheVariants as seat_ch
 use crate::core_parts::CoreParts;
 use crate::job_store::{JobChange, JobTest};
 use crate::known::{FirstTimeout, Known, MaybeGone, Wanted, is_over};
-use crate::name_lists::Names;
 use crate::seats::{SeatChange, SeatRecord};
 use crate::store::Store;
 use crate::tubes::{AddOrRemove, TubeChange};
@@ -33,19 +32,6 @@ use std::alloc::Global;
 
 // The last id that is given out. Its put makes the core drain, so the next id always fits.
 const LAST_ID: JobId = u64::MAX - 1;
-
-/// Makes room for a job if there is none. Returns `NoMemory` if an allocation fails; then nothing
-/// has changed.
-pub fn make_room(state: &mut CoreParts, alloc: Global) -> Result<(), NoMemory>
-    ensures room { IfOk result (λ _. 0 < state.new.store.jobs.room) }
-    ensures refused { OnErr result (state.old.store.jobs.room ≡ 0) }
-    ensures after { machine_of state.new ≡ machine_of state.old }
-    ensures seats { state.new.seats ≡ state.old.seats }
-    ensures tubes { state.new.store.tubes ≡ state.old.store.tubes }
-    ensures asks { Asks 0 state.old.store.jobs state.new.store.jobs }
-{
-    state.store.reserve_one(alloc)
-}
 
 // Returns true if the state is ready and the counts show a client that waits for jobs of the tube,
 // which is registered under this number.
@@ -103,7 +89,7 @@ pub fn delete(state: &mut CoreParts, id: JobId, test: JobTest) -> bool
     };
     let (number, removed) = report;
     state.store.let_room_go(); // Of a peak in the past.
-    let has_seats = state.store.count_removal(&removed, number);
+    let has_seats = state.store.edit_entry(&removed.tube, number, &removed);
     let name = state.store.name_of(&removed.tube, number);
     state.known.count_removal(&removed, name, number, has_seats);
     true
@@ -203,7 +189,7 @@ fn count_move(
     let is_wanted = is_wanted(waiting, store, moved.to.state, name, number);
     let waits = seats::holder_waits(seats, moved.to.state);
     known.move_job(moved, name, number, is_wanted, waits);
-    store.move_job(moved, number);
+    store.edit_entry(&moved.tube, number, moved);
 }
 
 /// Changes the seat with this number. If it starts to use a tube, that tube already has an entry.
@@ -312,6 +298,7 @@ pub fn settle_warnings(state: &mut CoreParts, is_due: bool)
 }
 
 /// Ends the pauses that are over. If none is, no tube is checked.
+#[tactic(auto, using(crate::proofs::KnowledgeLemmas::pauses_end))]
 pub fn end_pauses(state: &mut CoreParts)
     ensures after { machine_of state.new ≡ with_pauses_ended (machine_of state.old) }
     ensures jobs { state.new.store.jobs ≡ state.old.store.jobs }
@@ -331,7 +318,7 @@ pub fn change_tube(state: &mut CoreParts, tube: &TubeName, hint: TubeNumber, wha
     ensures jobs { state.new.store.jobs ≡ state.old.store.jobs }
 {
     state.store.change_tube(tube, hint, what);
-    state.known.change_tube(tube, hint, what);
+    state.known.wanted.change_tube(tube, hint, what);
 }
 
 /// Ensures that a tube has an entry and a number, and returns the number. The allocations for that
@@ -442,14 +429,6 @@ pub fn tube_count(state: &CoreParts) -> u64
     }
 }
 
-/// Returns the names of the tubes that exist, in byte order. Their memory is allocated first.
-pub fn tube_names<'a>(state: &'a CoreParts, alloc: Global) -> Result<Names<'a>, NoMemory>
-    ensures names { IfOk result (λ names. names_of names.items ≡ tubes (machine_of state.now)) }
-    ensures ordered { IfOk result (λ names. is_in_order (names_of names.items) ≡ true) }
-{
-    state.store.names_alive(alloc)
-}
-
 /// Drops the entries and the numbers of tubes that no longer exist. Only tubes that may have gone
 /// are checked. After most commands there are none, and it returns at once.
 #[inline(always)]
@@ -470,7 +449,7 @@ fn forget_gone(state: &mut CoreParts)
     ensures jobs { state.new.store.jobs ≡ record state.old.store.jobs { tubes = state.new.store.jobs.tubes } }
 {
     state.store.forget_gone(&state.known.maybe_gone);
-    state.known.forget_tubes();
+    state.known.maybe_gone = MaybeGone::Nothing;
 }
 
 /// Counts a connection that was opened.

@@ -10,8 +10,8 @@ use crate::tubes::TubeEntry;
 use crate::waiting::WaitingList;
 use crate::{job_store, seats};
 use bq_core_api::Config;
-use bq_job::{Body, JobId, Moment, NoMemory, Seat, TubeName};
-use bq_jobs::{JobList, Tube, TubeNumber};
+use bq_job::{JobId, Moment, Seat, TubeName};
+use bq_jobs::TubeNumber;
 use std::alloc::Global;
 
 /// The state of a core. Its invariants are stated here, once: code that builds or changes a state
@@ -47,12 +47,10 @@ pub struct CoreParts {
 }
 
 impl CoreParts {
-    ghost use Rattle.std.specs.{List.list_any, Option.option_map, Prelude.{IfOk, IfSome, count_by, is_some, unwrap_or, ◌&&◌}};
+    ghost use Rattle.std.specs.{List.list_any, Option.option_map, Prelude.{count_by, unwrap_or, ◌&&◌}};
     ghost use Rattle.bq_job.specs.machine.{Changes.{is_held_by, is_ready, is_waiting, job_with, seat_with}, JobStates.{is_delayed, is_reserved}};
-    ghost use Rattle.bq_jobs.specs.{Ranks.first_in, Seen.IsBodyOf};
     ghost use Rattle.bq_state.specs.{CoreParts.{entry_in, machine_of}, JobChanges.{is_passed_by, passes, ttr_held_by}};
-    ghost use Rattle.bq_state.specs.{Keeping.OnlySearches, SeatStates.{is_asking, is_connected, is_free}};
-    ghost use Rattle.bq_state.specs.TubesSeen.{fresh_entry};
+    ghost use Rattle.bq_state.specs.{Keeping.OnlySearches, SeatStates.{is_asking, is_connected, is_free}, TubesSeen.fresh_entry};
 
     /// Returns true if there is a seat with this number and no client is connected to it.
     pub fn is_free(&self, seat: Seat) -> bool
@@ -90,7 +88,10 @@ impl CoreParts {
         ensures has { result ≡ is_passed_by (passes test) (job_with id (machine_of self.old).jobs) }
         ensures kept { OnlySearches 1 self.old self.new }
     {
-        job_store::has(&mut self.store, id, test)
+        match self.store.get(id) {
+            None => false,
+            Some(job) => job_store::passes(job, test),
+        }
     }
 
     /// Returns how long the client at the seat may hold the job with this id, in seconds, if it
@@ -100,29 +101,14 @@ impl CoreParts {
         ensures ttr { result ≡ ttr_held_by seat (job_with id (machine_of self.old).jobs) }
         ensures kept { OnlySearches 1 self.old self.new }
     {
-        job_store::time_to_run(&mut self.store, id, seat)
-    }
-
-    /// Returns another reference to the body of the job with this id, or `NoMemory` if it is
-    /// refused; None if there is no such job.
-    #[tactic(auto, using(crate::proofs::PartsLemmas::compared_sound))]
-    pub fn share(&mut self, id: JobId) -> Option<Result<Body, NoMemory>>
-        ensures none { is_some result ≡ is_some (job_with id (machine_of self.old).jobs) }
-        ensures share { IfSome result
-            (λ shared. IfOk shared (IsBodyOf (job_with id (machine_of self.old).jobs))) }
-        ensures kept { OnlySearches 1 self.old self.new }
-    {
-        self.store.share_body(id)
-    }
-
-    /// Returns the id of the first job in this list of this tube.
-    #[tactic(auto, using(crate::proofs::PartsLemmas::compared_sound))]
-    pub fn first(&mut self, list: JobList, tube: &Tube) -> Option<JobId>
-        ensures id { result
-            ≡ option_map (λ j. j.id) (first_in list tube.now self.old.store.jobs.jobs) }
-        ensures kept { OnlySearches 1 self.old self.new }
-    {
-        job_store::first(&mut self.store, list, tube)
+        match self.store.get(id) {
+            None => None,
+            Some(job) => if job_store::is_held_by(job, seat) {
+                Some(job.ttr())
+            } else {
+                None
+            },
+        }
     }
 
     /// Returns true if some job is ready.
@@ -163,6 +149,7 @@ impl CoreParts {
     }
 
     /// Returns how many clients wait.
+    #[tactic(auto, using(crate::proofs::WaitingLemmas::many_wait))]
     pub fn waiter_count(&self) -> u64
         ensures { result ≡ count_by is_waiting self.now.seats.items }
     {

@@ -1,10 +1,10 @@
 //! The jobs: changing one, and testing one for a command.
 ghost use Rattle.std.specs.{Option.option_map, Prelude.{not, ◌||◌, ◌≡◌}};
-ghost use Rattle.bq_job.specs.machine.{Changes.{is_held_by as held_by, job_with}, Dispatch.reserved_by, JobCommands.buried};
+ghost use Rattle.bq_job.specs.machine.{Changes.is_held_by as held_by, Dispatch.reserved_by, JobCommands.buried};
 ghost use Rattle.bq_job.specs.machine.{JobCommands.{delayed_by as delayed_for, kicked, released}, JobStates.{is_buried, is_delayed}};
 ghost use Rattle.bq_job.specs.machine.{JobStates.is_reserved, Limits.later as later_by, Timers.job_after_timers};
 ghost use Rattle.bq_jobs.specs.Ranks.{first_in};
-ghost use Rattle.bq_state.specs.{Keeping.SearchesStore, JobChanges.{changed, is_passed_by, passes, ttr_held_by}};
+ghost use Rattle.bq_state.specs.{Keeping.SearchesStore, JobChanges.{changed, passes}};
 
 use crate::store::Store;
 use bq_job::{JobId, JobState, Moment, Pri, Seat};
@@ -173,7 +173,8 @@ pub enum JobTest {
     Kickable,
 }
 
-fn passes(job: &PackedJob, test: JobTest) -> bool
+/// Returns true if the job passes the test.
+pub(crate) fn passes(job: &PackedJob, test: JobTest) -> bool
     ensures { result ≡ passes test job.now }
 {
     match test {
@@ -189,32 +190,5 @@ impl PackedTest for JobTest {
 
     fn passes(&self, job: &PackedJob) -> bool {
         passes(job, *self)
-    }
-}
-
-/// Returns true if there is a job with this id and it passes the test.
-pub(crate) fn has(store: &mut Store, id: JobId, test: JobTest) -> bool
-    ensures has { result ≡ is_passed_by (passes test) (job_with id store.old.jobs.jobs) }
-    ensures kept { SearchesStore 1 store.old store.new }
-{
-    match store.get(id) {
-        None => false,
-        Some(job) => passes(job, test),
-    }
-}
-
-/// Returns how long the client at the seat may hold the job with this id, in seconds, if it holds
-/// it.
-pub(crate) fn time_to_run(store: &mut Store, id: JobId, seat: Seat) -> Option<u32>
-    ensures ttr { result ≡ ttr_held_by seat (job_with id store.old.jobs.jobs) }
-    ensures kept { SearchesStore 1 store.old store.new }
-{
-    match store.get(id) {
-        None => None,
-        Some(job) => if is_held_by(job, seat) {
-            Some(job.ttr())
-        } else {
-            None
-        },
     }
 }

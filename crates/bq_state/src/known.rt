@@ -1,12 +1,12 @@
 //! What is known of the jobs, the seats and the tubes without a search: how many there are, and
 //! where something may be found, so that only that place is searched.
 ghost use Rattle.std.specs.{Option.option_copied, Prelude.◌≡◌};
-ghost use Rattle.bq_state.specs.{Dues.{earlier_of_both, is_end_over}, Knowledge.{nothing_known, with_forgotten, with_job, with_joined}};
-ghost use Rattle.bq_state.specs.{Knowledge.{with_left, with_moved, with_removal, with_tube_changed}, SeatStates.seat_passes};
+ghost use Rattle.bq_state.specs.{Dues.{earlier_of_both, is_end_over}, Knowledge.{nothing_known, with_job, with_joined}};
+ghost use Rattle.bq_state.specs.{Knowledge.{with_left, with_moved, with_removal}, SeatStates.seat_passes};
 
 use crate::seats::{SeatChange, SeatRecord};
 use crate::store::Store;
-use crate::tubes::{Roles, TubeChange};
+use crate::tubes::Roles;
 use bq_job::{Job, Moment, Seat, TubeName};
 use bq_jobs::{JobMove, JobRemoval, PriAndState, TubeNumber};
 pub use first_timeout::{FirstTimeout, first_to_give_up};
@@ -143,20 +143,6 @@ impl Known {
         if is_connected(client) {
             self.connected = self.connected.saturating_add(1);
         }
-    }
-
-    /// The entry of a tube was changed.
-    pub(crate) fn change_tube(&mut self, name: &TubeName, hint: TubeNumber, what: TubeChange)
-        ensures { self.new ≡ with_tube_changed name.now what self.old }
-    {
-        self.wanted.change_tube(name, hint, what);
-    }
-
-    /// The entries of tubes that no longer exist were dropped.
-    pub(crate) fn forget_tubes(&mut self)
-        ensures { self.new ≡ with_forgotten self.old }
-    {
-        self.maybe_gone = MaybeGone::Nothing;
     }
 }
 

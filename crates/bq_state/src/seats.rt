@@ -1,9 +1,9 @@
 //! The seats: what is known of each and of its client, and how that changes.
 ghost use Rattle.std.specs.{List.{list_any, position}, Option.{option_copied, option_map}, Prelude.{IfOk, OnErr, length, map, true, ◌<◌}};
 ghost use Rattle.std.specs.Prelude.{◌≡◌};
-ghost use Rattle.bq_job.specs.{beside.NextDue.{dues_of_wait, earliest}, machine.{Asked.with_end, Changes.{first_of, is_waiting}}};
-ghost use Rattle.bq_job.specs.machine.{Changes.{seat_with, without_wait}, Dispatch.{is_wait_before, ticket_of}, JobCommands.waiting_from};
-ghost use Rattle.bq_job.specs.machine.{Machine.{empty_seat, numbers}, TubeCommands.{using, watching}, Tubes.watches, Waits.is_timed_out_at};
+ghost use Rattle.bq_job.specs.{beside.NextDue.{dues_of_wait, earliest}, machine.Changes.{first_of, is_waiting}};
+ghost use Rattle.bq_job.specs.machine.{Changes.seat_with, Dispatch.{is_wait_before, ticket_of}};
+ghost use Rattle.bq_job.specs.machine.{Machine.{empty_seat, numbers}, TubeCommands.watching, Tubes.watches, Waits.is_timed_out_at};
 ghost use Rattle.bq_state.specs.{EndingWaits.{has_waited, waiter_of}, FirstTimeouts.is_gone_in_wait, Offers.waits_at};
 ghost use Rattle.bq_state.specs.SeatChanges.{AreNumbered, AtPlace, IsSetAt, fewer_watched, more_watched, seat_changed, seat_changed_at};
 ghost use Rattle.bq_state.specs.{SeatChanges.watches_other, SeatWaiters.AreWaitersOf, WaitingList.passes_at, Warnings.has_waiting_holder};
@@ -38,12 +38,20 @@ fn change(client: &mut SeatRecord, what: &SeatChange)
     ensures { client.new ≡ seat_changed what.now client.old }
 {
     match what {
-        SeatChange::StopWaiting => client.stop_waiting(),
-        SeatChange::Wait(ticket, until) => client.wait_from(*ticket, *until),
-        SeatChange::Connect => client.connect(),
+        SeatChange::StopWaiting => client.wait = None,
+        SeatChange::Wait(ticket, until) => {
+            client.wait = Some(Waiting {
+                ticket: *ticket,
+                until: *until,
+            });
+        }
+        SeatChange::Connect => {
+            client.clear();
+            client.connected = true;
+        }
         SeatChange::Clear => client.clear(),
-        SeatChange::End => client.end(),
-        SeatChange::Use(tube) => client.use_tube(tube),
+        SeatChange::End => client.ended = true,
+        SeatChange::Use(tube) => client.used = tube.copy(),
     }
 }
 
@@ -126,20 +134,13 @@ fn is_waiting_at(seats: &[SeatRecord], seat: Seat) -> bool
     }
 }
 
-// Returns true if the client waits for jobs of this tube.
-fn waits_at(client: &SeatRecord, tube: &TubeName) -> bool
-    ensures { result ≡ waits_at tube.now client.now }
-{
-    client.is_waiting() && client.watches(tube)
-}
-
 // Returns true if this waiter waits for jobs of this tube.
 fn waits_there(seats: &[SeatRecord], waiter: Waiter, tube: &TubeName) -> bool
     ensures { result ≡ passes_at (waits_at tube.now) seats.now waiter }
 {
     match seats.get(usize::from(waiter.1)) {
         None => false,
-        Some(client) => waits_at(client, tube),
+        Some(client) => client.is_waiting() && client.watches(tube),
     }
 }
 
@@ -166,18 +167,13 @@ pub fn first_waiting(seats: &[SeatRecord], waiters: &[Waiter], tube: &TubeName) 
     }
 }
 
-fn has_waited(client: &SeatRecord, moment: Moment) -> bool
-    ensures { result ≡ has_waited moment client.now }
-{
-    client.is_waiting() && client.is_timed_out(moment)
-}
-
+// Returns true if the wait of this waiter has ended.
 fn has_waited_there(seats: &[SeatRecord], waiter: Waiter, moment: Moment) -> bool
     ensures { result ≡ passes_at (has_waited moment) seats.now waiter }
 {
     match seats.get(usize::from(waiter.1)) {
         None => false,
-        Some(client) => has_waited(client, moment),
+        Some(client) => client.is_waiting() && client.is_timed_out(moment),
     }
 }
 
@@ -200,18 +196,13 @@ pub fn is_some_wait_over(seats: &[SeatRecord], waiters: &[Waiter], moment: Momen
     is_one_over(seats, waiters, moment)
 }
 
-fn is_gone_in_wait(client: &SeatRecord) -> bool
-    ensures { result ≡ is_gone_in_wait client.now }
-{
-    client.is_waiting() && client.has_ended()
-}
-
+// Returns true if the client of this waiter sends no more.
 fn is_gone_there(seats: &[SeatRecord], waiter: Waiter) -> bool
     ensures { result ≡ passes_at is_gone_in_wait seats.now waiter }
 {
     match seats.get(usize::from(waiter.1)) {
         None => false,
-        Some(client) => is_gone_in_wait(client),
+        Some(client) => client.is_waiting() && client.has_ended(),
     }
 }
 
@@ -408,31 +399,6 @@ impl SeatRecord {
         is_past || self.ended
     }
 
-    pub(crate) fn stop_waiting(&mut self)
-        ensures { self.new ≡ without_wait self.old }
-    {
-        self.wait = None;
-    }
-
-    pub(crate) fn wait_from(&mut self, ticket: u64, until: Option<Moment>)
-        ensures { self.new ≡ waiting_from ticket until self.old }
-    {
-        self.wait = Some(Waiting { ticket, until });
-    }
-
-    pub(crate) fn connect(&mut self)
-        ensures { self.new ≡ record (empty_seat self.old.number) { connected = true } }
-    {
-        self.clear();
-        self.connected = true;
-    }
-
-    pub(crate) fn use_tube(&mut self, tube: &Tube)
-        ensures { self.new ≡ using tube.now self.old }
-    {
-        self.used = tube.copy();
-    }
-
     /// The client watches one more tube.
     pub(crate) fn watch(&mut self, alloc: Global, tube: &Tube) -> Result<(), NoMemory>
         ensures watched { IfOk result
@@ -450,7 +416,7 @@ impl SeatRecord {
         self.watched.remove(name);
     }
 
-    pub(crate) fn clear(&mut self)
+    fn clear(&mut self)
         ensures { self.new ≡ empty_seat self.old.number }
     {
         self.used = numbered_default();
@@ -458,11 +424,5 @@ impl SeatRecord {
         self.wait = None;
         self.ended = false;
         self.connected = false;
-    }
-
-    pub(crate) fn end(&mut self)
-        ensures { self.new ≡ with_end self.old }
-    {
-        self.ended = true;
     }
 }

@@ -114,7 +114,7 @@ impl Store {
 
     /// Makes room for a job, if there is none. What was allocated before a failure is kept for the
     /// next call.
-    pub(crate) fn reserve_one(&mut self, alloc: Global) -> Result<(), NoMemory>
+    pub fn reserve_one(&mut self, alloc: Global) -> Result<(), NoMemory>
         ensures room { MakesRoom result self.old.jobs self.new.jobs }
         ensures tubes { self.new.tubes ≡ self.old.tubes }
     {
@@ -147,7 +147,8 @@ impl Store {
         ensures comparisons { ComparesAtMost 4 self.old.jobs self.new.jobs }
         ensures tubes { self.new.tubes ≡ with_entry job.tube (entry_with job) self.old.tubes }
     {
-        self.count_put(&job, number);
+        let name = GhostName::of(&job.tube);
+        self.edit_entry(&name, number, &job);
         self.jobs.add(job.id, PackedJob::of(job, number));
     }
 

@@ -1,19 +1,19 @@
 //! The tubes of a store: what is kept of each that exists.
 ghost use Rattle.std.specs.{List.list_any, Map.{keys_of, lookup}, Option.option_map, Prelude.IfOk};
-ghost use Rattle.std.specs.Prelude.{false, filter, if◌then◌else◌, is_ok, is_some, length, ◌&&◌, ◌≡◌};
+ghost use Rattle.std.specs.Prelude.{Some, false, filter, if◌then◌else◌, is_ok, is_some, length, ◌&&◌, ◌≡◌};
 ghost use Rattle.bq_job.specs.reading.TubeName.{is_same_name};
 ghost use Rattle.bq_jobs.specs.{Names.number_in, Numbering.{Extends, HasNumber}};
-ghost use Rattle.bq_state.specs.{Counting.{AreTallied, forgotten}, Crowds.has_seats, Dues.first_pause_end, Leaving.exists_in};
-ghost use Rattle.bq_state.specs.{Names.names_of, TubeEntries.has_entry};
-ghost use Rattle.bq_state.specs.TubesSeen.{entry_at, entry_changed, entry_moved, entry_recounted, entry_with, entry_without};
+ghost use Rattle.bq_state.specs.{Counting.{AreTallied, forgotten}, Dues.first_pause_end, Leaving.exists_in};
+ghost use Rattle.bq_state.specs.{Names.names_of, TubeEntries.has_entry, TubesSeen.{KeepsPause, entry_at, entry_changed, entry_recounted}};
 ghost use Rattle.bq_state.specs.TubesSeen.{is_alive_at, is_named_at, records, tubes_with, with_ended, with_entry};
 
 use crate::known::MaybeGone;
 use crate::name_lists::Names;
 use crate::store::Store;
 use crate::watch_list::default_tube;
-use bq_job::{Job, Moment, NoMemory, TubeName};
-use bq_jobs::{GhostName, JobMove, JobRemoval, TubeNumber};
+use bq_index::Edit;
+use bq_job::{Moment, NoMemory, TubeName};
+use bq_jobs::{GhostName, TubeNumber};
 pub use entry::{Crowd, Pausing, TubeChange, TubeEntry};
 pub(crate) use entry::{AddOrRemove, Roles, RolesChange};
 pub(crate) use pauses::PauseEnds;
@@ -69,6 +69,7 @@ impl Store {
     }
 
     /// Changes the tube with this name.
+    #[tactic(auto, using(crate::proofs::NamedLemmas::store_edited))]
     pub(crate) fn change_tube(&mut self, name: &TubeName, hint: TubeNumber, what: TubeChange)
         ensures { self.new ≡ record self.old { tubes = with_entry name.now (entry_changed what) self.old.tubes } }
     {
@@ -100,38 +101,29 @@ impl Store {
         }
         match self.table.get(name, hint) {
             None => false,
-            Some(entry) => entry.is_paused(),
+            Some(entry) => entry.pause().is_some(),
         }
     }
 
-    /// Counts a new job in its tube, which has this number.
-    pub(crate) fn count_put(&mut self, job: &Job, number: TubeNumber)
-        requires { HasNumber job.now.tube number self.old.tubes.numbers }
-        ensures { self.new ≡ record self.old { tubes = with_entry job.now.tube (entry_with job.now) self.old.tubes } }
+    /// Edits the entry of a tube that is registered under this number, and returns what the edit
+    /// returns. The edit keeps the tube's pause.
+    #[tactic(auto, using(crate::proofs::NamedLemmas::store_edited))]
+    pub(crate) fn edit_entry<T: Drop, E: Edit<TubeEntry, T>>(
+        &mut self,
+        name: &GhostName,
+        number: TubeNumber,
+        edit: &E,
+    ) -> T
+        requires number { HasNumber name.now number self.old.tubes.numbers }
+        requires pause { KeepsPause (E.edited edit.now) }
+        ensures after { self.new ≡ record self.old { tubes = with_entry name.now (E.edited edit.now) self.old.tubes } }
+        ensures told { Some result ≡ option_map (E.told edit.now) (entry_at name.now self.old.tubes) }
     {
-        let name = GhostName::of(&job.tube);
-        self.table.edit_numbered(&name, number, job);
-    }
-
-    /// Stops counting the job of this report in its tube, which has this number, and counts its
-    /// deletion. Returns whether a client uses or watches the tube.
-    pub(crate) fn count_removal(&mut self, removed: &JobRemoval, number: TubeNumber) -> bool
-        requires { HasNumber removed.now.tube number self.old.tubes.numbers }
-        ensures after { self.new ≡ record self.old { tubes = with_entry removed.now.tube (entry_without removed.now) self.old.tubes } }
-        ensures seats { result ≡ has_seats (crowd_by (entry_at removed.now.tube self.old.tubes)) }
-    {
-        self.table.edit_numbered(&removed.tube, number, removed)
-    }
-
-    /// A job of the tube with this number changed its state.
-    pub(crate) fn move_job(&mut self, moved: &JobMove, number: TubeNumber)
-        requires { HasNumber moved.now.tube number self.old.tubes.numbers }
-        ensures { self.new ≡ record self.old { tubes = with_entry moved.now.tube (entry_moved moved.now) self.old.tubes } }
-    {
-        self.table.edit_numbered(&moved.tube, number, moved);
+        self.table.edit_numbered(name, number, edit)
     }
 
     /// Counts a client with these roles at the tube with this name, or stops counting it.
+    #[tactic(auto, using(crate::proofs::NamedLemmas::store_edited))]
     pub(crate) fn recount(
         &mut self,
         name: &TubeName,
@@ -178,13 +170,13 @@ impl Store {
     pub(crate) fn count_alive(&self) -> u64
         ensures { result ≡ length (filter is_alive_at self.now.tubes.entries) }
     {
-        let alive = self.table.walk(HowMany::none());
-        alive.count()
+        let alive = self.table.walk(HowMany { count: 0 });
+        alive.count
     }
 
     /// Returns the names of the tubes that exist, by their counts, in byte order. Their memory is
     /// allocated first.
-    pub(crate) fn names_alive<'a>(&'a self, alloc: Global) -> Result<Names<'a>, NoMemory>
+    pub fn names_alive<'a>(&'a self, alloc: Global) -> Result<Names<'a>, NoMemory>
         ensures { IfOk result
             (λ names. names_of names.items ≡ keys_of (filter is_alive_at self.now.tubes.entries)) }
     {
@@ -220,6 +212,9 @@ impl Store {
         if self.ends.len() == 0 {
             return None;
         }
-        pauses::first_until(&self.ends)
+        match pauses::first(&self.ends) {
+            None => None,
+            Some(end) => Some(end.until),
+        }
     }
 }

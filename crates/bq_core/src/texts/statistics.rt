@@ -77,7 +77,7 @@ fn pause_seconds(pause: Option<Pausing>) -> u64
 {
     match pause {
         None => 0,
-        Some(pause) => u64::from(pause.seconds()),
+        Some(pause) => u64::from(pause.seconds),
     }
 }
 
@@ -86,7 +86,7 @@ fn pause_time_left(moment: Moment, pause: Option<Pausing>) -> u64
 {
     match pause {
         None => 0,
-        Some(pause) => seconds_between(moment, pause.until()),
+        Some(pause) => seconds_between(moment, pause.until),
     }
 }
 

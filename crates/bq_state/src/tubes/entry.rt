@@ -1,5 +1,5 @@
 //! What is kept of a tube, and how the entry of a name is changed in place.
-ghost use Rattle.std.specs.Prelude.{[], is_some, ◌≡◌};
+ghost use Rattle.std.specs.Prelude.{[], ◌≡◌};
 ghost use Rattle.bq_job.specs.machine.TubeCommands.{with_pause};
 ghost use Rattle.bq_state.specs.{Crowds.{crowd_with, crowd_without, has_seats, is_none, no_crowd, recounted}, TubesSeen.ended};
 ghost use Rattle.bq_state.specs.TubesSeen.{entry_after, entry_changed, entry_moved, fresh_entry};
@@ -16,8 +16,10 @@ use std::marker::Model;
 /// A pause of a tube.
 #[derive(Clone, Copy)]
 pub struct Pausing {
-    seconds: u32,
-    until: Moment,
+    /// How many seconds were requested.
+    pub seconds: u32,
+    /// When it ends.
+    pub until: Moment,
 }
 
 impl Model for Pausing {
@@ -28,22 +30,6 @@ impl Model for Pausing {
     ghost view = { λ p. record { seconds = p.seconds; until = p.until } };
 
     ghost inverse = { λ p. record { seconds = p.seconds; until = p.until } };
-}
-
-impl Pausing {
-    /// Returns how many seconds were requested.
-    pub fn seconds(self) -> u32
-        ensures { result ≡ self.seconds }
-    {
-        self.seconds
-    }
-
-    /// Returns when it ends.
-    pub fn until(self) -> Moment
-        ensures { result ≡ self.until }
-    {
-        self.until
-    }
 }
 
 /// What is kept of a tube that exists, besides its name.
@@ -148,12 +134,6 @@ impl TubeEntry {
         }
     }
 
-    pub(crate) fn is_paused(&self) -> bool
-        ensures { result ≡ is_some self.now.pause }
-    {
-        self.pause.is_some()
-    }
-
     fn set_pause(&mut self, seconds: u32, moment: Moment)
         ensures { self.new
             ≡ entry_after (with_pause seconds moment (record_of [] self.old)) self.old }
@@ -169,55 +149,14 @@ impl TubeEntry {
         };
     }
 
-    pub(crate) fn change(&mut self, what: TubeChange)
+    // Counts an event, or begins or ends a pause.
+    fn change(&mut self, what: TubeChange)
         ensures { self.new ≡ entry_changed what self.old }
     {
         match what {
             TubeChange::CountPut => self.puts = self.puts.saturating_add(1),
             TubeChange::CountDelete => self.deletes = self.deletes.saturating_add(1),
             TubeChange::Pause(seconds, moment) => self.set_pause(seconds, moment),
-        }
-    }
-
-    /// Counts a new job.
-    pub(crate) fn add_job(&mut self, job: &Job)
-        ensures { self.new ≡ entry_with job.now self.old }
-    {
-        self.change(TubeChange::CountPut);
-        self.tally.enter(PriAndState::of(job));
-    }
-
-    /// Stops counting the job of this report, and counts its deletion.
-    pub(crate) fn count_removal(&mut self, removed: &JobRemoval)
-        ensures { self.new ≡ entry_without removed.now self.old }
-    {
-        self.change(TubeChange::CountDelete);
-        self.tally.leave(removed.at);
-    }
-
-    /// A job of the tube changed its state.
-    pub(crate) fn move_job(&mut self, moved: &JobMove)
-        ensures { self.new ≡ entry_moved moved.now self.old }
-    {
-        self.tally.leave(moved.from);
-        self.tally.enter(moved.to);
-    }
-
-    /// Counts a client with these roles, or stops counting it.
-    pub(crate) fn recount(&mut self, how: AddOrRemove, roles: Roles)
-        ensures { self.new ≡ entry_recounted how roles self.old }
-    {
-        self.crowd.recount(how, roles);
-    }
-
-    pub(crate) fn fire_timer(&mut self, moment: Moment)
-        ensures { self.new ≡ ended moment self.old }
-    {
-        let Some(pause) = self.pause else {
-            return;
-        };
-        if pause.until <= moment {
-            self.pause = None;
         }
     }
 }
@@ -244,7 +183,12 @@ impl Edit<TubeEntry, ()> for PauseTimer {
     ghost told = { λ _ _. tt };
 
     fn edit(&self, entry: &mut TubeEntry) {
-        entry.fire_timer(self.moment);
+        let Some(pause) = entry.pause else {
+            return;
+        };
+        if pause.until <= self.moment {
+            entry.pause = None;
+        }
     }
 }
 
@@ -261,7 +205,7 @@ impl Edit<TubeEntry, ()> for RolesChange {
     ghost told = { λ _ _. tt };
 
     fn edit(&self, entry: &mut TubeEntry) {
-        entry.recount(self.how, self.roles);
+        entry.crowd.recount(self.how, self.roles);
     }
 }
 
@@ -272,7 +216,8 @@ impl Edit<TubeEntry, ()> for Job {
     ghost told = { λ _ _. tt };
 
     fn edit(&self, entry: &mut TubeEntry) {
-        entry.add_job(self);
+        entry.change(TubeChange::CountPut);
+        entry.tally.enter(PriAndState::of(self));
     }
 }
 
@@ -284,7 +229,8 @@ impl Edit<TubeEntry, bool> for JobRemoval {
     ghost told = { λ _ t. has_seats t.crowd };
 
     fn edit(&self, entry: &mut TubeEntry) -> bool {
-        entry.count_removal(self);
+        entry.change(TubeChange::CountDelete);
+        entry.tally.leave(self.at);
         entry.crowd.has_seats()
     }
 }
@@ -296,7 +242,8 @@ impl Edit<TubeEntry, ()> for JobMove {
     ghost told = { λ _ _. tt };
 
     fn edit(&self, entry: &mut TubeEntry) {
-        entry.move_job(self);
+        entry.tally.leave(self.from);
+        entry.tally.enter(self.to);
     }
 }
 

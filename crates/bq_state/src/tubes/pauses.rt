@@ -1,10 +1,10 @@
 //! Changes of tubes in which pauses begin and end. The ends of the pauses are kept in order.
-ghost use Rattle.std.specs.{Cmp.Lexicographic.slice_cmp, Map.remove_entry, Option.{ForSome, option_map}, Ordering.nat_cmp};
+ghost use Rattle.std.specs.{Cmp.Lexicographic.slice_cmp, Map.remove_entry, Option.ForSome, Ordering.nat_cmp};
 ghost use Rattle.std.specs.Prelude.{IfOk, None, Some, if◌then◌else◌, is_some, length, map, true, ◌+◌, ◌<◌, ◌≡◌, ◌≤◌};
 ghost use Rattle.bq_index.specs.Order.{InOrder};
 ghost use Rattle.bq_jobs.specs.Numbering.{IsPaired};
 ghost use Rattle.bq_state.specs.TubesSeen.{edited_at, entry_changed, is_named_at};
-ghost use Rattle.bq_state.specs.{PauseEnds.{AreEnds, AreTold, end_cmp, end_of}, TubesSeen.{record_at, with_ended}};
+ghost use Rattle.bq_state.specs.{PauseEnds.{AreApart, AreEnds, end_cmp, end_of}, TubesSeen.{record_at, with_ended}};
 ghost use Rattle.bq_state.specs.PauseEnds.{first_end, found_end, has_end, if_over, is_end_in, number_at, pause_at, paused_count};
 ghost use Rattle.bq_state.specs.PauseEnds.{with_end, without_end};
 
@@ -19,7 +19,7 @@ use std::alloc::Global;
 fn end_of(kept: &TubeTable<TubeEntry>, name: &TubeName, hint: TubeNumber) -> Option<PauseEnd>
     ensures end { result ≡ end_of (number_at name.now kept.now.tubes.numbers)
         (pause_at name.now (map record_at kept.now.entries)) }
-    ensures told { AreTold kept.now }
+    ensures apart { AreApart kept.now }
     ensures ordered { InOrder (slice_cmp nat_cmp) kept.now.entries }
 {
     let number = kept.number_of(name, hint)?;
@@ -27,11 +27,11 @@ fn end_of(kept: &TubeTable<TubeEntry>, name: &TubeName, hint: TubeNumber) -> Opt
 }
 
 // Returns the tube whose pause has this end.
-#[tactic(auto, using(crate::proofs::NumberLemmas::number_is))]
+#[tactic(auto, using(crate::proofs::NumberLemmas::number_is, crate::proofs::NumberLemmas::end_numbered))]
 fn tube_of(kept: &TubeTable<TubeEntry>, end: &PauseEnd) -> Tube
     requires { is_end_in kept.now.tubes.numbers end.now (map record_at kept.now.entries) ≡ true }
     ensures number { end.now.number ≡ number_at result kept.now.tubes.numbers }
-    ensures told { AreTold kept.now }
+    ensures apart { AreApart kept.now }
 {
     Tube::new(kept.name_of(end.number).unwrap(), end.number)
 }
@@ -141,17 +141,6 @@ pub(crate) fn first(ends: &PauseEnds) -> Option<PauseEnd>
     match ends.first(&Each) {
         None => None,
         Some((end, _)) => Some(*end),
-    }
-}
-
-/// Returns when the first pause ends, if there is one.
-pub(crate) fn first_until(ends: &PauseEnds) -> Option<Moment>
-    ensures until { result ≡ option_map (λ e. e.until) (first_end ends.now.entries) }
-    ensures ordered { InOrder end_cmp ends.now.entries }
-{
-    match first(ends) {
-        None => None,
-        Some(end) => Some(end.until),
     }
 }
 

@@ -17,22 +17,7 @@ use bq_jobs::{NumberedJobs, Tube, TubeTable};
 /// How many of the entries visited so far are of tubes that exist. The count stops at 2^64 - 1.
 #[derive(Clone, Copy)]
 pub(crate) struct HowMany {
-    count: u64,
-}
-
-impl HowMany {
-    /// Returns the count before any entry was visited.
-    pub(crate) fn none() -> HowMany
-        ensures { result ≡ record { count = 0 } }
-    {
-        HowMany { count: 0 }
-    }
-
-    pub(crate) fn count(&self) -> u64
-        ensures { result ≡ self.now.count }
-    {
-        self.count
-    }
+    pub(crate) count: u64,
 }
 
 impl Visitor<TubeName, TubeEntry> for HowMany {

@@ -4,7 +4,7 @@ use Rattle.bq_core.proofs.KickLemmas.{all_counted, kicked_all, kicks_first, none
 use Rattle.bq_core.specs.Kicking.{KicksFirst}
 use Rattle.bq_job.specs.machine.{Machine.Machine, kicked}
 use Rattle.bq_jobs.specs.Ranks.{is_listed}
-use Rattle.bq_state.specs.CoreParts.{Fields, machine_of, machine_of_fields}
+use Rattle.bq_state.specs.{CoreParts.machine_of, Store.StoreSeen}
 use Rattle.bq_core.proofs.kicks.kick_some.Goals as goal
 
 pub loop-done-preserved : goal.loop-done-preserved
@@ -14,7 +14,7 @@ loop-done-preserved c =
     let found = c.in-Some.ensures in
     let one = chosen _ _ _ _ _ _ st.sound.ids found.id in
     let made = ap (λ (x : Machine). x.jobs) c.change_job.ensures.after in
-    let same = ap (λ (h : Fields). h.jobs.jobs) found.kept.same in
+    let same = ap (λ (k : StoreSeen). k.jobs.jobs) found.kept.same in
     let kicks : KicksFirst c.args.list c.args.tube.now st.store.jobs.jobs c.change_job.new.state.store.jobs.jobs =
     rw (made, same, one.id_is) (kicks_first _ _ _ _ _ _ c.requires.out st.sound.ids one.first) in
     let few = one_fewer (is_listed c.args.list c.args.tube.now) kicked c.in-Some.id 1 st.next_id _ one.job
@@ -31,8 +31,8 @@ loop-done-preserved c =
 pub returns-in_default-clause-kicked : goal.returns-in_default-clause-kicked
 returns-in_default-clause-kicked c =
     let was = c.loop-done.invariant in
-    ap machine_of_fields c.in_default.ensures.kept.same ∙ was.others ∙ ap (λ js. record (machine_of c.args.state.now) { jobs = js })
-    (sym (kicked_all _ _ c.args.bound c.loop-done.done _ _ (omega arith) was.kicked c.in_default.ensures.id))
+    rw c.in_default.ensures.kept.same (was.others ∙ ap (λ js. record (machine_of c.args.state.now) { jobs = js })
+    (sym (kicked_all _ _ c.args.bound c.loop-done.done _ _ (omega arith) was.kicked c.in_default.ensures.id)))
 
 pub returns-clause-kicked : goal.returns-clause-kicked
 returns-clause-kicked c =

@@ -1,6 +1,7 @@
+use Rattle.std.proofs.Common.{arith}
 use Rattle.bq_jobs.{proofs.Changes.added_within, specs.JobsSeen.with_added}
-use Rattle.bq_state.proofs.{CountedLemmas.waiters_counted, KnowledgeLemmas.sound_with_job, NamedLemmas.{change_kept, records_changed}}
-use Rattle.bq_state.{proofs.PartsLemmas.{few_jobs, recorded}, specs.{TubeEntries.tube_changed, TubesSeen.entry_with}}
+use Rattle.bq_state.proofs.{CountedLemmas.waiters_counted, KnowledgeLemmas.{sound_with_job, tube_then}, NamedLemmas.change_kept}
+use Rattle.bq_state.{proofs.PartsLemmas.few_jobs, specs.TubesSeen.entry_with}
 use Rattle.bq_state.specs.declared.tubes.entry.TubeChange.TheVariants.{CountPut}
 use Rattle.bq_state.proofs.changes.add.Goals as goal
 
@@ -25,9 +26,4 @@ invariant_of-state c =
 pub returns-clause-after : goal.returns-clause-after
 returns-clause-after c =
     let j = c.args.job in
-    rw (
-      c.add.ensures.tubes,
-      c.add.ensures.jobs,
-      records_changed j.tube (entry_with j) (tube_changed CountPut) (change_kept CountPut) c.args.state.now.store.tubes.entries,
-      recorded c.args.state.now _ CountPut c.requires.entry,
-    )
+    grind (arith, tube_then c.args.state.now j.tube (entry_with j) CountPut (change_kept CountPut) c.requires.entry)

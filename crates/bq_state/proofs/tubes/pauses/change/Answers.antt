@@ -8,7 +8,7 @@ pub enter-requires : goal.enter-requires
 enter-requires c =
     let from = c.end_of-from.ensures in
     let edit = c.edit-changed.ensures in
-    let moves = edit_moves c.args.name.now (entry_changed c.args.what) _ _ edit.tubes edit.entries from.ordered from.told in
+    let moves = edit_moves c.args.name.now (entry_changed c.args.what) _ _ edit.tubes edit.entries from.ordered from.apart in
     let next = rw edit.tubes at c.end_of-to.ensures.end in
     record {
       spare = grind (arith, common_steps);
@@ -19,7 +19,7 @@ pub returns-in-Pause-clause-ends : goal.returns-in-Pause-clause-ends
 returns-in-Pause-clause-ends c =
     let from = c.end_of-from.ensures in
     let edit = c.edit-changed.ensures in
-    let moves = edit_moves c.args.name.now (entry_changed c.args.what) _ _ edit.tubes edit.entries from.ordered from.told in
+    let moves = edit_moves c.args.name.now (entry_changed c.args.what) _ _ edit.tubes edit.entries from.ordered from.apart in
     let next = rw edit.tubes at c.end_of-to.ensures.end in
     search ends_moved
 
