@@ -1,6 +1,6 @@
 -- What each event at a seat does, if its seat is known.
 use Rattle.std.proofs.Common.{Bool, List, None, Option, Some, [], append-nil, arith, false, filter, if◌then◌else◌, is_some, length, nat_le}
-use Rattle.std.proofs.{Common.{not, refl, true, ℕ, ◌&&◌, ◌++◌, ◌+◌, ◌==◌, ◌∷◌, ◌≡◌}, Math.Bool.{or-false}}
+use Rattle.std.proofs.{Common.{not, refl, true, ℕ, ◌&&◌, ◌++◌, ◌+◌, ◌==◌, ◌∙◌, ◌∷◌, ◌≡◌}, Math.Bool.{or-false}}
 use Rattle.std.{proofs.lemmas.{Bool.{cases_Bool, eqb-true}, Grind.common_steps}, specs.List.list_any}
 use Rattle.bq_core.{proofs.AskLemmas.asked_before, specs.Acting.{Acts, Replies, put_of, with_answer, with_reply}}
 use Rattle.bq_core.specs.declared.{acts.Reply.{Reply}, job_acts.NewJob.NewJob}
@@ -11,7 +11,7 @@ use Rattle.bq_job.specs.machine.{SeatRecord, after_close, after_connect, asked, 
 use Rattle.bq_job.specs.machine.{is_full, is_reserved, is_waiting}
 use Rattle.bq_job.specs.machine.{job_with, last_id, new_job, put_effect, raised, reserve_job_effect, reserved_by, seat_with}
 use Rattle.bq_job.specs.machine.{step_takes_memory, takes_memory, telling, watch_effect, watches, watching, with_end}
-use Rattle.bq_job.specs.machine.{with_job, with_put}
+use Rattle.bq_job.specs.machine.{reserve_effect, silent, with_job, with_put}
 use Rattle.bq_job.specs.{machine.{with_seat, with_tube}, reading.TubeName.is_same_name}
 use Rattle.bq_jobs.{proofs.Changes.found_id, specs.{JobsSeen.{ComparesAtMost, JobsSeen, with_added}, Searching.Asks, Seen.IsBodyOf}}
 use Rattle.bq_state.{proofs.TubeLemmas.some_left, specs.{Asking.AsksAsChanged, JobChanges.is_passed_by, SeatChanges.AreNumbered}}
@@ -132,6 +132,13 @@ pub acts_replied : (m next : Machine) (seat : ℕ) (request : Request) (reply : 
 acts_replied m next seat request reply told old new asking does adds =
     let e = effect_asked m seat request asking in
     acts_outcome m next seat (steps.Ask request) reply told old new (rw e.2 (does e.0 e.1)) adds
+
+-- A client waits from now on, and is not answered.
+pub waits_asked : (m next : Machine) (seat : ℕ) (outs : Outbox) → is_asking (seat_with seat m.seats) ≡ true
+    → ((s : SeatRecord) → s.number ≡ seat → reserve_effect None m s ≡ silent next) → Acts m seat (steps.Ask requests.Reserve) outs outs next
+waits_asked m next seat outs asking does =
+    let e = effect_asked m seat requests.Reserve asking in
+    acts_silent m seat (steps.Ask requests.Reserve) outs next (e.2 ∙ does e.0 (number_found seat m.seats e.0 e.1))
 
 -- a put that is not accepted, or for which an allocation failed
 module _ (m : Machine) (seat : ℕ) (new : NewJob) (body : List ℕ) (asking : is_asking (seat_with seat m.seats) ≡ true)

@@ -1,9 +1,10 @@
 -- Which job is handed out next, found tube by tube.
-use Rattle.std.proofs.Common.{Bool, List, None, Option, Some, [], ap, arith, false, if◌then◌else◌, is_some, not, refl, sym, true, ℕ, ◌&&◌}
-use Rattle.std.proofs.{Common.{◌||◌, ◌∙◌, ◌∷◌, ◌≡◌}, Math.Bool.{or-false, or_assoc}, lemmas.{Bool.cases_Bool, Grind.common_steps}}
+use Rattle.std.proofs.Common.{Bool, List, None, Option, Some, [], ap, arith, false, if◌then◌else◌, is_some, not, refl, rules, sym, true, ℕ, ◌&&◌}
+use Rattle.std.proofs.{Common.{◌||◌, ◌∙◌, ◌∷◌, ◌≡◌}, Math.Bool.{or-false, or_assoc}}
+use Rattle.std.proofs.lemmas.{Bool.{both_ways, cases_Bool, false_from_ne_true}, Grind.common_steps}
 use Rattle.std.specs.{List.{AllByRecursion as All, list_any}, Prelude.{IfOk, Result, fold, option_map}}
 use Rattle.bq_job.proofs.{ChoiceLemmas.{first_of_agrees, first_of_contains}, ComputedLemmas.{next_has_seat, next_seat_waits}}
-use Rattle.bq_job.{proofs.{ListLemmas.{all_always, all_at}, WatchedLemmas.same_other}, specs.beside.AreIdsWithin}
+use Rattle.bq_job.{proofs.ListLemmas.{all_always, all_at}, specs.beside.AreIdsWithin}
 use Rattle.bq_job.specs.{declared.{fault.NoMemory.NoMemory, job.Job.Job}, machine.{SeatRecord, better_of, first_of, is_job_before}}
 use Rattle.bq_job.specs.machine.{is_paused, is_ready, is_ready_in, is_wait_before, is_waiting, is_waiting_for, job_with, may_have, next_job}
 use Rattle.bq_job.specs.{machine.{Machine.Machine, next_seat}, reading.TubeName.is_same_name}
@@ -65,6 +66,9 @@ only_if jobs true p = refl
 only_if [] false p = refl
 only_if (j ∷ jobs) false p = only_if jobs false p
 
+other_name : (a b : List ℕ) → is_same_name a b ≡ false → is_same_name b a ≡ false
+other_name a b e = search (rules, false_from_ne_true, both_ways)
+
 module _ (paused : List ℕ → Bool) where
   -- what a tube offers
   abbrev pub offers : List ℕ → Job → Bool
@@ -76,7 +80,7 @@ module _ (paused : List ℕ → Bool) where
 
   one_more_name : (name : List ℕ) (names : List (List ℕ)) (p : Job → Bool) (j : Job)
       → ((p j || offers name j) || ready_among names j) ≡ (p j || ready_among (name ∷ names) j)
-  one_more_name name names p j = grind (arith, common_steps, cases_Bool, same_name, same_itself, same_other)
+  one_more_name name names p j = grind (arith, common_steps, cases_Bool, same_name, same_itself, other_name)
 
 module _ (st : CoreParts) where
   abbrev jobs : List Job
@@ -145,31 +149,43 @@ taker_known m waiter known j e =
     let may = all_at _ _ _ known (first_of_contains _ _ _ _ e) in
     grind (arith, common_steps, next_seat_waits m j first.0 first.1, all_at)
 
-module _ (m : Machine) (id : ℕ) (ids : AreIdsWithin 1 m.jobs m.next_id) (first : Some id ≡ option_map (λ j. j.id) (next_job m)) where
-  -- the next job is the one with this id
-  pub next_is : next_job m ≡ job_with id m.jobs
-  next_is = let one = chosen _ _ _ _ _ _ ids first in one.first ∙ sym one.found
+-- the next job is the one with this id
+pub next_is : (m : Machine) (id : ℕ) → AreIdsWithin 1 m.jobs m.next_id → Some id ≡ option_map (λ j. j.id) (next_job m)
+    → next_job m ≡ job_with id m.jobs
+next_is m id ids first = let one = chosen _ _ _ _ _ _ ids first in one.first ∙ sym one.found
 
-  pub next_there : false ≡ is_some (job_with id m.jobs) → ⊥
-  next_there none = grind (arith, common_steps, next_is)
+module _ (st : CoreParts) where
+  -- If only one client may have jobs, it gets the next one.
+  pub taker_picked : (waiter : ℕ) → st.known.wanted ≡ Client waiter → (j : Job) → next_job (machine_of st) ≡ Some j
+      → Some waiter ≡ option_map (λ s. s.number) (next_seat (machine_of st) j)
+  taker_picked waiter is = taker_known (machine_of st) waiter (rw is at st.sound.known.wanted_jobs)
 
-  -- a reference to its body
-  pub body_of_next : (shared : Result (List ℕ) NoMemory) → IfOk shared (IsBodyOf (job_with id m.jobs)) → IfOk shared (IsBodyOf (next_job m))
-  body_of_next shared told = rw next_is told
+  module _ (id : ℕ) (first : Some id ≡ option_map (λ j. j.id) (next_job (machine_of st))) where
+    next_here : next_job (machine_of st) ≡ job_with id st.store.jobs.jobs
+    next_here = next_is (machine_of st) id st.sound.ids first
 
-  -- the tube that it is in
-  pub tube_of_next : (name : List ℕ) → AreKnown (Tube name) m.jobs m.seats m.tubes → IsTubeOf (job_with id m.jobs) name
-  tube_of_next name known j found = tube_known m name known j (next_is ∙ found)
+    pub next_there : false ≡ is_some (job_with id st.store.jobs.jobs) → false ≡ true
+    next_there none = grind (arith, common_steps, next_here)
 
-  -- the client that waits for jobs of its tube, and has waited longest among those, gets it
-  module _ (seats : List SeatRecord) (seats_are : seats ≡ m.seats) (name tube : List ℕ) (name_is : name ≡ tube)
-      (tube_is : IsTubeOf (job_with id m.jobs) tube) (found : Option ℕ)
-      (found_is : found ≡ option_map (λ s. s.number) (first_of (waits_at name) is_wait_before seats)) where
-    pub picked_at_tube : (j : Job) → next_job m ≡ Some j → found ≡ option_map (λ s. s.number) (next_seat m j)
-    picked_at_tube j e = grind (arith, next_is, seat_at_tube m j e)
+    -- a reference to its body
+    pub body_of_next : (shared : Result (List ℕ) NoMemory) → IfOk shared (IsBodyOf (job_with id st.store.jobs.jobs))
+        → IfOk shared (IsBodyOf (next_job (machine_of st)))
+    body_of_next shared told = rw next_here told
 
-    pub one_picked : is_some found ≡ true
-    one_picked =
-        let one = chosen _ _ _ _ _ _ ids first in
-        let seat = next_has_seat m one.job one.first in
-        ap is_some (picked_at_tube one.job one.first ∙ ap (option_map (λ (s : SeatRecord). s.number)) seat.1)
+    -- the tube that it is in
+    pub tube_of_next : (name : List ℕ) → st.known.wanted ≡ Tube name → IsTubeOf (job_with id st.store.jobs.jobs) name
+    tube_of_next name is j found =
+        tube_known (machine_of st) name (rw is at st.sound.known.wanted_jobs) j (next_here ∙ found)
+
+    -- the client that waits for jobs of its tube, and has waited longest among those, gets it
+    module _ (seats : List SeatRecord) (seats_are : seats ≡ st.seats.items) (name tube : List ℕ) (name_is : name ≡ tube)
+        (tube_is : IsTubeOf (job_with id st.store.jobs.jobs) tube) where
+      pub picked_at_tube : (found : Option ℕ) → found ≡ option_map (λ s. s.number) (first_of (waits_at name) is_wait_before seats)
+          → (j : Job) → next_job (machine_of st) ≡ Some j → found ≡ option_map (λ s. s.number) (next_seat (machine_of st) j)
+      picked_at_tube found is j e = grind (arith, next_here, seat_at_tube (machine_of st) j e)
+
+      pub none_picked : None ≡ option_map (λ s. s.number) (first_of (waits_at name) is_wait_before seats) → false ≡ true
+      none_picked is =
+          let one = chosen _ _ _ _ _ _ st.sound.ids first in
+          let seat = next_has_seat (machine_of st) one.job one.first in
+          ap is_some (picked_at_tube None is one.job one.first ∙ ap (option_map (λ (s : SeatRecord). s.number)) seat.1)

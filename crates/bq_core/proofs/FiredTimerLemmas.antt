@@ -132,7 +132,13 @@ none_fires m fits due expired =
     (all_weaker _ _ _ (λ j none. rw (none.0, none.1) refl) (all_both _ _ _ (none_pass _ _ due) over)) in
     grind (arith, count_all_not)
 
--- the first delayed job and the first reserved one
+-- the first delayed job
+pub delay_due : (st : CoreParts) (delayed : Option (ℕ × ℕ)) (id : ℕ) → delayed ≡ option_map (ranked (λ j. due_of j.state))
+    (first_of (λ j. is_delayed j.state) is_due_before st.store.jobs.jobs) → Some id ≡ id_if_past st.moment delayed
+    → IsDue (machine_of st) (DelayEnded id)
+delay_due st delayed id is past = first_past _ _ _ dues_are st.store.jobs.jobs st.moment 1 st.next_id id st.sound.ids delayed is past
+
+-- and the first reserved one
 module _ (st mid : CoreParts) (same : OnlyCompares st mid) (delayed lease : Option (ℕ × ℕ))
     (delayed_is : delayed ≡ option_map (ranked (λ j. due_of j.state)) (first_of (λ j. is_delayed j.state) is_due_before st.store.jobs.jobs))
     (lease_is : lease ≡ option_map (ranked (λ j. deadline_of j.state))
@@ -193,10 +199,7 @@ module _ (state : JobState) (seat : ℕ) (old new : CoreParts) (kept : StoreSeen
       tubes = counted (records kept.tubes);
     })) where
   gives : machine_of new ≡ with_job id (in_state state) (machine_of old)
-  gives = after ∙ ap (λ (k : StoreSeen). with_job id (in_state state) (record (machine_of old) {
-    jobs = k.jobs.jobs;
-    tubes = counted (records k.tubes);
-  })) same
+  gives = grind arith
 
   one : Chosen (is_held_by seat) is_lease_before old.store.jobs.jobs id
   one = chosen _ _ _ _ _ _ old.sound.ids first

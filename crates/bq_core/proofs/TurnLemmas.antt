@@ -1,6 +1,7 @@
 -- A turn of dispatch or of the ends of waits, and chains of turns.
-use Rattle.std.proofs.Common.{Bool, List, None, Some, [], append-nil, arith, false, get_or, inl, inr, length, refl, slice_get, subst, true}
-use Rattle.std.proofs.{Common.{ℕ, ◌++◌, ◌<◌, ◌||◌, ◌∷◌, ◌≡◌}, Math.Bool.{and-false, or-false, or-true}, lemmas.Grind.common_steps}
+use Rattle.std.proofs.Common.{Bool, List, None, Some, [], ap, append-nil, arith, false, get_or, inl, inr, length, refl, slice_get, subst}
+use Rattle.std.proofs.Common.{true}
+use Rattle.std.proofs.{Common.{ℕ, ◌++◌, ◌<◌, ◌||◌, ◌∙◌, ◌∷◌, ◌≡◌}, Math.Bool.{and-false, or-false, or-true}, lemmas.Grind.common_steps}
 use Rattle.std.{proofs.lemmas.{List.length-append, Option.slice_get_read, Result.IfOk-weaker}, specs.List.{Contains, list_any}}
 use Rattle.std.specs.Prelude.{IfOk, Ok, Result, option_map}
 use Rattle.bq_core.specs.{HandOuts.{AddsHandOut, HandsOut}, Turns.{Gives, HasRoom, none_refused}, WaitEnds.AddsWaitEnd}
@@ -114,6 +115,12 @@ pub shared_given : (m last : Machine) (id number : ℕ) (body : List ℕ) (j : J
     → number ≡ s.number → body ≡ j.body → last ≡ with_seat number without_wait (with_job id (reserved_by m.moment number) m)
     → new ≡ record old { given = old.given ++ (number, answers.Reserved id body) ∷ [] } → AddsHandOut m j s old new last
 shared_given m last id number body j s old new i n b after told = grind (arith, common_steps)
+
+pub given_in_turn : (m mid last : Machine) (id number : ℕ) (body : List ℕ) (j : Job) (s : SeatRecord) (old new : Outbox) → id ≡ j.id
+    → number ≡ s.number → body ≡ j.body → mid ≡ with_seat number without_wait m → last ≡ with_job id (reserved_by m.moment number) mid
+    → new ≡ record old { given = old.given ++ (number, answers.Reserved id body) ∷ [] } → AddsHandOut m j s old new last
+given_in_turn m mid last id number body j s old new i n b stops after told =
+    shared_given m last id number body j s old new i n b (after ∙ ap (with_job id (reserved_by m.moment number)) stops) told
 
 pub refused_given : (m last : Machine) (number : ℕ) (j : Job) (s : SeatRecord) (old new : Outbox) → number ≡ s.number
     → last ≡ with_seat number without_wait m → new ≡ record old { given = old.given ++ (number, answers.OutOfMemory) ∷ []; unshared = true }

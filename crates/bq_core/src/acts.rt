@@ -193,6 +193,7 @@ fn ask_other(state: &mut CoreParts, alloc: Global, seat: Seat, request: &Request
 }
 
 // Carries out a request of a client that may make one, and appends its answer.
+#[tactic(auto, using(crate::proofs::ActLemmas::waits_asked))]
 fn ask(state: &mut CoreParts, alloc: Global, seat: Seat, request: &Request, outs: &mut Outs)
     requires asks { is_asking (seat_with seat state.old.seats.items) ≡ true }
     requires room { length outs.old.given < outs.old.most }

@@ -1,18 +1,16 @@
 //! Hands ready jobs out: to the clients that wait for them, and to a client whose reserve finds one at
 //! once.
-ghost use Rattle.std.specs.{List.sum_by, Option.option_map, Prelude.{IfOk, IfSome, None, Some, []}};
-ghost use Rattle.std.specs.Prelude.{fold, if◌then◌else◌, is_some, length, true, ◌&&◌, ◌++◌, ◌+◌, ◌<◌, ◌∷◌, ◌≡◌};
-ghost use Rattle.bq_core.specs.{AtOnce.{ActsOrGives, IsHandedOver, TakesAtOnce, is_reserve, may_take}, HandOuts.{HandsOut, IsPicked, handed_to}};
+ghost use Rattle.std.specs.{List.sum_by, Option.option_map, Prelude.{IfOk, IfSome, None, Some}};
+ghost use Rattle.std.specs.Prelude.{fold, if◌then◌else◌, is_some, length, true, ◌&&◌, ◌<◌, ◌≡◌};
+ghost use Rattle.bq_core.specs.{AtOnce.{ActsOrGives, IsHandedOver, TakesAtOnce, is_reserve, may_take}, HandOuts.{HandsOut, IsPicked}};
 ghost use Rattle.bq_core.specs.{Serving.NoneIsGone, Turns.{Gives, HasRoom}};
-ghost use Rattle.bq_job.specs.{beside.Computed.waiting_count, machine.Changes.{seat_with, with_seat}};
-ghost use Rattle.bq_job.specs.machine.{Changes.without_wait, Dispatch.{DispatchTurn, next_job}};
-ghost use Rattle.bq_job.specs.machine.Steps.{has_refused_share};
+ghost use Rattle.bq_job.specs.{beside.Computed.waiting_count, machine.Changes.seat_with};
+ghost use Rattle.bq_job.specs.machine.{Dispatch.{DispatchTurn, next_job}, Steps.has_refused_share};
 ghost use Rattle.bq_jobs.specs.{Searching.Asks, Seen.IsBodyOf};
 ghost use Rattle.bq_state.specs.{Asking.AsksByTurn, CoreParts.{AtSeat, machine_of}, Cost.{waited, waited_tubes}, Keeping.{OnlySearches, SearchesStore}};
 ghost use Rattle.bq_state.specs.Offers.{better_rank, is_waited_at, next_rank, offered, these, with_offer, with_offers};
 ghost use Rattle.bq_state.specs.{SeatChanges.AreNumbered, WaitingList.{by_seat, waited_at, waiters_of}};
 ghost use Rattle.bq_state.specs.{TubesSeen.records, WantedJobs.is_nothing};
-ghost use Rattle.bq_job.specs.declared.answer.Answer.TheVariants as answers;
 
 use crate::{acts, answering};
 use bq_core_api::Outs;
@@ -75,18 +73,6 @@ pub(crate) fn best_among(store: &mut Store, watched: &[Tube], first: Option<Offe
     best
 }
 
-// Returns the best of this job and those that the client waits for.
-fn best_for(store: &mut Store, client: &SeatRecord, first: Option<Offer>) -> Option<Offer>
-    ensures best { result ≡ with_offers store.old.jobs.jobs (records store.old.tubes) first client.now }
-    ensures kept { SearchesStore (waited_tubes client.now) store.old store.new }
-{
-    if client.is_waiting() {
-        best_among(store, client.watched(), first)
-    } else {
-        first
-    }
-}
-
 // Returns the most urgent ready job in the tube, unless the tube is paused or no client waits for
 // its jobs.
 fn offer_to(store: &mut Store, tube: &Tube) -> Option<Offer>
@@ -119,7 +105,11 @@ fn best_of_client(
 {
     match seats::find(seats, seat) {
         None => first,
-        Some(client) => best_for(store, client, first),
+        Some(client) => if client.is_waiting() {
+            best_among(store, client.watched(), first)
+        } else {
+            first
+        },
     }
 }
 
@@ -174,7 +164,7 @@ fn next_offer(state: &mut CoreParts) -> Option<Offer>
 
 // Returns the id of the job that is handed out next. If no job is ready or no client waits, nothing
 // is searched.
-#[tactic(auto, using(crate::proofs::AskLemmas::asks_more, crate::proofs::AskLemmas::asks_none, crate::proofs::DispatchLemmas::id_of_best))]
+#[tactic(auto, using(crate::proofs::AskLemmas::asks_more, crate::proofs::AskLemmas::asks_none, crate::proofs::DispatchLemmas::id_of_best, crate::proofs::IdleLemmas::no_id_ready, crate::proofs::IdleLemmas::no_id_waited))]
 fn next_job(state: &mut CoreParts) -> Option<JobId>
     ensures id { result ≡ option_map (λ j. j.id) (next_job (machine_of state.old)) }
     ensures kept { OnlySearches (waited (machine_of state.old)) state.old state.new }
@@ -195,6 +185,7 @@ fn next_job(state: &mut CoreParts) -> Option<JobId>
 // to the job's body, unless the body cannot be shared. Not inlined, because it reserves room for
 // the tube's name.
 #[inline(never)]
+#[tactic(auto, using(crate::proofs::DispatchLemmas::next_there, crate::proofs::DispatchLemmas::body_of_next))]
 fn pick_at_tube(state: &mut CoreParts, id: JobId) -> Option<(Seat, Result<Body, NoMemory>)>
     requires next { Some id ≡ option_map (λ j. j.id) (next_job (machine_of state.old)) }
     ensures some { is_some result ≡ true }
@@ -214,6 +205,7 @@ fn pick_at_tube(state: &mut CoreParts, id: JobId) -> Option<(Seat, Result<Body, 
 // Returns the client that gets the next job, and another reference to the job's body, unless that
 // is refused. If only one client may have any job, it is that one, and neither the other clients
 // nor the job's tube are checked. If only jobs of one tube may be had, the job is in that tube.
+#[tactic(auto, using(crate::proofs::DispatchLemmas::next_there, crate::proofs::DispatchLemmas::body_of_next))]
 fn pick(state: &mut CoreParts, id: JobId) -> Option<(Seat, Result<Body, NoMemory>)>
     requires next { Some id ≡ option_map (λ j. j.id) (next_job (machine_of state.old)) }
     ensures some { is_some result ≡ true }
@@ -240,39 +232,9 @@ fn pick(state: &mut CoreParts, id: JobId) -> Option<(Seat, Result<Body, NoMemory
     }
 }
 
-// The client at the seat gets the job, with this reference to its body.
-fn give(state: &mut CoreParts, outs: &mut Outs, number: Seat, id: JobId, body: Body)
-    requires room { length outs.old.given < outs.old.most }
-    ensures after { machine_of state.new ≡ handed_to number id (machine_of state.old) }
-    ensures told { outs.new
-        ≡ record outs.old { given = outs.old.given ++ (number, answers.Reserved id body) ∷ [] } }
-    ensures asks { Asks 8 state.old.store.jobs state.new.store.jobs }
-{
-    let change = JobChange::HandOut(number, state.moment);
-    // First, because no client holds a job while it waits.
-    changes::stop_waiting(state, number);
-    changes::change_job(state, id, &change);
-    answering::reserved(outs, number, id, body);
-}
-
-// The body could not be shared: the client is answered OUT_OF_MEMORY, and no longer waits.
-fn refuse(state: &mut CoreParts, outs: &mut Outs, number: Seat)
-    requires room { length outs.old.given < outs.old.most }
-    ensures after { machine_of state.new ≡ with_seat number without_wait (machine_of state.old) }
-    ensures told { outs.new
-        ≡ record outs.old {
-          given = outs.old.given
-              ++ (number, answers.OutOfMemory) ∷ [];
-          unshared = true;
-        } }
-    ensures jobs { state.new.store.jobs ≡ state.old.store.jobs }
-{
-    changes::stop_waiting(state, number);
-    answering::unshared(outs, number);
-}
-
-// Hands the job out to the client at the seat, unless another reference to its body is refused.
-#[tactic(auto, using(crate::proofs::TurnLemmas::shared_given, crate::proofs::TurnLemmas::refused_given))]
+// Hands the job out to the client at the seat, unless another reference to its body is refused: then
+// the client is answered OUT_OF_MEMORY. In either case it no longer waits.
+#[tactic(auto, using(crate::proofs::TurnLemmas::given_in_turn, crate::proofs::TurnLemmas::refused_given))]
 fn hand_out(
     state: &mut CoreParts,
     outs: &mut Outs,
@@ -286,8 +248,17 @@ fn hand_out(
     ensures asks { Asks 8 state.old.store.jobs state.new.store.jobs }
 {
     match shared {
-        Ok(body) => give(state, outs, number, id, body),
-        Err(_) => refuse(state, outs, number),
+        Ok(body) => {
+            let change = JobChange::HandOut(number, state.moment);
+            // First, because no client holds a job while it waits.
+            changes::stop_waiting(state, number);
+            changes::change_job(state, id, &change);
+            answering::reserved(outs, number, id, body);
+        }
+        Err(_) => {
+            changes::stop_waiting(state, number);
+            answering::unshared(outs, number);
+        }
     }
 }
 

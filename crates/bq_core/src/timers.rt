@@ -63,7 +63,7 @@ fn id_if_past(found: Option<(Moment, JobId)>, moment: Moment) -> Option<JobId>
 }
 
 // Returns the first timer of a job that is due. Delays come first.
-#[tactic(auto, using(crate::proofs::FiredTimerLemmas::lease_due, crate::proofs::FiredTimerLemmas::none_due))]
+#[tactic(auto, using(crate::proofs::FiredTimerLemmas::lease_due, crate::proofs::FiredTimerLemmas::none_due, crate::proofs::FiredTimerLemmas::delay_due))]
 fn first_due(state: &mut CoreParts) -> Option<Due>
     ensures due { IfSome result (IsDue (machine_of state.old)) }
     ensures none { result ≡ None → HaveFired state.old state.new }

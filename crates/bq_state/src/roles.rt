@@ -72,26 +72,17 @@ fn recount_at(store: &mut Store, tube: &Tube, how: AddOrRemove, roles: Roles)
 
 // Does the same at each of these tubes.
 #[inline(always)]
-#[tactic(auto, using(crate::proofs::LoopLemmas::folded_more))]
+#[tactic(auto, using(crate::proofs::CrowdLemmas::all_recounted_same, crate::proofs::LoopLemmas::folded_more))]
 fn recount_all(store: &mut Store, watched: &[Tube], how: AddOrRemove, roles: Roles)
     ensures { store.new ≡ record store.old
         { tubes = with_entries watched.now (entry_recounted how roles) store.old.tubes } }
 {
+    if roles.is_none() {
+        return;
+    }
     for i in 0..watched.len() {
         let tube = &watched[i];
         store.recount(tube.name(), tube.number(), how, roles);
-    }
-}
-
-// Does the same; without a role no tube is searched for.
-#[inline(always)]
-#[tactic(auto, using(crate::proofs::CrowdLemmas::all_recounted_same))]
-fn recount_watched(store: &mut Store, watched: &[Tube], how: AddOrRemove, roles: Roles)
-    ensures { store.new ≡ record store.old
-        { tubes = with_entries watched.now (entry_recounted how roles) store.old.tubes } }
-{
-    if !roles.is_none() {
-        recount_all(store, watched, how, roles);
     }
 }
 
@@ -127,5 +118,5 @@ pub(crate) fn recount(store: &mut Store, client: Option<&SeatRecord>, how: AddOr
         return;
     };
     recount_at(store, client.used(), how, as_user(client, what));
-    recount_watched(store, client.watched(), how, as_watcher(client, what));
+    recount_all(store, client.watched(), how, as_watcher(client, what));
 }

@@ -1,11 +1,8 @@
-ghost use Rattle.std.specs.Prelude.{IfOk, decimal, length, ◌++◌, ◌+◌, ◌≡◌, ◌≤◌};
+ghost use Rattle.std.specs.Prelude.{decimal, length, ◌++◌, ◌+◌, ◌≡◌, ◌≤◌};
 ghost use Rattle.bq_core.specs.Texts.{value_text};
-ghost use Rattle.bq_job.specs.texts.Yaml.{statistics_text};
 
 use super::builder::{TextBuilder, digit_count};
-use super::lines::{Line, text_of};
-use bq_job::{NoMemory, Text};
-use std::alloc::Global;
+use super::lines::Line;
 use std::marker::Model;
 
 /// The value of a key.
@@ -92,11 +89,4 @@ pub(crate) fn word<'a>(key: &'a [u8], word: &'a [u8]) -> KeyValue<'a>
         key,
         value: Value::Word(word),
     }
-}
-
-/// Returns the text of these lines, or `NoMemory` if its allocation fails.
-pub(crate) fn statistics_text(alloc: Global, pairs: &[KeyValue<'_>]) -> Result<Text, NoMemory>
-    ensures { IfOk result (λ text. text ≡ statistics_text pairs.now) }
-{
-    text_of(alloc, pairs)
 }

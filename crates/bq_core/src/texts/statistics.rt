@@ -4,7 +4,8 @@ ghost use Rattle.bq_job.specs.machine.{Machine.Machine, Statistics.{bool_word, j
 ghost use Rattle.bq_job.specs.machine.Statistics.{seconds_between, server_statistics, state_word, time_left, tube_statistics};
 ghost use Rattle.bq_jobs.specs.Seen.{in_tube};
 
-use super::key_value::{number, statistics_text, word};
+use super::key_value::{number, word};
+use super::lines::text_of;
 use bq_job::{JobId, JobState, Moment, NoMemory, Text, TubeName};
 use bq_jobs::PackedJob;
 use bq_state::known::Tally;
@@ -124,7 +125,7 @@ pub(crate) fn job_text(
         number(b"buries", job.counts.buries),
         number(b"kicks", job.counts.kicks),
     ];
-    statistics_text(alloc, &lines)
+    text_of(alloc, &lines)
 }
 
 /// Returns the statistics of the tube with this name.
@@ -156,7 +157,7 @@ pub(crate) fn tube_text(
             pause_time_left(numbers.moment, numbers.pause),
         ),
     ];
-    statistics_text(alloc, &lines)
+    text_of(alloc, &lines)
 }
 
 /// Returns the statistics of the server.
@@ -179,5 +180,5 @@ pub(crate) fn server_text(alloc: Global, numbers: &ServerNumbers) -> Result<Text
         number(b"total-connections", numbers.connections),
         word(b"draining", bool_word(numbers.draining)),
     ];
-    statistics_text(alloc, &lines)
+    text_of(alloc, &lines)
 }
