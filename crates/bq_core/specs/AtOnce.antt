@@ -24,12 +24,6 @@ is_reserve what = false
 abbrev pub may_take : ℕ → Step → CoreParts → Bool
 may_take seat what st = is_reserve what && (is_nothing st.known.wanted && is_asking (seat_with seat st.seats.items))
 
--- The client at this seat holds the job with this id, whose body this is, and a ticket was used up.
-pub record IsHandedOver (seat id : ℕ) (body : List ℕ) (old new : CoreParts) : Type 0 where
-  pub body_is : IsBodyOf (job_with id (machine_of old).jobs) body
-  pub after : machine_of new ≡ record (with_job id (reserved_by old.moment seat) (machine_of old)) { tickets = raised old.tickets }
-  pub asks : Asks 7 old.store.jobs new.store.jobs
-
 -- The client at this seat, which reserves, was handed this job, which its tubes offer.
 pub record TakesAtOnce (seat : ℕ) (what : Step) (id : ℕ) (body : List ℕ) (old new : CoreParts) : Type 0 where
   pub may : may_take seat what old ≡ true

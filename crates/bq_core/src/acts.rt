@@ -12,9 +12,9 @@ use crate::{answering, job_acts, kicks, statistics_acts, timers, tube_acts};
 use bq_core_api::Outs;
 use bq_job::{Answer, Refusal, Request, Seat, Step};
 use bq_jobs::JobList;
-use bq_state::changes;
 use bq_state::core_parts::CoreParts;
 use bq_state::seats::SeatChange;
+use bq_state::{changes, job_store};
 use std::alloc::Global;
 use std::mem::replace;
 
@@ -50,7 +50,7 @@ fn close(state: &mut CoreParts, seat: Seat) -> Reply
     if !state.is_connected(seat) {
         return Reply::Silent;
     }
-    let becomes = timers::state_once_left(state);
+    let becomes = job_store::delayed_by(state.config.requeue_delay, state.moment);
     timers::give_back_all(state, seat, becomes);
     changes::change_seat(state, seat, &SeatChange::Clear);
     Reply::Told
@@ -154,31 +154,10 @@ fn append_reply(outs: &mut Outs, seat: Seat, reply: Reply, answer: &mut Answer)
     }
 }
 
-// Carries out one of the other requests, and appends its answer. There is room for an answer in
-// `answer`.
-#[tactic(auto, using(crate::proofs::ActLemmas::acts_replied))]
-fn ask_with(
-    state: &mut CoreParts,
-    alloc: Global,
-    seat: Seat,
-    request: &Request,
-    outs: &mut Outs,
-    answer: &mut Answer,
-)
-    requires asks { is_asking (seat_with seat state.old.seats.items) ≡ true }
-    requires other { needs_no_room request.now ≡ false }
-    requires room { length outs.old.given < outs.old.most }
-    ensures acts { Acts (machine_of state.old) seat (steps.Ask request.now) outs.old outs.new
-        (machine_of state.new) }
-    ensures asks { AsksAsChanged state.old.store.jobs state.new.store.jobs }
-{
-    let reply = carry_out(state, alloc, seat, request, answer);
-    append_reply(outs, seat, reply, answer);
-}
-
-// Does the same. Not inlined, because it initializes room for an answer, which puts, deletes and
-// reserves do not need.
+// Carries out one of the other requests, and appends its answer. Not inlined, because it initializes
+// room for an answer, which puts, deletes and reserves do not need.
 #[inline(never)]
+#[tactic(auto, using(crate::proofs::ActLemmas::acts_replied))]
 fn ask_other(state: &mut CoreParts, alloc: Global, seat: Seat, request: &Request, outs: &mut Outs)
     requires asks { is_asking (seat_with seat state.old.seats.items) ≡ true }
     requires other { needs_no_room request.now ≡ false }
@@ -189,7 +168,8 @@ fn ask_other(state: &mut CoreParts, alloc: Global, seat: Seat, request: &Request
 {
     // Dropped once, at the end: a branch that owned the answer would take it apart by itself.
     let mut answer = Answer::Closed;
-    ask_with(state, alloc, seat, request, outs, &mut answer);
+    let reply = carry_out(state, alloc, seat, request, &mut answer);
+    append_reply(outs, seat, reply, &mut answer);
 }
 
 // Carries out a request of a client that may make one, and appends its answer.
@@ -234,7 +214,7 @@ fn reply_without_request(state: &mut CoreParts, seat: Seat, what: &Step) -> Repl
         }
         Step::Close => close(state, seat),
         Step::Drain => {
-            changes::start_draining(state);
+            state.draining = true;
             Reply::Silent
         }
         Step::Ask(_) | Step::Tick | Step::Gone => Reply::Silent,

@@ -2,7 +2,7 @@
 //! once.
 ghost use Rattle.std.specs.{List.sum_by, Option.option_map, Prelude.{IfOk, IfSome, None, Some}};
 ghost use Rattle.std.specs.Prelude.{fold, if◌then◌else◌, is_some, length, true, ◌&&◌, ◌<◌, ◌≡◌};
-ghost use Rattle.bq_core.specs.{AtOnce.{ActsOrGives, IsHandedOver, TakesAtOnce, is_reserve, may_take}, HandOuts.{HandsOut, IsPicked}};
+ghost use Rattle.bq_core.specs.{AtOnce.{ActsOrGives, TakesAtOnce, is_reserve, may_take}, HandOuts.{HandsOut, IsPicked}};
 ghost use Rattle.bq_core.specs.{Serving.NoneIsGone, Turns.{Gives, HasRoom}};
 ghost use Rattle.bq_job.specs.{beside.Computed.waiting_count, machine.Changes.seat_with};
 ghost use Rattle.bq_job.specs.machine.{Dispatch.{DispatchTurn, next_job}, Steps.has_refused_share};
@@ -353,30 +353,21 @@ fn job_at_once(state: &mut CoreParts, seat: Seat, what: &Step) -> Option<JobId>
     Some(id)
 }
 
-// Makes the client at the seat hold the job, and returns another reference to its body. The ticket
-// of the client's wait is used up. Returns None, and changes nothing, if the reference is refused.
-fn hand_over(state: &mut CoreParts, seat: Seat, id: JobId) -> Option<Body>
-    ensures given { IfSome result (λ body. IsHandedOver seat id body state.old state.new) }
-    ensures kept { result ≡ None → OnlySearches 1 state.old state.new }
-{
-    match changes::hand_out(state, seat, id)? {
-        Ok(body) => {
-            changes::give_ticket(state);
-            Some(body)
-        }
-        Err(_) => None,
-    }
-}
-
 // Makes the client at the seat hold the job that it gets at once, if there is one, and returns that
-// job's id and another reference to its body. If not, nothing is changed.
+// job's id and another reference to its body. The ticket of the client's wait is used up. If there is
+// no job, or the reference is refused, nothing is changed.
 fn take_at_once(state: &mut CoreParts, seat: Seat, what: &Step) -> Option<(JobId, Body)>
     ensures taken { IfSome result (λ p. TakesAtOnce seat what.now p.0 p.1 state.old state.new) }
     ensures kept { result ≡ None → OnlySearches 9 state.old state.new }
 {
     let id = job_at_once(state, seat, what)?;
-    let body = hand_over(state, seat, id)?;
-    Some((id, body))
+    match changes::hand_out(state, seat, id)? {
+        Ok(body) => {
+            changes::give_ticket(state);
+            Some((id, body))
+        }
+        Err(_) => None,
+    }
 }
 
 /// Carries out the command's own effect and drops tubes that are gone. If the command is a reserve

@@ -258,8 +258,8 @@ pub(crate) fn bury(
     if !state.has_job(id, JobTest::HeldBy(seat)) {
         return not_found(answer);
     }
-    let number = changes::give_burial_number(state);
-    let change = JobChange::Bury(number, pri);
+    state.burials = state.burials.saturating_add(1);
+    let change = JobChange::Bury(state.burials, pri);
     changes::change_job(state, id, &change);
     set_answer(answer, Answer::Buried);
     Reply::Told

@@ -3,7 +3,7 @@
 ghost use Rattle.std.specs.{Option.{option_copied, option_map}, Prelude.{IfSome, None, count_by, false, fold}};
 ghost use Rattle.std.specs.Prelude.{if◌then◌else◌, length, ◌*◌, ◌+◌, ◌≡◌};
 ghost use Rattle.bq_core.specs.FiredTimers.{HaveFired, IsDue, after_giving_back, fired, has_due_timer, id_if_past};
-ghost use Rattle.bq_job.specs.{beside.NextDue.next_due as next_due_of, machine.{Asked.state_once_left, Changes.{first_of, is_held_by}}};
+ghost use Rattle.bq_job.specs.{beside.NextDue.next_due as next_due_of, machine.Changes.{first_of, is_held_by}};
 ghost use Rattle.bq_job.specs.machine.{Changes.is_waiting, JobStates.{due_of, is_delayed, is_due_before, is_reserved}, Timers.after_timers};
 ghost use Rattle.bq_jobs.specs.{JobsSeen.ranked, Leases.{deadline_of, is_lease_before}, Searching.Asks};
 ghost use Rattle.bq_state.specs.{CoreParts.{count_jobs, machine_of}, Dues.{timers_due, warning_due, warning_due_at}};
@@ -92,7 +92,7 @@ fn fire_one(state: &mut CoreParts, due: Due)
         Due::DelayEnded(id) => changes::change_job(state, id, &change),
         Due::Expired(id) => {
             changes::change_job(state, id, &change);
-            changes::count_timeout(state);
+            state.timeouts = state.timeouts.saturating_add(1);
         }
     }
 }
@@ -117,13 +117,6 @@ pub(crate) fn fire(state: &mut CoreParts)
 {
     fire_jobs(state);
     changes::end_pauses(state);
-}
-
-/// Returns the state of a job whose holder has disconnected.
-pub(crate) fn state_once_left(state: &CoreParts) -> JobState
-    ensures { result ≡ state_once_left (machine_of state.now) }
-{
-    job_store::delayed_by(state.config.requeue_delay, state.moment)
 }
 
 /// Brings all jobs that the client at the seat holds into this state.

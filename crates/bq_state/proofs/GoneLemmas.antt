@@ -1,6 +1,7 @@
 -- Entries of tubes that no longer exist are dropped from the catalog; the others are counted and
 -- listed.
-use Rattle.std.proofs.Common.{Bool, List, None, Option, Some, [], arith, false, inl, inr, length, map, refl, true, ℕ, ◌+◌, ◌∷◌, ◌≡◌, ◌≤◌}
+use Rattle.std.proofs.Common.{Bool, List, None, Option, Some, [], arith, false, inl, inr, length, map, refl, true, ℕ, ◌+◌, ◌||◌, ◌∷◌, ◌≡◌}
+use Rattle.std.proofs.Common.{◌≤◌}
 use Rattle.std.proofs.{Math.Bool.or-false, lemmas.{Bool.cases_Bool, Cmp.tied_itself, Grind.common_steps}}
 use Rattle.std.specs.{Cmp.Lexicographic.{nat_list_cmp_total, slice_cmp}, List.{AllByRecursion as All, Sorted.IsStrictlySortedBy, list_any}}
 use Rattle.std.specs.{Map.{keys_of, lookup, remove_entry}, Option.option_map, Ordering.nat_cmp, Prelude.{filter, find, fold}}
@@ -13,6 +14,10 @@ use Rattle.bq_state.{proofs.TubeLemmas.same_name, specs.Counting.{AreCounted, Ar
 use Rattle.bq_state.specs.{MaybeGoneTubes.AreAlive, TubeEntries.{AreInOrder, is_tube_of, names_alive}, TubesSeen.{EntrySeen, Named}}
 use Rattle.bq_state.specs.TubesSeen.{is_alive_at, is_from, is_gone_by, is_gone_from, is_named_at, record_at, with_alive, without_gone}
 use Rattle.bq_state.specs.declared.{known.maybe_gone.MaybeGone.{MaybeGone, TheVariants.{Any, Nothing, Tube}}, tubes.walks.HowMany.HowMany}
+
+-- Whether a tube exists, with its name tested last.
+pub name_last : (jobs seated first : Bool) → ((jobs || seated) || first) ≡ (first || jobs || seated)
+name_last jobs seated first = grind (arith, common_steps)
 
 -- The tube of an entry that is dropped has no job.
 module _ (jobs : List Job) where
@@ -29,8 +34,8 @@ module _ (jobs : List Job) where
       grind (arith, common_steps, cases_Bool, ties name x.0, same_name name x.0, all.0, gone_has_none name es h.1)
 
   pub found_has_none : (from : Option (List ℕ)) (name : List ℕ) (es : List Named) → AreTallied jobs es
-      → option_map (λ (e : Named). e.0) (find (is_gone_from from) es) ≡ Some name → list_any (λ j. is_same_name name j.tube) jobs ≡ false
-  found_has_none from name [] h found = absurd (let g : None ≡ Some name = found in cc)
+      → Some name ≡ option_map (λ (e : Named). e.0) (find (is_gone_from from) es) → list_any (λ j. is_same_name name j.tube) jobs ≡ false
+  found_has_none from name [] h found = absurd (let g : Some name ≡ None = found in cc)
   found_has_none from name (x ∷ es) h found = let all = idle (x ∷ es) h in
       grind (arith, common_steps, cases_Bool (is_gone_from from x), all.0, found_has_none from name es h.1)
 

@@ -26,12 +26,13 @@ use Rattle.bq_state.proofs.PartsLemmas.{entries_provided, few_jobs, first_entrie
 use Rattle.bq_state.proofs.PartsLemmas.{numbered_after, recorded, seat_there, tube_counts, tube_name_kept, watching_fewer, watching_more}
 use Rattle.bq_state.proofs.PartsLemmas.{watching_numbered}
 use Rattle.bq_state.proofs.TubeLemmas.{filter_of_map, filters_swap, has_inserted, record_changed, same_entries}
+use Rattle.bq_state.proofs.GoneLemmas.{forgotten_is}
 use Rattle.bq_state.proofs.PauseLemmas.{no_pause_ends, none_counted, none_over}
 use Rattle.bq_state.specs.{Store.StoreSeen, WantedJobs.wanted_after_tube}
 use Rattle.bq_state.proofs.WaitingLemmas.{in_turn_watching, many_seats, none_in_turn, rising_left, waiters_moved, waiters_within}
 use Rattle.bq_state.proofs.WantedLemmas.{known_added, known_forgotten, known_ignoring, known_nothing, known_of_change, known_of_seat}
 use Rattle.bq_state.proofs.{WantedLemmas.known_watching, WarningLemmas.{warned_added, warned_by_due, warned_of_seat, warned_watching}}
-use Rattle.bq_state.specs.{CoreParts.machine_of, Counting.{AreCounted, existing, recounted_for}}
+use Rattle.bq_state.specs.{CoreParts.machine_of, Counting.{AreCounted, existing, forgotten, recounted_for}}
 use Rattle.bq_state.specs.Crowds.{IsSeated, has_seats, is_waiter, may_wait}
 use Rattle.bq_state.specs.{Crowds.{roles_of_watcher, roles_of_watching, touched}, Dues.with_warning_due, JobChanges.{changed, once_deleted}}
 use Rattle.bq_state.specs.Knowledge.{IsSo}
@@ -269,14 +270,26 @@ module _ (st : CoreParts) where
       rw same (grind (arith, sound_with, records_ended, entries_of_timers, alive_renamed, all_always, all_of_map))
 
   -- Entries of tubes that no longer exist are dropped.
-  pub sound_forgotten : (new : TubesSeen) → new.entries ≡ existing st.store.jobs.jobs st.seats.items st.store.tubes.entries
-      → Soundness st.store.jobs.jobs st.seats.items new st.waiting
-      (record st.known { maybe_gone = gone_tubes.Nothing }) st.next_id st.draining
-  sound_forgotten new left =
-      let p = is_tube_of st.store.jobs.jobs st.seats.items in
-      sound_with (ap (map record_at) left ∙ records_filtered p st.store.tubes.entries) (entries_forgotten st)
-      (search (known_forgotten (machine_of st), alive_forgotten, filters_swap is_counted (λ t. p t.name)))
-      (rw left (all_filtered _ _ _ st.sound.counts)) st.sound.ids
+  module _ (store : StoreSeen) (after : store.tubes.entries ≡ forgotten st.known.maybe_gone st.store.tubes.entries)
+      (same : store.jobs ≡ record st.store.jobs { tubes = store.jobs.tubes }) where
+    left : store.tubes.entries ≡ existing st.store.jobs.jobs st.seats.items st.store.tubes.entries
+    left = after ∙ forgotten_is st.store.jobs.jobs st.seats.items st.known.maybe_gone st.store.tubes.entries st.sound.entries.order
+        st.sound.known.alive st.sound.counts
+
+    pub sound_forgotten : Soundness store.jobs.jobs st.seats.items store.tubes st.waiting
+        (record st.known { maybe_gone = gone_tubes.Nothing }) st.next_id st.draining
+    sound_forgotten =
+        let p = is_tube_of st.store.jobs.jobs st.seats.items in
+        rw same (sound_with (ap (map record_at) left ∙ records_filtered p st.store.tubes.entries) (entries_forgotten st)
+        (search (known_forgotten (machine_of st), alive_forgotten, filters_swap is_counted (λ t. p t.name)))
+        (rw left (all_filtered _ _ _ st.sound.counts)) st.sound.ids)
+
+    pub once_forgotten : record (machine_of st) { jobs = store.jobs.jobs; tubes = counted (records store.tubes) }
+        ≡ forgetting (machine_of st)
+    once_forgotten =
+        let p = is_tube_of st.store.jobs.jobs st.seats.items in
+        rw (same, left, records_filtered p st.store.tubes.entries) (ap (λ tubes. record (machine_of st) { tubes = tubes })
+        (filters_swap is_counted (λ t. p t.name) (records st.store.tubes)))
 
   -- If no tube may have gone, none is dropped.
   pub none_forgotten : is_nothing st.known.maybe_gone ≡ true → machine_of st ≡ forgetting (machine_of st)

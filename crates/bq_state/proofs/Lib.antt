@@ -1,4 +1,3 @@
-pub mod AliveLemmas
 pub mod ClientLemmas
 pub mod CountedLemmas
 pub mod CrowdLemmas
@@ -9,7 +8,6 @@ pub mod EndMoves
 pub mod FirstTimeoutLemmas
 pub mod GoneLemmas
 pub mod HandOutLemmas
-pub mod JobTests
 pub mod KnowledgeLemmas
 pub mod LeavingLemmas
 pub mod LoopLemmas
@@ -20,7 +18,6 @@ pub mod NamedLemmas
 pub mod NumberLemmas
 pub mod PartsLemmas
 pub mod PauseLemmas
-pub mod PausedLemmas
 pub mod SeatPlaces
 pub mod TallyLemmas
 pub mod TubeLemmas

@@ -3,14 +3,17 @@ use Rattle.std.proofs.Common.{Bool, List, Some, [], ap, arith, if◌then◌else�
 use Rattle.std.{proofs.lemmas.{Cmp.nat_list_eq_equiv, Grind.common_steps, List.length-map}, specs.{List.list_any, Prelude.count_by}}
 use Rattle.bq_job.specs.{beside.AreIdsWithin, declared.job.Job.Job, machine.{SeatRecord, TubeRecord, greatest, is_ready_state, job_with}}
 use Rattle.bq_job.specs.reading.TubeName.{is_same_name}
-use Rattle.bq_jobs.{proofs.Changes.{changed as changed_by_id, found_id}, specs.Changed.{IgnoresTube, KeepsId, KeepsTube, moved_by}}
+use Rattle.bq_jobs.proofs.Changes.{changed as changed_by_id, found_id}
+use Rattle.bq_jobs.specs.Changed.{AsksNoTube, IgnoresTube, KeepsId, KeepsTube, moved_by}
 use Rattle.bq_jobs.specs.{Changed.with_changed, JobsSeen.{with_added, without}, declared.numbered_jobs.JobMove.JobMove}
 use Rattle.bq_state.proofs.{CountedLemmas.counted_by, PartsLemmas.{all_filtered, all_kept}, TallyLemmas.{one_added, one_taken, tally_is}}
 use Rattle.bq_state.{proofs.{WantedLemmas.known_added, WarningLemmas.warned_added}, specs.{Counting.AreCounted, Crowds.is_waiter}}
-use Rattle.bq_state.specs.{JobChanges.changed, MaybeGoneTubes.AreAlive, SeatChanges.AreNumbered, Tallies.{count_with, count_without}}
+use Rattle.bq_state.specs.{JobChanges.{changed, passes}, MaybeGoneTubes.AreAlive, SeatChanges.AreNumbered}
+use Rattle.bq_state.specs.Tallies.{count_with, count_without}
 use Rattle.bq_state.specs.{Tallies.{tally_moved, tally_of}, TubeEntries.AreEntries, TubesSeen.{Named, changed_named, entry_moved}}
 use Rattle.bq_state.specs.{WantedJobs.{AreKnown, with_wanted}, Warnings.{AreWarned, has_waiting_holder, with_holder_of}}
-use Rattle.bq_state.specs.declared.{job_store.JobChange.JobChange, known.{maybe_gone.MaybeGone.MaybeGone, tally.Tally.Tally}}
+use Rattle.bq_state.specs.declared.job_store.{JobChange.JobChange, JobTest.JobTest}
+use Rattle.bq_state.specs.declared.known.{maybe_gone.MaybeGone.MaybeGone, tally.Tally.Tally}
 use Rattle.bq_state.specs.declared.known.{wanted.Wanted.Wanted, warns.Warns.Warns}
 
 -- no change depends on the tube
@@ -20,6 +23,10 @@ tube_ignored change j tube = grind (arith)
 -- so none moves a job to another tube
 pub tube_kept : (change : JobChange) → KeepsTube (changed change)
 tube_kept change j = ap (λ (i : Job). i.tube) (tube_ignored change j j.tube)
+
+-- and no test asks for it
+pub asks_no_tube : (t : JobTest) → AsksNoTube (passes t)
+asks_no_tube t j tube = grind arith
 
 -- only one job is changed
 module _ (id : ℕ) (f : Job → Job) where

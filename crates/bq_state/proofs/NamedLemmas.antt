@@ -8,7 +8,7 @@ use Rattle.bq_job.{proofs.ListLemmas.{all_before_map, all_of_map, all_weaker}, s
 use Rattle.bq_job.specs.reading.TubeName.{is_same_name}
 use Rattle.bq_jobs.specs.{JobsSeen.JobsSeen, Names.number_in, Table.Tabled, declared.numbered_jobs.JobMove.JobMove}
 use Rattle.bq_state.{proofs.TubeLemmas.{changed_one, no_pause_there, none_later, same_name}, specs.Store.{StoreSeen, store_seen}}
-use Rattle.bq_state.specs.{TubeEntries.{AreInOrder, has_entry, tube_changed}, TubeNumbers.HaveNumbers, TubesSeen.{EntrySeen, Named}}
+use Rattle.bq_state.specs.{TubeEntries.{AreInOrder, has_entry, tube_changed}, TubesSeen.{EntrySeen, Named}}
 use Rattle.bq_state.specs.TubesSeen.{TubesSeen, changed_named, edited_at, entry_changed, entry_moved, entry_recounted, fresh_entry}
 use Rattle.bq_state.specs.TubesSeen.{is_named_at, is_paused_by, record_at, record_of, records, with_entry}
 use Rattle.bq_state.specs.declared.tubes.entry.{AddOrRemove.AddOrRemove, Roles.Roles, TubeChange.TubeChange}
@@ -88,7 +88,8 @@ pub change_kept : (what : TubeChange) (name : List ℕ) (t : EntrySeen)
 change_kept what name t = grind (arith, common_steps)
 
 -- A tube has a number exactly if it has an entry.
-pub have_numbers : (es : List Named) (numbers : List (List ℕ × ℕ)) → keys_of es ≡ keys_of numbers → HaveNumbers numbers (map record_at es)
+pub have_numbers : (es : List Named) (numbers : List (List ℕ × ℕ)) → keys_of es ≡ keys_of numbers → (name : List ℕ)
+    → is_some (lookup (is_named_at name) numbers) ≡ has_entry name (map record_at es)
 have_numbers es numbers same name = grind (arith, is_some-lookup, found_any name es)
 
 -- A number was found exactly if there is one.

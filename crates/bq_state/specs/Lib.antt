@@ -20,14 +20,11 @@ pub mod Places
 pub mod Room
 pub mod SeatChanges
 pub mod SeatStates
-pub mod SeatView
 pub mod SeatWaiters
 pub mod Soundness
 pub mod Store
 pub mod Tallies
 pub mod TubeEntries
-pub mod TubeNumbers
-pub mod TubeView
 pub mod TubesSeen
 pub mod WaitingList
 pub mod WantedJobs

@@ -5,7 +5,7 @@ ghost use Rattle.std.specs.Prelude.{nat_le, nat_lt, true, unwrap_or, ◌&&◌, �
 ghost use Rattle.bq_index.specs.Removed.{passing};
 ghost use Rattle.bq_job.specs.machine.Changes.{is_held_by, is_ready_state, is_waiting, job_with, seat_with};
 ghost use Rattle.bq_job.specs.machine.{Changes.{with_job, with_seat, without_wait}, Dispatch.next_job, JobCommands.{last_id, waiting_from, with_put}};
-ghost use Rattle.bq_job.specs.machine.{Limits.{grown, raised}, Machine.{empty_seat, new_machine, numbers}, Timers.at_moment, TubeOrder.tubes};
+ghost use Rattle.bq_job.specs.machine.{Limits.raised, Machine.{empty_seat, new_machine, numbers}, Timers.at_moment, TubeOrder.tubes};
 ghost use Rattle.bq_job.specs.machine.Tubes.{forgetting, watches, with_tube};
 ghost use Rattle.bq_jobs.specs.{JobsSeen.{ComparesAtMost, with_added}, Names.number_in, Numbering.HasNumber, Searching.Asks};
 ghost use Rattle.bq_state.specs.{CoreParts.{AtSeat, Watches, fields, machine_of, with_pauses_ended}, Crowds.may_wait, Dues.with_warning_due};
@@ -19,7 +19,7 @@ ghost use Rattle.bq_state.specs.declared.seats.SeatChange.TheVariants as seat_ch
 
 use crate::core_parts::CoreParts;
 use crate::job_store::{JobChange, JobTest};
-use crate::known::{FirstTimeout, Known, MaybeGone, Wanted, is_over};
+use crate::known::{FirstTimeout, Known, MaybeGone, Tally, Wanted, Warns, is_over};
 use crate::seats::{SeatChange, SeatRecord};
 use crate::store::Store;
 use crate::tubes::{AddOrRemove, TubeChange};
@@ -76,7 +76,7 @@ pub fn add(state: &mut CoreParts, job: Job, number: TubeNumber)
 /// Removes the job with this id and drops it, and counts the deletion in its tube. Returns false if
 /// there is no such job, or it does not pass the test; then nothing changes. The room of the job is
 /// kept, unless there is plenty.
-#[tactic(auto, using(crate::proofs::JobTests::asks_no_tube))]
+#[tactic(auto, using(crate::proofs::MovedLemmas::asks_no_tube))]
 pub fn delete(state: &mut CoreParts, id: JobId, test: JobTest) -> bool
     ensures deleted { result
         ≡ is_passed_by (passes test) (job_with id (machine_of state.old).jobs) }
@@ -444,6 +444,7 @@ pub fn forget_tubes(state: &mut CoreParts)
 
 // Does the same where some tube may have gone. It is not inlined, since it is rare.
 #[inline(never)]
+#[tactic(auto, using(crate::proofs::KnowledgeLemmas::once_forgotten, crate::proofs::KnowledgeLemmas::sound_forgotten))]
 fn forget_gone(state: &mut CoreParts)
     ensures after { machine_of state.new ≡ forgetting (machine_of state.old) }
     ensures jobs { state.new.store.jobs ≡ record state.old.store.jobs { tubes = state.new.store.jobs.tubes } }
@@ -457,13 +458,6 @@ pub fn count_connection(state: &mut CoreParts)
     ensures { fields state.new ≡ record (fields state.old) { connections = raised state.old.connections } }
 {
     state.connections = state.connections.saturating_add(1);
-}
-
-/// Rejects puts from now on.
-pub fn start_draining(state: &mut CoreParts)
-    ensures { fields state.new ≡ record (fields state.old) { draining = true } }
-{
-    state.draining = true;
 }
 
 /// Counts a put, and gives the next id out.
@@ -485,22 +479,6 @@ pub fn give_ticket(state: &mut CoreParts) -> u64
 {
     state.tickets = state.tickets.saturating_add(1);
     state.tickets
-}
-
-/// Returns the next burial number, for a job that is buried.
-pub fn give_burial_number(state: &mut CoreParts) -> u64
-    ensures number { result ≡ raised state.old.burials }
-    ensures after { fields state.new ≡ record (fields state.old) { burials = raised state.old.burials } }
-{
-    state.burials = state.burials.saturating_add(1);
-    state.burials
-}
-
-/// Counts an expired reservation.
-pub fn count_timeout(state: &mut CoreParts)
-    ensures { fields state.new ≡ record (fields state.old) { timeouts = grown 1 state.old.timeouts } }
-{
-    state.timeouts = state.timeouts.saturating_add(1);
 }
 
 /// Sets the current moment. A moment below the last one counts as the last one.
@@ -530,7 +508,14 @@ pub fn new_parts(
         store,
         seats,
         waiting,
-        known: Known::nothing(),
+        known: Known {
+            tally: Tally::none(),
+            connected: 0,
+            maybe_gone: MaybeGone::Nothing,
+            wanted: Wanted::Nothing,
+            warns: Warns::Nothing,
+            first_timeout: FirstTimeout::Known(None),
+        },
         moment: 0,
         next_id: 1,
         burials: 0,

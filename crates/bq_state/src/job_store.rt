@@ -1,7 +1,6 @@
 //! The jobs: changing one, and testing one for a command.
 ghost use Rattle.std.specs.{Option.option_map, Prelude.{not, ◌||◌, ◌≡◌}};
-ghost use Rattle.bq_job.specs.machine.{Changes.is_held_by as held_by, Dispatch.reserved_by, JobCommands.buried};
-ghost use Rattle.bq_job.specs.machine.{JobCommands.{delayed_by as delayed_for, kicked, released}, JobStates.{is_buried, is_delayed}};
+ghost use Rattle.bq_job.specs.machine.{Changes.is_held_by as held_by, JobCommands.delayed_by as delayed_for};
 ghost use Rattle.bq_job.specs.machine.{JobStates.is_reserved, Limits.later as later_by, Timers.job_after_timers};
 ghost use Rattle.bq_jobs.specs.Ranks.{first_in};
 ghost use Rattle.bq_state.specs.{Keeping.SearchesStore, JobChanges.{changed, passes}};
@@ -55,13 +54,6 @@ fn fire_timers(job: &mut PackedJob, moment: Moment)
     }
 }
 
-fn hand_out(job: &mut PackedJob, seat: Seat, moment: Moment)
-    ensures { job.new ≡ reserved_by moment seat job.old }
-{
-    job.set_state(JobState::Reserved(seat, later(moment, job.ttr())));
-    job.counts.reserves = job.counts.reserves.saturating_add(1);
-}
-
 /// Returns true if the client at the seat holds the job.
 pub(crate) fn is_held_by(job: &PackedJob, seat: Seat) -> bool
     ensures { result ≡ held_by seat job.now }
@@ -86,13 +78,6 @@ pub(crate) fn is_free_for(job: &PackedJob, seat: Seat) -> bool
     !is_reserved(job) || is_held_by(job, seat)
 }
 
-/// Returns true if the job is buried or delayed.
-pub(crate) fn is_kickable(job: &PackedJob) -> bool
-    ensures { result ≡ (is_buried job.now.state || is_delayed job.now.state) }
-{
-    matches!(job.state(), JobState::Buried(_) | JobState::Delayed(_))
-}
-
 /// Returns ready if there is no delay, otherwise delayed from this moment by `delay` seconds.
 pub fn delayed_by(delay: u32, moment: Moment) -> JobState
     ensures { result ≡ delayed_for delay moment }
@@ -104,50 +89,34 @@ pub fn delayed_by(delay: u32, moment: Moment) -> JobState
     }
 }
 
-fn release(job: &mut PackedJob, pri: Pri, delay: u32, moment: Moment)
-    ensures { job.new ≡ released moment pri delay job.old }
-{
-    job.pri = pri;
-    job.delay = delay;
-    job.set_state(delayed_by(delay, moment));
-    job.counts.releases = job.counts.releases.saturating_add(1);
-}
-
-fn bury(job: &mut PackedJob, number: u64, pri: Pri)
-    ensures { job.new ≡ buried number pri job.old }
-{
-    job.pri = pri;
-    job.set_state(JobState::Buried(number));
-    job.counts.buries = job.counts.buries.saturating_add(1);
-}
-
-fn kick(job: &mut PackedJob)
-    ensures { job.new ≡ kicked job.old }
-{
-    job.set_state(JobState::Ready);
-    job.counts.kicks = job.counts.kicks.saturating_add(1);
-}
-
-/// Changes a job.
-pub(crate) fn change(job: &mut PackedJob, change: &JobChange)
-    ensures { job.new ≡ changed change.now job.old }
-{
-    match *change {
-        JobChange::FireTimers(moment) => fire_timers(job, moment),
-        JobChange::HandOut(seat, moment) => hand_out(job, seat, moment),
-        JobChange::GiveBack(becomes) => job.set_state(becomes),
-        JobChange::Release(pri, delay, moment) => release(job, pri, delay, moment),
-        JobChange::Bury(number, pri) => bury(job, number, pri),
-        JobChange::Touch(seat, deadline) => job.set_state(JobState::Reserved(seat, deadline)),
-        JobChange::Kick => kick(job),
-    }
-}
-
 impl JobEdit for JobChange {
     ghost edited = { changed };
 
     fn edit(&self, job: &mut PackedJob) {
-        change(job, self);
+        match *self {
+            JobChange::FireTimers(moment) => fire_timers(job, moment),
+            JobChange::HandOut(seat, moment) => {
+                job.set_state(JobState::Reserved(seat, later(moment, job.ttr())));
+                job.counts.reserves = job.counts.reserves.saturating_add(1);
+            }
+            JobChange::GiveBack(becomes) => job.set_state(becomes),
+            JobChange::Release(pri, delay, moment) => {
+                job.pri = pri;
+                job.delay = delay;
+                job.set_state(delayed_by(delay, moment));
+                job.counts.releases = job.counts.releases.saturating_add(1);
+            }
+            JobChange::Bury(number, pri) => {
+                job.pri = pri;
+                job.set_state(JobState::Buried(number));
+                job.counts.buries = job.counts.buries.saturating_add(1);
+            }
+            JobChange::Touch(seat, deadline) => job.set_state(JobState::Reserved(seat, deadline)),
+            JobChange::Kick => {
+                job.set_state(JobState::Ready);
+                job.counts.kicks = job.counts.kicks.saturating_add(1);
+            }
+        }
     }
 }
 
@@ -181,7 +150,7 @@ pub(crate) fn passes(job: &PackedJob, test: JobTest) -> bool
         JobTest::HeldBy(seat) => is_held_by(job, seat),
         JobTest::FreeFor(seat) => is_free_for(job, seat),
         JobTest::Free => !is_reserved(job),
-        JobTest::Kickable => is_kickable(job),
+        JobTest::Kickable => matches!(job.state(), JobState::Buried(_) | JobState::Delayed(_)),
     }
 }
 

@@ -1,7 +1,7 @@
 //! What is known of the jobs, the seats and the tubes without a search: how many there are, and
 //! where something may be found, so that only that place is searched.
 ghost use Rattle.std.specs.{Option.option_copied, Prelude.◌≡◌};
-ghost use Rattle.bq_state.specs.{Dues.{earlier_of_both, is_end_over}, Knowledge.{nothing_known, with_job, with_joined}};
+ghost use Rattle.bq_state.specs.{Dues.{earlier_of_both, is_end_over}, Knowledge.{with_job, with_joined}};
 ghost use Rattle.bq_state.specs.{Knowledge.{with_left, with_moved, with_removal}, SeatStates.seat_passes};
 
 use crate::seats::{SeatChange, SeatRecord};
@@ -41,20 +41,6 @@ pub struct Known {
 }
 
 impl Known {
-    /// Returns what is known if there are no jobs, no clients, and no pauses.
-    pub(crate) fn nothing() -> Known
-        ensures { result ≡ nothing_known }
-    {
-        Known {
-            tally: Tally::none(),
-            connected: 0,
-            maybe_gone: MaybeGone::Nothing,
-            wanted: Wanted::Nothing,
-            warns: Warns::Nothing,
-            first_timeout: FirstTimeout::Known(None),
-        }
-    }
-
     /// A job is added to the tube with this name and number. `is_wanted` says whether it is ready
     /// and a client waits for jobs of its tube; `waits` says whether its holder waits.
     #[inline(always)]

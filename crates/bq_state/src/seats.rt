@@ -7,7 +7,6 @@ ghost use Rattle.bq_job.specs.machine.{Machine.{empty_seat, numbers}, TubeComman
 ghost use Rattle.bq_state.specs.{EndingWaits.{has_waited, waiter_of}, FirstTimeouts.is_gone_in_wait, Offers.waits_at};
 ghost use Rattle.bq_state.specs.SeatChanges.{AreNumbered, AtPlace, IsSetAt, fewer_watched, more_watched, seat_changed, seat_changed_at};
 ghost use Rattle.bq_state.specs.{SeatChanges.watches_other, SeatWaiters.AreWaitersOf, WaitingList.passes_at, Warnings.has_waiting_holder};
-ghost use Rattle.bq_state.specs.Warnings.{is_waiting_there};
 
 use crate::waiting;
 use crate::watch_list::{WatchList, numbered_default};
@@ -118,19 +117,11 @@ pub(crate) fn holder_waits(seats: &[SeatRecord], at: JobState) -> bool
     ensures { result ≡ has_waiting_holder at seats.now }
 {
     match at {
-        JobState::Reserved(seat, _) => is_waiting_at(seats, seat),
+        JobState::Reserved(seat, _) => match find(seats, seat) {
+            None => false,
+            Some(client) => client.is_waiting(),
+        },
         _ => false,
-    }
-}
-
-// Returns true if there is a client at the seat and it waits.
-fn is_waiting_at(seats: &[SeatRecord], seat: Seat) -> bool
-    requires { AreNumbered seats.now }
-    ensures { result ≡ is_waiting_there (seat_with seat seats.now) }
-{
-    match find(seats, seat) {
-        None => false,
-        Some(client) => client.is_waiting(),
     }
 }
 
@@ -276,9 +267,14 @@ impl Model for SeatRecord {
 
     ghost Value = { SeatRecord };
 
-    ghost use Rattle.bq_state.specs.SeatView.{seat_of};
-
-    ghost view = { seat_of };
+    ghost view = { λ s. record {
+      number = s.number;
+      connected = s.connected;
+      used = s.used;
+      watched = s.watched;
+      wait = s.wait;
+      ended = s.ended;
+    } };
 }
 
 impl SeatRecord {

@@ -18,10 +18,13 @@ pub enum Warns {
 }
 
 impl Warns {
-    // The client at this seat may hold a job too.
-    fn add_client(&mut self, seat: Seat)
-        ensures { self.new ≡ with_holder seat self.old }
+    /// The client at this seat may hold a job too, if `holds`.
+    pub(crate) fn add_client_if(&mut self, seat: Seat, holds: bool)
+        ensures { self.new ≡ (if holds then with_holder seat self.old else self.old) }
     {
+        if !holds {
+            return;
+        }
         let is_alone = match *self {
             Warns::Nothing => true,
             Warns::Client(holder) => holder == seat,
@@ -31,15 +34,6 @@ impl Warns {
             *self = Warns::Client(seat);
         } else {
             *self = Warns::Any;
-        }
-    }
-
-    /// The client at this seat may hold a job too, if `holds`.
-    pub(crate) fn add_client_if(&mut self, seat: Seat, holds: bool)
-        ensures { self.new ≡ (if holds then with_holder seat self.old else self.old) }
-    {
-        if holds {
-            self.add_client(seat);
         }
     }
 

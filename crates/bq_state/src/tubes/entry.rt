@@ -1,9 +1,8 @@
 //! What is kept of a tube, and how the entry of a name is changed in place.
-ghost use Rattle.std.specs.Prelude.{[], ◌≡◌};
-ghost use Rattle.bq_job.specs.machine.TubeCommands.{with_pause};
-ghost use Rattle.bq_state.specs.{Crowds.{crowd_with, crowd_without, has_seats, is_none, no_crowd, recounted}, TubesSeen.ended};
-ghost use Rattle.bq_state.specs.TubesSeen.{entry_after, entry_changed, entry_moved, fresh_entry};
-ghost use Rattle.bq_state.specs.{PauseEnds.end_of, TubesSeen.{entry_recounted, entry_with, entry_without, record_of}};
+ghost use Rattle.std.specs.Prelude.{◌≡◌};
+ghost use Rattle.bq_state.specs.{Crowds.{has_seats, is_none, no_crowd, recounted}, TubesSeen.ended};
+ghost use Rattle.bq_state.specs.TubesSeen.{entry_changed, entry_moved, fresh_entry};
+ghost use Rattle.bq_state.specs.{PauseEnds.end_of, TubesSeen.{entry_recounted, entry_with, entry_without}};
 
 use super::pauses::PauseEnd;
 use crate::job_store::later;
@@ -48,9 +47,7 @@ impl Model for TubeEntry {
 
     ghost Value = { EntrySeen };
 
-    ghost use Rattle.bq_state.specs.TubeView.{entry_seen};
-
-    ghost view = { entry_seen };
+    ghost view = { λ t. record { pause = t.pause; puts = t.puts; deletes = t.deletes; pauses = t.pauses; tally = t.tally; crowd = t.crowd } };
 }
 
 /// A change of a tube.
@@ -134,21 +131,6 @@ impl TubeEntry {
         }
     }
 
-    fn set_pause(&mut self, seconds: u32, moment: Moment)
-        ensures { self.new
-            ≡ entry_after (with_pause seconds moment (record_of [] self.old)) self.old }
-    {
-        self.pauses = self.pauses.saturating_add(1);
-        self.pause = if seconds == 0 {
-            None
-        } else {
-            Some(Pausing {
-                seconds,
-                until: later(moment, seconds),
-            })
-        };
-    }
-
     // Counts an event, or begins or ends a pause.
     fn change(&mut self, what: TubeChange)
         ensures { self.new ≡ entry_changed what self.old }
@@ -156,7 +138,17 @@ impl TubeEntry {
         match what {
             TubeChange::CountPut => self.puts = self.puts.saturating_add(1),
             TubeChange::CountDelete => self.deletes = self.deletes.saturating_add(1),
-            TubeChange::Pause(seconds, moment) => self.set_pause(seconds, moment),
+            TubeChange::Pause(seconds, moment) => {
+                self.pauses = self.pauses.saturating_add(1);
+                self.pause = if seconds == 0 {
+                    None
+                } else {
+                    Some(Pausing {
+                        seconds,
+                        until: later(moment, seconds),
+                    })
+                };
+            }
         }
     }
 }
@@ -299,41 +291,33 @@ impl Crowd {
         self.using > 0 || self.watching > 0
     }
 
-    fn add(&mut self, roles: Roles)
-        ensures { self.new ≡ crowd_with roles self.old }
-    {
-        if roles.using {
-            self.using = self.using.saturating_add(1);
-        }
-        if roles.watching {
-            self.watching = self.watching.saturating_add(1);
-        }
-        if roles.waiting {
-            self.waiting = self.waiting.saturating_add(1);
-        }
-    }
-
-    fn remove(&mut self, roles: Roles)
-        ensures { self.new ≡ crowd_without roles self.old }
-    {
-        if roles.using {
-            self.using = self.using.saturating_sub(1);
-        }
-        if roles.watching {
-            self.watching = self.watching.saturating_sub(1);
-        }
-        if roles.waiting {
-            self.waiting = self.waiting.saturating_sub(1);
-        }
-    }
-
     /// Counts a client with these roles, or stops counting it.
     pub(crate) fn recount(&mut self, how: AddOrRemove, roles: Roles)
         ensures { self.new ≡ recounted how roles self.old }
     {
         match how {
-            AddOrRemove::Add => self.add(roles),
-            AddOrRemove::Remove => self.remove(roles),
+            AddOrRemove::Add => {
+                if roles.using {
+                    self.using = self.using.saturating_add(1);
+                }
+                if roles.watching {
+                    self.watching = self.watching.saturating_add(1);
+                }
+                if roles.waiting {
+                    self.waiting = self.waiting.saturating_add(1);
+                }
+            }
+            AddOrRemove::Remove => {
+                if roles.using {
+                    self.using = self.using.saturating_sub(1);
+                }
+                if roles.watching {
+                    self.watching = self.watching.saturating_sub(1);
+                }
+                if roles.waiting {
+                    self.waiting = self.waiting.saturating_sub(1);
+                }
+            }
         }
     }
 }

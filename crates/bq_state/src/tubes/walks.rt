@@ -32,7 +32,7 @@ impl Visitor<TubeName, TubeEntry> for HowMany {
 
 /// Returns true if the tube of an entry exists. Its name is compared last, because the default
 /// tube's name has to be made for that.
-#[tactic(auto, using(crate::proofs::AliveLemmas::name_last))]
+#[tactic(auto, using(crate::proofs::GoneLemmas::name_last))]
 pub(crate) fn is_alive(name: &TubeName, entry: &TubeEntry) -> bool
     ensures { result ≡ is_alive_with name.now entry.now }
 {
@@ -130,7 +130,7 @@ fn next_gone(catalog: &TubeTable<TubeEntry>, from: &Option<TubeName>) -> Option<
 
 /// Drops all entries whose tubes no longer exist, and their numbers. After each, the search
 /// continues from there.
-#[tactic(auto, using(crate::proofs::GoneLemmas::name_removed, crate::proofs::GoneLemmas::none_gone))]
+#[tactic(auto, using(crate::proofs::CountedLemmas::all_removed, crate::proofs::GoneLemmas::name_removed, crate::proofs::GoneLemmas::none_gone))]
 pub(crate) fn forget_all(
     catalog: &mut TubeTable<TubeEntry>,
     ends: &mut PauseEnds,

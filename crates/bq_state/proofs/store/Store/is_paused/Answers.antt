@@ -1,5 +1,5 @@
 use Rattle.std.proofs.{Common.arith, lemmas.Grind.common_steps}
-use Rattle.bq_state.proofs.{NamedLemmas.{found_pause, in_order}, PausedLemmas.none_paused}
+use Rattle.bq_state.proofs.{NamedLemmas.{found_pause, in_order}, PauseLemmas.none_paused}
 use Rattle.bq_state.proofs.store.Store.is_paused.Goals as goal
 
 pub returns-then-len-eq0 : goal.returns-then-len-eq0
