@@ -75,11 +75,15 @@ impl<'e, 'r, R> LoneWatch<'e, 'r, R> {
 }
 
 impl<'e, 'r, R: Eprint> LoneWatch<'e, 'r, R> {
-    // Tries reports again that wait. Returns true if they still do.
+    // Tries reports again that wait. Returns true if they still do. Mostly there are none, which is
+    // tested where it is called.
+    #[inline(always)]
     fn keeps_reports(&self) -> bool {
-        if !self.ending.has_reports() {
-            return false;
-        }
+        self.ending.has_reports() && self.keeps_reports_again()
+    }
+
+    #[inline(never)]
+    fn keeps_reports_again(&self) -> bool {
         let _told = eprint!(self.rt; "");
         self.ending.has_reports()
     }
