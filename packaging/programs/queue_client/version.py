@@ -1,3 +1,3 @@
 """The version of the programs, which is that of the server beside which they are installed."""
 
-VERSION = "0.17.0"
+VERSION = "0.18.0"

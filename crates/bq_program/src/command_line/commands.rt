@@ -6,7 +6,7 @@ use clap::{Arg, ArgAction, Command};
 use std::alloc::{AllocError, Global};
 
 /// The version of both programs.
-const VERSION: &str = "0.17.0";
+const VERSION: &str = "0.18.0";
 
 /// The names of the options, by which their values are found.
 pub const EVENT_LOOP: &str = "event-loop";
