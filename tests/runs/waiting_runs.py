@@ -232,8 +232,8 @@ def run_heavy_commands_beside_a_lone_one(bqd):
 @of_loop
 def run_puts_beside_heavy_commands(bqd):
     """While a client sends many commands at once that take long, an event loop serves two of them, and then a put of
-    another client. Each of them looks at 2,000 tubes."""
-    tubes, heavy, puts = 2000, 400, 40
+    another client. Each of them looks at 8,000 tubes."""
+    tubes, heavy, puts = 8000, 400, 40
 
     def tried():
         with Server(bqd, "--seats", "2") as server:
